@@ -9,6 +9,7 @@ mod NothingYet
 mod PathEnds
 mod PathIsCommand
 mod PathLasts
+mod PathOfBytes
 mod PathOn
 mod PutMore
 mod SentIsRead
@@ -17,3 +18,5 @@ mod SlicedTracks
 mod SoundCovered
 mod TrackGoesOn
 mod TrackOfAFile
+mod TrackPathIsCommand
+mod TrackPathOn

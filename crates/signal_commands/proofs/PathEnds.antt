@@ -1,5 +1,5 @@
 -- When a sound has ended, the file of its best path stands whole, or a front of it where a push failed.
-use Rattle.std.proofs.Common.{◌≡◌, ℕ, ◌≤◌, ℤ, List, ◌++◌, reverse, refl, ap, subst, sym, ◌∙◌}
+use Rattle.std.proofs.Common.{◌≡◌, ℕ, ℤ, List, ◌++◌, reverse, refl, ap, subst, sym, ◌∙◌}
 use Rattle.std.proofs.Common.{append_assoc}
 use Rattle.std.proofs.KnownBytes.{Appends-trans}
 use Rattle.std.specs.declared.option.Option.{Option}
@@ -11,14 +11,11 @@ use Rattle.path_front.specs.declared.judging.Phase.TheVariants.{Sound, Rest, Dra
 use Rattle.path_front.specs.Cells.{SameSound}
 use Rattle.path_front.specs.Front.{AreIntervals, FrontState, FrontStandsFor, GoesOn, IsFrontSettled}
 use Rattle.path_front.specs.Judging.{IsSettled}
-use Rattle.pcm_front.specs.Samples.{samples_of}
 use Rattle.tc_command.specs.declared.gathered.Gathered.{Gathered}
 use Rattle.tc_io.specs.Sink.{AppendsFront}
 use Rattle.tc_job.specs.PathSlicing.{SlicesPath}
-use Rattle.signal_commands.specs.declared.pcm_ltc.TheConstants.{MAX_SAMPLES}
-use Rattle.signal_commands.specs.declared.pcm_path.PathSound.{PathSound}
-use Rattle.signal_commands.specs.KeptPath.{FailsAtEnd, HasFailed, HasGatheredAll, IsOfWords, Stands}
-use Rattle.signal_commands.specs.KeptSlices.{half_is_none}
+use Rattle.signal_commands.specs.declared.path_sound.PathSound.{PathSound}
+use Rattle.signal_commands.specs.KeptSound.{FailsAtEnd, HasFailed, HasGatheredAll, HearsSamples, IsOfWords}
 use Rattle.signal_commands.specs.PcmPath.{path_header, IsPathFile}
 use Rattle.signal_commands.proofs.PathOn.{front_of_file, grown_file, whole_by}
 
@@ -39,20 +36,13 @@ GivenFirstAtEnd = (state : FrontState) (samples : List ℤ) (given intervals : L
     → AreIntervals state.judging.cells.steps.grid state.ticks state.judging.cells.steps.hold.least samples
     intervals → (rest : List ℕ) × (intervals ≡ given ++ rest)
 
--- the samples of all bytes, where no half is kept
-same_samples : (s : PathSound) (bytes written : List ℕ) (stands : Stands s bytes written)
-    → samples_of bytes ≡ samples_of stands.whole
-same_samples s bytes written stands =
-    ap samples_of stands.are ∙ half_is_none s.samples stands.whole s.half stands.hears.count
-
--- what was written, pushed and is gathered is the file of all bytes
-all_in_file : (s mid next : PathSound) (a b : Option (List ℕ)) (bytes written : List ℕ)
-    (stands : Stands s bytes written) → mid.gathered ≡ s.gathered
-    → (g : HasGatheredAll mid next a b (reverse (samples_of stands.whole)) stands.hears.given) → IsOfWords next
+-- what was written, pushed and is gathered is the file of all samples
+all_in_file : (s mid next : PathSound) (a b : Option (List ℕ)) (samples : List ℤ) (written : List ℕ)
+    (hears : HearsSamples s samples written) → mid.gathered ≡ s.gathered
+    → (g : HasGatheredAll mid next a b (reverse samples) hears.given) → IsOfWords next
     → next.path ≡ s.path → next.front.judging.phase ≡ Drain
-    → IsPathFile s.path (samples_of bytes) (written ++ (g.gathered.put.0 ++ next.gathered.room.items))
-all_in_file s mid next a b bytes written stands same g words path drained =
-    let hears = stands.hears in
+    → IsPathFile s.path samples (written ++ (g.gathered.put.0 ++ next.gathered.room.items))
+all_in_file s mid next a b samples written hears same g words path drained =
     let put = g.gathered.put in
     let given = hears.given ++ g.gathered.more in
     let are : written ++ mid.gathered.room.items ≡ file_of (path_header next.path) hears.given =
@@ -61,41 +51,38 @@ all_in_file s mid next a b bytes written stands same g words path drained =
     let file = grown_file next.path written mid.gathered.room.items next.gathered.room.items hears.given g.gathered.more
     put.0 are put.2 in
     let whole = whole_by next.front.judging.cells.steps.grid next.path.grid next.front.ticks next.path.ticks
-    next.front.judging.cells.steps.hold.least next.path.least (reverse (samples_of stands.whole)) given words.grid
+    next.front.judging.cells.steps.hold.least next.path.least (reverse samples) given words.grid
     words.ticks words.least (g.all drained) in
-    let now : IsPathFile next.path (samples_of bytes) (written ++ (put.0 ++ next.gathered.room.items)) = record {
+    let now : IsPathFile next.path samples (written ++ (put.0 ++ next.gathered.room.items)) = record {
       intervals = given;
-      are = subst (λ l. AreIntervals next.path.grid next.path.ticks next.path.least (reverse l) given)
-          (sym (same_samples s bytes written stands)) whole;
+      are = whole;
       file = sym (append_assoc written put.0 next.gathered.room.items) ∙ file;
     } in
-    subst (λ p. IsPathFile p (samples_of bytes) (written ++ (put.0 ++ next.gathered.room.items))) path now
+    subst (λ (p : SlicesPath). IsPathFile p samples (written ++ (put.0 ++ next.gathered.room.items))) path now
 
 -- all of it was written, once what is gathered has been pushed
-pub all_written : (s mid next : PathSound) (a b c : Option (List ℕ)) (bytes written : List ℕ)
-    (stands : Stands s bytes written) → mid.gathered ≡ s.gathered
-    → HasGatheredAll mid next a b (reverse (samples_of stands.whole)) stands.hears.given → IsOfWords next
+pub all_written : (s mid next : PathSound) (a b c : Option (List ℕ)) (samples : List ℤ) (written : List ℕ)
+    (hears : HearsSamples s samples written) → mid.gathered ≡ s.gathered
+    → HasGatheredAll mid next a b (reverse samples) hears.given → IsOfWords next
     → next.path ≡ s.path → next.front.judging.phase ≡ Drain → Appends b c next.gathered.room.items
-    → (more : List ℕ) × Appends a c more × IsPathFile s.path (samples_of bytes) (written ++ more)
-all_written s mid next a b c bytes written stands same g words path drained pushed =
+    → (more : List ℕ) × Appends a c more × IsPathFile s.path samples (written ++ more)
+all_written s mid next a b c samples written hears same g words path drained pushed =
     let put = g.gathered.put in (
       put.0 ++ next.gathered.room.items,
       Appends-trans a b c put.0 next.gathered.room.items put.1 pushed,
-      all_in_file s mid next a b bytes written stands same g words path drained,
+      all_in_file s mid next a b samples written hears same g words path drained,
     )
 
 -- the front is still that of the words
 pub ends_of_words : (s next : PathSound) (ended : FrontState) → IsOfWords s
     → SameSound s.front.judging.cells ended.judging.cells → ended.ticks ≡ s.front.ticks → GoesOn ended next.front
-    → next.path ≡ s.path → next.samples ≡ s.samples → IsOfWords next
-ends_of_words s next ended words same ticks goes path samples =
+    → next.path ≡ s.path → IsOfWords next
+ends_of_words s next ended words same ticks goes path =
     let back = sym path in
     record {
-      within = subst (λ n. n ≤ MAX_SAMPLES) (sym samples) words.within;
       grid = goes.same.grid ∙ same.grid ∙ words.grid ∙ ap (λ (p : SlicesPath). p.grid) back;
       ticks = goes.ticks ∙ ticks ∙ words.ticks ∙ ap (λ (p : SlicesPath). p.ticks) back;
       least = goes.same.least ∙ same.least ∙ words.least ∙ ap (λ (p : SlicesPath). p.least) back;
-      count = goes.same.count ∙ same.count ∙ words.count ∙ sym samples;
     }
 
 abbrev pub SomeWhole : Type 0
@@ -104,51 +91,46 @@ SomeWhole = (grid : Grid) (ticks least : ℕ) (samples : List ℤ)
 
 -- a push failed while intervals were given: a front of the file stands
 pub gather_fails : SomeWhole → GivenFirstAtEnd → (s mid next : PathSound) (a b : Option (List ℕ))
-    (bytes written : List ℕ) (stands : Stands s bytes written) → mid.gathered ≡ s.gathered
-    → HasFailed mid next a b (reverse (samples_of stands.whole)) stands.hears.given → IsOfWords next
-    → next.path ≡ s.path → (next.front.judging.phase ≡ Sound → ⊥) → FailsAtEnd s.path a b bytes written
-gather_fails some first s mid next a b bytes written stands same f words path ended =
-    let hears = stands.hears in
+    (samples : List ℤ) (written : List ℕ) (hears : HearsSamples s samples written) → mid.gathered ≡ s.gathered
+    → HasFailed mid next a b (reverse samples) hears.given → IsOfWords next
+    → next.path ≡ s.path → (next.front.judging.phase ≡ Sound → ⊥) → FailsAtEnd s.path a b samples written
+gather_fails some first s mid next a b samples written hears same f words path ended =
     let p = next.path in
-    let samples = reverse (samples_of stands.whole) in
-    let full = some p.grid p.ticks p.least samples in
-    let behind = first next.front samples (hears.given ++ f.more) full.0 ended f.front
+    let latest = reverse samples in
+    let full = some p.grid p.ticks p.least latest in
+    let behind = first next.front latest (hears.given ++ f.more) full.0 ended f.front
     (whole_by p.grid next.front.judging.cells.steps.grid p.ticks next.front.ticks p.least
-    next.front.judging.cells.steps.hold.least samples full.0 (sym words.grid) (sym words.ticks) (sym words.least)
+    next.front.judging.cells.steps.hold.least latest full.0 (sym words.grid) (sym words.ticks) (sym words.least)
     full.1) in
     let are : written ++ mid.gathered.room.items ≡ file_of (path_header p) hears.given =
     ap (λ (r : Gathered). written ++ r.room.items) same ∙ hears.are
     ∙ ap (λ (q : SlicesPath). file_of (path_header q) hears.given) (sym path) in
-    let file : IsPathFile p (samples_of bytes) (file_of (path_header p) full.0) = record {
-      intervals = full.0;
-      are = subst (λ l. AreIntervals p.grid p.ticks p.least (reverse l) full.0)
-          (sym (same_samples s bytes written stands)) full.1;
-      file = refl;
-    } in (
+    let file : IsPathFile p samples (file_of (path_header p) full.0) =
+    record { intervals = full.0; are = full.1; file = refl } in (
       f.pushed.0,
       f.pushed.2,
       (
         file_of (path_header p) full.0,
-        subst (λ q. IsPathFile q (samples_of bytes) (file_of (path_header p) full.0)) path file,
+        subst (λ (q : SlicesPath). IsPathFile q samples (file_of (path_header p) full.0)) path file,
         front_of_file p written mid.gathered.room.items hears.given f.more full.0 behind.0 f.pushed.0 f.pushed.1.0 are
             f.pushed.1.1 behind.1,
       ),
     )
 
 -- all were gathered, and the last push failed
-pub push_fails : (s mid next : PathSound) (a b c : Option (List ℕ)) (bytes written : List ℕ)
-    (stands : Stands s bytes written) → mid.gathered ≡ s.gathered
-    → HasGatheredAll mid next a b (reverse (samples_of stands.whole)) stands.hears.given → IsOfWords next
+pub push_fails : (s mid next : PathSound) (a b c : Option (List ℕ)) (samples : List ℤ) (written : List ℕ)
+    (hears : HearsSamples s samples written) → mid.gathered ≡ s.gathered
+    → HasGatheredAll mid next a b (reverse samples) hears.given → IsOfWords next
     → next.path ≡ s.path → next.front.judging.phase ≡ Drain → AppendsFront b c next.gathered.room.items
-    → FailsAtEnd s.path a c bytes written
-push_fails s mid next a b c bytes written stands same g words path drained front =
+    → FailsAtEnd s.path a c samples written
+push_fails s mid next a b c samples written hears same g words path drained front =
     let put = g.gathered.put in
     let room = next.gathered.room.items in (
       put.0 ++ front.0,
       Appends-trans a b c put.0 front.0 put.1 front.2,
       (
         written ++ (put.0 ++ room),
-        all_in_file s mid next a b bytes written stands same g words path drained,
+        all_in_file s mid next a b samples written hears same g words path drained,
         (
           front.1.0,
           ap (λ (l : List ℕ). written ++ (put.0 ++ l)) front.1.1

@@ -45,19 +45,42 @@ files_grow p intervals rest a b one all =
     let file = file_first (path_header p) intervals rest in
     (file.0, all ∙ file.1 ∙ ap (λ l. l ++ file.0) (sym one))
 
-so_far_grows : PathLaws → (p : SlicesPath) (front more : List ℤ) (a b : List ℕ) → IsPathFileSoFar p front a
+pub so_far_grows : PathLaws → (p : SlicesPath) (front more : List ℤ) (a b : List ℕ) → IsPathFileSoFar p front a
     → IsPathFileSoFar p (front ++ more) b → IsFront a b
 so_far_grows laws p front more a b one all =
     let rest = laws.first p.grid p.ticks p.least (reverse more) (reverse front) one.intervals all.intervals one.are
     (subst (λ s. AreIntervalsSoFar p.grid p.ticks p.least s all.intervals) (turned front more) all.are) in
     files_grow p one.intervals rest.0 a b one.file (all.file ∙ ap (file_of (path_header p)) rest.1)
 
-whole_grows : PathLaws → (p : SlicesPath) (front more : List ℤ) (a b : List ℕ) → IsPathFileSoFar p front a
+pub whole_grows : PathLaws → (p : SlicesPath) (front more : List ℤ) (a b : List ℕ) → IsPathFileSoFar p front a
     → IsPathFile p (front ++ more) b → IsFront a b
 whole_grows laws p front more a b one all =
     let rest = laws.in_all p.grid p.ticks p.least (reverse more) (reverse front) one.intervals all.intervals one.are
     (subst (λ s. AreIntervals p.grid p.ticks p.least s all.intervals) (turned front more) all.are) in
     files_grow p one.intervals rest.0 a b one.file (all.file ∙ ap (file_of (path_header p)) rest.1)
+
+-- there is such a file, and one
+pub path_so_far : PathLaws → (p : SlicesPath) (samples : List ℤ) → (written : List ℕ) × IsPathFileSoFar p samples written
+path_so_far laws p samples =
+    let some = laws.some p.grid p.ticks p.least (reverse samples) in
+    (file_of (path_header p) some.0, record { intervals = some.0; are = some.1; file = refl })
+
+pub path_file : PathLaws → (p : SlicesPath) (samples : List ℤ) → (written : List ℕ) × IsPathFile p samples written
+path_file laws p samples =
+    let whole = laws.whole p.grid p.ticks p.least (reverse samples) in
+    (file_of (path_header p) whole.0, record { intervals = whole.0; are = whole.1; file = refl })
+
+pub file_once : PathLaws → (p : SlicesPath) (samples : List ℤ) (a b : List ℕ) → IsPathFileSoFar p samples a
+    → IsPathFileSoFar p samples b → a ≡ b
+file_once laws p samples a b one all =
+    one.file ∙ ap (file_of (path_header p)) (laws.once p.grid p.ticks p.least (reverse samples) one.intervals
+    all.intervals one.are all.are) ∙ sym all.file
+
+pub whole_once : PathLaws → (p : SlicesPath) (samples : List ℤ) (a b : List ℕ) → IsPathFile p samples a
+    → IsPathFile p samples b → a ≡ b
+whole_once laws p samples a b one all =
+    one.file ∙ ap (file_of (path_header p)) (laws.one p.grid p.ticks p.least (reverse samples) one.intervals
+    all.intervals one.are all.are) ∙ sym all.file
 
 pub path_is_command : PathLaws → (p : SlicesPath) → IsCommand (along_path p)
 path_is_command laws p = record {
@@ -78,18 +101,10 @@ path_is_command laws p = record {
     stays = λ front more spent. spent;
     limit = λ front more a b spent one all. absurd spent;
   };
-  some_part = λ bytes.
-      let some = laws.some p.grid p.ticks p.least (reverse (take MAX_SAMPLES (samples_of bytes))) in
-      (file_of (path_header p) some.0, record { intervals = some.0; are = some.1; file = refl });
-  some_output = λ input is.
-      let whole = laws.whole p.grid p.ticks p.least (reverse (samples_of input)) in
-      (file_of (path_header p) whole.0, record { intervals = whole.0; are = whole.1; file = refl });
-  one_part = λ bytes a b one all.
-      one.file ∙ ap (file_of (path_header p)) (laws.once p.grid p.ticks p.least
-      (reverse (take MAX_SAMPLES (samples_of bytes))) one.intervals all.intervals one.are all.are) ∙ sym all.file;
-  one_output = λ input a b one all.
-      one.file ∙ ap (file_of (path_header p)) (laws.one p.grid p.ticks p.least (reverse (samples_of input))
-      one.intervals all.intervals one.are all.are) ∙ sym all.file;
+  some_part = λ bytes. path_so_far laws p (take MAX_SAMPLES (samples_of bytes));
+  some_output = λ input is. path_file laws p (samples_of input);
+  one_part = λ bytes a b one all. file_once laws p (take MAX_SAMPLES (samples_of bytes)) a b one all;
+  one_output = λ input a b one all. whole_once laws p (samples_of input) a b one all;
   fault = λ front rest f e. absurd (never_refused MAX_SAMPLES front f e);
   limit = λ front rest e. past_within MAX_SAMPLES front rest e;
   fault_unspent = λ front rest f e spent. spent;

@@ -1,14 +1,13 @@
 -- The file of a best path grows by the intervals that more samples bring.
-use Rattle.std.proofs.Common.{◌≡◌, ℕ, ◌+◌, ◌*◌, ◌≤◌, ℤ, inl, List, [], ◌∷◌, ◌++◌, length, reverse, take, drop}
-use Rattle.std.proofs.Common.{get_or}
+use Rattle.std.proofs.Common.{◌≡◌, ℕ, ◌+◌, ◌<◌, ℤ, List, [], ◌∷◌, ◌++◌, length, reverse, take, drop, get_or}
 use Rattle.std.specs.Prelude.{OnOk, Ok, Err}
 use Rattle.std.specs.declared.option.Option.{Option}
 use Rattle.std.specs.declared.result.Result.{Result}
 use Rattle.std.proofs.Common.{refl, ap, subst, sym, ◌∙◌, append_assoc, append-nil, arith}
 use Rattle.std.proofs.lemmas.Grind.{flat_map-append}
-use Rattle.std.proofs.lemmas.List.{length-append, reverse-append, take-append-le, take_all}
+use Rattle.std.proofs.lemmas.List.{length-append, reverse-append, take-append-drop, take_more}
+use Rattle.std.proofs.KnownBytes.{Appends-trans}
 use Rattle.std.specs.Io.KnownBytes.{Appends}
-use Rattle.std.specs.Option.{option_to_list}
 use Rattle.interval_file.specs.declared.header.FileVersion.TheVariants.{One}
 use Rattle.interval_file.specs.FileLemmas.{file_first}
 use Rattle.interval_file.specs.Grammar.{file_of, intervals_bytes}
@@ -22,21 +21,15 @@ use Rattle.path_front.specs.Front.{judgements, AreIntervals, AreIntervalsSoFar, 
 use Rattle.path_front.specs.Front.{GoesOn}
 use Rattle.path_front.specs.Grid.{on_grid}
 use Rattle.path_front.specs.Steps.{path_steps, with_held}
-use Rattle.pcm_front.specs.Samples.{sample_in, samples_of}
+use Rattle.tc_command.specs.declared.gathered.Gathered.{Gathered}
 use Rattle.tc_command.specs.declared.stop.Stop.{Stop}
-use Rattle.tc_command.specs.declared.stop.Stop.TheVariants as stops
 use Rattle.tc_command.specs.KeptGathered.{none_put, put_front, put_more, IsPut}
-use Rattle.tc_command.specs.Stops.{Stops}
 use Rattle.tc_io.specs.Sink.{AppendsFront, IsFront}
 use Rattle.tc_job.specs.PathSlicing.{SlicesPath}
-use Rattle.signal_commands.specs.declared.pcm_ltc.TheConstants.{MAX_SAMPLES}
-use Rattle.signal_commands.specs.declared.pcm_path.PathSound.{PathSound}
-use Rattle.signal_commands.specs.KeptPath.{HasFailed, HasGathered, HasGatheredAll, Hears, IsOfWords, Stands}
-use Rattle.signal_commands.specs.KeptStops.{StopsBehind, of_both}
-use Rattle.signal_commands.proofs.SlicedOn.{is_past, some_samples}
-use Rattle.tc_command.specs.declared.gathered.Gathered.{Gathered}
-use Rattle.signal_commands.specs.KeptSlices.{length-samples, samples_of-append}
-use Rattle.signal_commands.specs.PcmPath.{along_path, path_header, IsPathFileSoFar}
+use Rattle.signal_commands.specs.declared.path_sound.PathSound.{PathSound}
+use Rattle.signal_commands.specs.KeptSound.{samples_heard, FailsSoFar, HasFailed, HasGathered, HasGatheredAll}
+use Rattle.signal_commands.specs.KeptSound.{HearsSamples, IsOfWords}
+use Rattle.signal_commands.specs.PcmPath.{path_header, IsPathFileSoFar}
 
 -- ---- nothing yet
 
@@ -134,20 +127,9 @@ front_of_file p written first given more all rest pushed left are put is =
 
 -- ---- samples
 
--- two bytes are a sample
-one_sample : (pair : List ℕ) → length pair ≡ 2 → samples_of pair ≡ sample_in pair ∷ []
-unfolding samples_of
-one_sample [] two = absurd (omega (arith, two))
-one_sample (low ∷ []) two = absurd (omega (arith, two))
-one_sample (low ∷ high ∷ []) two = refl
-one_sample (low ∷ high ∷ b ∷ more) two = absurd (omega (arith, two))
-
--- and with them it is the latest
-pub latest_sample : (count : ℕ) (whole pair : List ℕ) → length whole ≡ 2 * count → length pair ≡ 2
-    → reverse (samples_of (whole ++ pair)) ≡ sample_in pair ∷ reverse (samples_of whole)
-latest_sample count whole pair long two =
-    ap reverse (samples_of-append count whole pair long ∙ ap (λ l. samples_of whole ++ l) (one_sample pair two))
-    ∙ reverse-append (samples_of whole) (sample_in pair ∷ [])
+-- the sample that came last is the latest
+latest_sample : (samples : List ℤ) (sample : ℤ) → reverse (samples ++ sample ∷ []) ≡ sample ∷ reverse samples
+latest_sample samples sample = reverse-append samples (sample ∷ [])
 
 pub so_far_by : (grid other : Grid) (ticks more least most : ℕ) (samples : List ℤ) (intervals : List ℕ) → grid ≡ other
     → ticks ≡ more → least ≡ most → AreIntervalsSoFar grid ticks least samples intervals
@@ -166,16 +148,16 @@ whole_by grid other ticks more least most samples intervals g t l are =
     (subst (λ x. AreIntervals grid ticks x samples intervals) l are))
 
 -- one sample more was taken, and what it brings is pushed or gathered
-pub hear_works : (s mid next : PathSound) (a b : Option (List ℕ)) (whole written pair : List ℕ)
-    (hears : Hears s whole written) → mid.gathered ≡ s.gathered → length pair ≡ 2
-    → HasGatheredAll mid next a b (sample_in pair ∷ reverse (samples_of whole)) hears.given → IsOfWords next
-    → next.samples ≡ s.samples + 1 → next.path ≡ s.path → next.front.judging.phase ≡ Sound
-    → (more : List ℕ) × Appends a b more × Hears next (whole ++ pair) (written ++ more)
-hear_works s mid next a b whole written pair hears same two g words count path phase =
+pub hear_works : (s mid next : PathSound) (a b : Option (List ℕ)) (samples : List ℤ) (sample : ℤ) (written : List ℕ)
+    (hears : HearsSamples s samples written) → mid.gathered ≡ s.gathered
+    → HasGatheredAll mid next a b (sample ∷ reverse samples) hears.given → IsOfWords next
+    → samples_heard next ≡ samples_heard s + 1 → next.path ≡ s.path → next.front.judging.phase ≡ Sound
+    → (more : List ℕ) × Appends a b more × HearsSamples next (samples ++ sample ∷ []) (written ++ more)
+hear_works s mid next a b samples sample written hears same g words count path phase =
     let put = g.gathered.put in
     let given = hears.given ++ g.gathered.more in
-    let latest = sym (latest_sample s.samples whole pair hears.count two) in
-    let so_far = subst (λ l. AreIntervalsSoFar next.front.judging.cells.steps.grid next.front.ticks
+    let latest = sym (latest_sample samples sample) in
+    let so_far = subst (λ (l : List ℤ). AreIntervalsSoFar next.front.judging.cells.steps.grid next.front.ticks
     next.front.judging.cells.steps.hold.least l given) latest (g.so_far phase) in
     let are : written ++ mid.gathered.room.items ≡ file_of (path_header next.path) hears.given =
     ap (λ (r : Gathered). written ++ r.room.items) same ∙ hears.are
@@ -183,12 +165,11 @@ hear_works s mid next a b whole written pair hears same two g words count path p
       put.0,
       put.1,
       record {
-        within = words.within;
-        count = let many = length-append whole pair in omega (arith, many, two, hears.count, count);
+        count = let many = length-append samples (sample ∷ []) in omega (arith, many, hears.count, count);
         given = given;
-        front = subst (λ l. FrontStandsFor next.front l given) latest g.gathered.front;
+        front = subst (λ (l : List ℤ). FrontStandsFor next.front l given) latest g.gathered.front;
         so_far = so_far_by next.front.judging.cells.steps.grid next.path.grid next.front.ticks next.path.ticks
-            next.front.judging.cells.steps.hold.least next.path.least (reverse (samples_of (whole ++ pair))) given
+            next.front.judging.cells.steps.hold.least next.path.least (reverse (samples ++ sample ∷ [])) given
             words.grid words.ticks words.least so_far;
         are = grown_file next.path written mid.gathered.room.items next.gathered.room.items hears.given g.gathered.more
             put.0 are put.2;
@@ -205,29 +186,18 @@ GivenFirstSoFar = (state : FrontState) (samples : List ℤ) (given intervals : L
     → AreIntervalsSoFar state.judging.cells.steps.grid state.ticks state.judging.cells.steps.hold.least samples
     intervals → (rest : List ℕ) × (intervals ≡ given ++ rest)
 
--- the part of whole samples within the limit
-part_of : (p : SlicesPath) (bytes intervals : List ℕ) → length (samples_of bytes) ≤ MAX_SAMPLES
-    → AreIntervalsSoFar p.grid p.ticks p.least (reverse (samples_of bytes)) intervals
-    → IsPathFileSoFar p (take MAX_SAMPLES (samples_of bytes)) (file_of (path_header p) intervals)
-part_of p bytes intervals within are = record {
-  intervals = intervals;
-  are = subst (λ s. AreIntervalsSoFar p.grid p.ticks p.least (reverse s) intervals)
-      (sym (take_all MAX_SAMPLES (samples_of bytes) within)) are;
-  file = refl;
-}
-
 -- a push failed: a front of what is due stands
 pub hear_fails : SomeSoFar → GivenFirstSoFar → (s mid next : PathSound) (a b : Option (List ℕ))
-    (whole written pair rest : List ℕ) (hears : Hears s whole written) → mid.gathered ≡ s.gathered → length pair ≡ 2
-    → HasFailed mid next a b (sample_in pair ∷ reverse (samples_of whole)) hears.given → IsOfWords next
-    → next.samples ≡ s.samples + 1 → next.path ≡ s.path → next.front.judging.phase ≡ Sound
-    → Stops (along_path s.path) stops.WriteFault a b (whole ++ (pair ++ rest)) written
-hear_fails some first s mid next a b whole written pair rest hears same two f words count path phase =
+    (samples : List ℤ) (sample : ℤ) (written : List ℕ) (hears : HearsSamples s samples written)
+    → mid.gathered ≡ s.gathered → HasFailed mid next a b (sample ∷ reverse samples) hears.given → IsOfWords next
+    → next.path ≡ s.path → next.front.judging.phase ≡ Sound
+    → FailsSoFar s.path a b (samples ++ sample ∷ []) written
+hear_fails some first s mid next a b before sample written hears same f words path phase =
     let p = next.path in
-    let samples = reverse (samples_of (whole ++ pair)) in
-    let latest = sym (latest_sample s.samples whole pair hears.count two) in
+    let samples = reverse (before ++ sample ∷ []) in
+    let latest = sym (latest_sample before sample) in
     let given = hears.given ++ f.more in
-    let stand = subst (λ l. FrontStandsFor next.front l given) latest f.front in
+    let stand = subst (λ (l : List ℤ). FrontStandsFor next.front l given) latest f.front in
     let full = some p.grid p.ticks p.least samples in
     let behind = first next.front samples given full.0 phase stand
     (so_far_by p.grid next.front.judging.cells.steps.grid p.ticks next.front.ticks p.least
@@ -236,102 +206,115 @@ hear_fails some first s mid next a b whole written pair rest hears same two f wo
     let are : written ++ mid.gathered.room.items ≡ file_of (path_header p) hears.given =
     ap (λ (r : Gathered). written ++ r.room.items) same ∙ hears.are
     ∙ ap (λ (q : SlicesPath). file_of (path_header q) hears.given) (sym path) in
-    let many = length-append whole pair in
-    let long = length-samples next.samples (whole ++ pair) (omega (arith, many, two, hears.count, count)) in
-    let stop : Stops (along_path p) stops.WriteFault a b (whole ++ (pair ++ rest)) written = (
+    let fails : FailsSoFar p a b (before ++ sample ∷ []) written = (
       f.pushed.0,
       f.pushed.2,
       (
-        whole ++ pair,
         file_of (path_header p) full.0,
-        (rest, sym (append_assoc whole pair rest)),
-        part_of p (whole ++ pair) full.0 (omega (arith, long, words.within)) full.1,
+        record { intervals = full.0; are = full.1; file = refl },
         front_of_file p written mid.gathered.room.items hears.given f.more full.0 behind.0 f.pushed.0 f.pushed.1.0 are
             f.pushed.1.1 behind.1,
       ),
     ) in
-    subst (λ q. Stops (along_path q) stops.WriteFault a b (whole ++ (pair ++ rest)) written) path stop
+    subst (λ (q : SlicesPath). FailsSoFar q a b (before ++ sample ∷ []) written) path fails
 
 -- what is gathered was not taken
-pub gathered_fails : (s : PathSound) (whole written bytes : List ℕ) (old new : Option (List ℕ)) → Hears s whole written
-    → AppendsFront old new s.gathered.room.items
-    → Stops (along_path s.path) stops.WriteFault old new (whole ++ bytes) written
-gathered_fails s whole written bytes old new hears f =
-    let within : length (samples_of whole) ≤ MAX_SAMPLES =
-    omega (arith, length-samples s.samples whole hears.count, hears.within) in (
-      f.0,
-      f.2,
-      (
-        whole,
-        file_of (path_header s.path) hears.given,
-        (bytes, refl),
-        part_of s.path whole hears.given within hears.so_far,
-        (
-          f.1.0,
-          sym hears.are ∙ ap (λ (l : List ℕ). written ++ l) f.1.1 ∙ sym (append_assoc written f.0 f.1.0),
-        ),
-      ),
-    )
+pub gathered_fails : (s : PathSound) (samples : List ℤ) (written : List ℕ) (old new : Option (List ℕ))
+    → HearsSamples s samples written → AppendsFront old new s.gathered.room.items
+    → FailsSoFar s.path old new samples written
+gathered_fails s samples written old new hears f = (
+  f.0,
+  f.2,
+  (
+    file_of (path_header s.path) hears.given,
+    record { intervals = hears.given; are = hears.so_far; file = refl },
+    (
+      f.1.0,
+      sym hears.are ∙ ap (λ (l : List ℕ). written ++ l) f.1.1 ∙ sym (append_assoc written f.0 f.1.0),
+    ),
+  ),
+)
 
--- past the limit: what is gathered was pushed, and is the part of the bytes; or it was not
-pub at_limit : (s : PathSound) (whole written bytes : List ℕ) (stop : Stop) (old new : Option (List ℕ))
-    → Hears s whole written → s.samples ≡ MAX_SAMPLES → 2 ≤ length bytes
-    → StopsBehind stops.Limit old new s.gathered.room.items stop
-    → Stops (along_path s.path) stop old new (whole ++ bytes) written
-at_limit s whole written bytes stop old new hears full some behind =
-    let long = length-samples s.samples whole hears.count in
-    let all = samples_of-append s.samples whole bytes hears.count in
-    let more = length-append (samples_of whole) (samples_of bytes) in
-    let front : take MAX_SAMPLES (samples_of (whole ++ bytes)) ≡ samples_of whole =
-    ap (take MAX_SAMPLES) all
-    ∙ take-append-le MAX_SAMPLES (samples_of whole) (samples_of bytes) (omega (arith, long, full))
-    ∙ take_all MAX_SAMPLES (samples_of whole) (omega (arith, long, full)) in
-    of_both (λ (x : Stop). Stops (along_path s.path) x old new (whole ++ bytes) written) stops.Limit stop
-    old new s.gathered.room.items behind
-    (λ pushed. (
-      s.gathered.room.items,
-      pushed,
-      inl (
-        record {
-          is = is_past MAX_SAMPLES (whole ++ bytes) (rw all (omega (arith, long, full, more, some_samples bytes some)));
-          unspent = λ spent. spent;
-        },
-        record {
-          intervals = hears.given;
-          are = subst (λ l. AreIntervalsSoFar s.path.grid s.path.ticks s.path.least (reverse l) hears.given) (sym front)
-              hears.so_far;
-          file = hears.are;
-        },
-      ),
-    ))
-    (gathered_fails s whole written bytes old new hears)
+-- it was pushed
+pub gathered_so_far : (s : PathSound) (samples : List ℤ) (written : List ℕ) → HearsSamples s samples written
+    → IsPathFileSoFar s.path samples (written ++ s.gathered.room.items)
+gathered_so_far s samples written hears =
+    record { intervals = hears.given; are = hears.so_far; file = hears.are }
 
--- ---- bytes
-
-pub any_half : (s : PathSound) (half : Option ℕ) (whole written : List ℕ) → Hears s whole written
-    → Hears (record s { half = half }) whole written
-any_half s half whole written hears = record {
-  within = hears.within;
+pub pushed_on : (s : PathSound) (left : Gathered) (samples : List ℤ) (written more : List ℕ)
+    → more ++ left.room.items ≡ s.gathered.room.items → HearsSamples s samples written
+    → HearsSamples (record s { gathered = left }) samples (written ++ more)
+pushed_on s left samples written more all hears = record {
   count = hears.count;
   given = hears.given;
   front = hears.front;
   so_far = hears.so_far;
-  are = hears.are;
+  are = append_assoc written more left.room.items ∙ ap (λ (l : List ℕ). written ++ l) all ∙ hears.are;
 }
 
-pub first_two : (bytes : List ℕ) → 2 ≤ length bytes
-    → (get_or bytes 0 0 ∷ get_or bytes 1 0 ∷ []) ++ drop 2 bytes ≡ bytes
-first_two [] some = absurd (omega (arith, some))
-first_two (low ∷ []) some = absurd (omega (arith, some))
-first_two (low ∷ high ∷ more) some = refl
+-- ---- samples one after another
 
-pub only_two : (bytes : List ℕ) → 2 ≤ length bytes → get_or bytes 0 0 ∷ get_or bytes 1 0 ∷ [] ≡ take 2 bytes
-only_two [] some = absurd (omega (arith, some))
-only_two (low ∷ []) some = absurd (omega (arith, some))
-only_two (low ∷ high ∷ more) some = refl
+abbrev pub FirstSoFar : Type 0
+FirstSoFar = (grid : Grid) (ticks least : ℕ) (more samples : List ℤ) (intervals longer : List ℕ)
+    → AreIntervalsSoFar grid ticks least samples intervals → AreIntervalsSoFar grid ticks least (more ++ samples) longer
+    → (rest : List ℕ) × (longer ≡ intervals ++ rest)
 
-pub length-bytes : (s : PathSound) (bytes written : List ℕ) → Stands s bytes written
-    → length bytes ≡ 2 * s.samples + length (option_to_list s.half)
-length-bytes s bytes written stands =
-    ap length stands.are ∙ length-append stands.whole (option_to_list s.half)
-    ∙ ap (λ (n : ℕ). n + length (option_to_list s.half)) stands.hears.count
+-- what samples bring comes first in what they and others bring
+pub part_first : SomeSoFar → FirstSoFar → (p : SlicesPath) (samples more : List ℤ) (part : List ℕ)
+    → IsPathFileSoFar p samples part
+    → (longer : List ℕ) × IsPathFileSoFar p (samples ++ more) longer × IsFront part longer
+part_first some first p samples more part is =
+    let full = some p.grid p.ticks p.least (reverse (samples ++ more)) in
+    let rest = first p.grid p.ticks p.least (reverse more) (reverse samples) is.intervals full.0 is.are
+    (subst (λ (l : List ℤ). AreIntervalsSoFar p.grid p.ticks p.least l full.0) (reverse-append samples more) full.1) in
+    let file = file_first (path_header p) is.intervals rest.0 in (
+      file_of (path_header p) full.0,
+      record { intervals = full.0; are = full.1; file = refl },
+      (file.0, ap (file_of (path_header p)) rest.1 ∙ file.1 ∙ ap (λ (l : List ℕ). l ++ file.0) (sym is.file)),
+    )
+
+-- behind samples that were heard a push failed: a front of what all of them bring was written
+pub fails_behind : SomeSoFar → FirstSoFar → (p : SlicesPath) (samples rest all : List ℤ) (written more : List ℕ)
+    (a b c : Option (List ℕ)) → samples ++ rest ≡ all → Appends a b more → FailsSoFar p b c samples (written ++ more)
+    → FailsSoFar p a c all written
+fails_behind some first p samples rest all written more a b c split pushed fails =
+    let longer = part_first some first p samples rest fails.2.0 fails.2.1 in
+    let left = fails.2.2.0 in
+    let behind = longer.2.0 in (
+      more ++ fails.0,
+      Appends-trans a b c more fails.0 pushed fails.1,
+      (
+        longer.0,
+        subst (λ (l : List ℤ). IsPathFileSoFar p l longer.0) split longer.1,
+        (
+          left ++ behind,
+          longer.2.1 ∙ ap (λ (l : List ℕ). l ++ behind) fails.2.2.1
+              ∙ append_assoc ((written ++ more) ++ fails.0) left behind
+              ∙ ap (λ (l : List ℕ). l ++ (left ++ behind)) (append_assoc written more fails.0),
+        ),
+      ),
+    )
+
+-- a run of samples, and one more
+pub one_more_heard : (next : PathSound) (a b c : Option (List ℕ)) (before run : List ℤ) (place : ℕ)
+    (other : ℤ) (written more later : List ℕ) → place < length run → Appends a b more → Appends b c later
+    → HearsSamples next ((before ++ take place run) ++ get_or run place other ∷ []) ((written ++ more) ++ later)
+    → (all : List ℕ) × Appends a c all × HearsSamples next (before ++ take (place + 1) run) (written ++ all)
+one_more_heard next a b c before run place other written more later less first second hears =
+    let joined : (before ++ take place run) ++ get_or run place other ∷ [] ≡ before ++ take (place + 1) run =
+    append_assoc before (take place run) (get_or run place other ∷ [])
+    ∙ ap (λ (l : List ℤ). before ++ l) (sym (take_more run place other less)) in (
+      more ++ later,
+      Appends-trans a b c more later first second,
+      subst (λ (l : List ℕ). HearsSamples next (before ++ take (place + 1) run) l) (append_assoc written more later)
+          (subst (λ (l : List ℤ). HearsSamples next l ((written ++ more) ++ later)) joined hears),
+    )
+
+-- and what is behind it
+pub run_split : (before run : List ℤ) (place : ℕ) (other : ℤ) → place < length run
+    → ((before ++ take place run) ++ get_or run place other ∷ []) ++ drop (place + 1) run ≡ before ++ run
+run_split before run place other less =
+    ap (λ (l : List ℤ). l ++ drop (place + 1) run) (append_assoc before (take place run) (get_or run place other ∷ [])
+    ∙ ap (λ (l : List ℤ). before ++ l) (sym (take_more run place other less)))
+    ∙ append_assoc before (take (place + 1) run) (drop (place + 1) run)
+    ∙ ap (λ (l : List ℤ). before ++ l) (take-append-drop (place + 1) run)

@@ -19,7 +19,7 @@ use Rattle.tc_job.specs.WaveSlicing.{SlicesWave}
 use Rattle.wave_file.specs.declared.decoder.Taken.TheVariants as taken
 use Rattle.wave_file.specs.declared.fault.WaveFault.{WaveFault}
 use Rattle.wave_file.specs.declared.format.WaveFormat.{WaveFormat}
-use Rattle.wave_file.specs.declared.stage.TheConstants.{MAX_BYTES, MAX_SAMPLES}
+use Rattle.wave_file.specs.declared.stage.TheConstants.{MAX_BYTES}
 use Rattle.wave_file.specs.GoesOn.{IsWithin}
 use Rattle.wave_file.specs.StandsFor.{StandsFor, IsTold, StopsAt, bytes_taken, format_in_decoding}
 use Rattle.wave_file.specs.Wave.{end_fault_of, reading_of}
@@ -40,20 +40,22 @@ use Rattle.signal_commands.specs.WavLtc.{along_sound_file, track_file, track_hea
 use Rattle.signal_commands.specs.WavLtc.{track_settings}
 use Rattle.signal_commands.proofs.PutMore.{none_begun}
 use Rattle.signal_commands.proofs.TrackGoesOn.{file_with}
+use Rattle.signal_commands.specs.WavLtc.{asked_by}
+use Rattle.wave_file.specs.declared.format.Asked.{Asked}
 
 -- what holds of whatever bytes say
 abbrev pub Reads : Type 0
-Reads = (track : ℕ) (bytes : List ℕ) → IsWithin (reading_of track bytes)
+Reads = (asked : Asked) (bytes : List ℕ) → IsWithin asked (reading_of asked bytes)
 
 -- ---- the samples that were read
 
-pub none_yet : Reads → (track : ℕ) (bytes : List ℕ) (format : Option WaveFormat) (samples : List ℤ) (v : Verdict WaveFault)
-    → IsTold (reading_of track bytes) format samples v → format ≡ None → samples ≡ []
+pub none_yet : Reads → (asked : Asked) (bytes : List ℕ) (format : Option WaveFormat) (samples : List ℤ) (v : Verdict WaveFault)
+    → IsTold (reading_of asked bytes) format samples v → format ≡ None → samples ≡ []
 none_yet reads track bytes format samples v told none =
     sym told.samples_are ∙ (reads track bytes).none (told.format_is ∙ none)
 
-pub few_samples : Reads → (track : ℕ) (bytes : List ℕ) (format : Option WaveFormat) (samples : List ℤ) (v : Verdict WaveFault)
-    → IsTold (reading_of track bytes) format samples v → length samples ≤ MAX_SAMPLES
+pub few_samples : Reads → (asked : Asked) (bytes : List ℕ) (format : Option WaveFormat) (samples : List ℤ) (v : Verdict WaveFault)
+    → IsTold (reading_of asked bytes) format samples v → length samples ≤ asked.most_samples
 few_samples reads track bytes format samples v told =
     let few = (reads track bytes).few in
     let same = ap length told.samples_are in omega (arith, few, same)
@@ -82,20 +84,20 @@ file_is s front written stands =
 -- what the decoder says of more bytes
 pub record Decodes (s next : SlicedTrack) (bytes : List ℕ) (samples : List ℤ) : Type 0 where
   pub slicing : next.slicing ≡ s.slicing
-  pub track : next.decoder.track ≡ s.decoder.track
+  pub track : next.decoder.asked ≡ s.decoder.asked
   pub within : bytes_taken next.decoder ≤ MAX_BYTES
   pub stands : (front : List ℕ) (before : List ℤ) → StandsFor s.decoder front before → StandsFor next.decoder (front ++ bytes) (before ++ samples)
   pub told : (all : List ℕ) (given : List ℤ) → StandsFor next.decoder all given
-      → IsTold (reading_of next.decoder.track all) (format_in_decoding next.decoder) given good
+      → IsTold (reading_of next.decoder.asked all) (format_in_decoding next.decoder) given good
 
 -- what it says, where it tells the format too
 pub decodes_more : (s next : SlicedTrack) (bytes : List ℕ) (samples : List ℤ) (told : Option WaveFormat)
-    → next.slicing ≡ s.slicing → next.decoder.track ≡ s.decoder.track
+    → next.slicing ≡ s.slicing → next.decoder.asked ≡ s.decoder.asked
     → ((front : List ℕ) (before : List ℤ) → StandsFor s.decoder front before
     → StandsFor next.decoder (front ++ bytes) (before ++ samples))
     → bytes_taken next.decoder ≤ MAX_BYTES → told ≡ format_in_decoding next.decoder
     → ((all : List ℕ) (given : List ℤ) → StandsFor next.decoder all given
-    → IsTold (reading_of next.decoder.track all) told given good)
+    → IsTold (reading_of next.decoder.asked all) told given good)
     → Decodes s next bytes samples
 decodes_more s next bytes samples told slicing track stands within is tells = record {
   slicing = slicing;
@@ -103,7 +105,7 @@ decodes_more s next bytes samples told slicing track stands within is tells = re
   within = within;
   stands = stands;
   told = λ all given at.
-      subst (λ (f : Option WaveFormat). IsTold (reading_of next.decoder.track all) f given good) is (tells all given at);
+      subst (λ (f : Option WaveFormat). IsTold (reading_of next.decoder.asked all) f given good) is (tells all given at);
 }
 
 -- and the slicer of the samples in them
@@ -112,13 +114,13 @@ pub record Slices (s next : SlicedTrack) (samples : List ℤ) : Type 0 where
   pub stands : (before : List ℤ) → pcm.StandsFor s.slicer before → pcm.StandsFor next.slicer (before ++ samples)
 
 same_track : (s next : SlicedTrack) (front written bytes : List ℕ) (samples : List ℤ) → Stands s front written → Decodes s next bytes samples
-    → next.decoder.track ≡ s.slicing.track
+    → next.decoder.asked ≡ asked_by s.slicing
 same_track s next front written bytes samples stands decodes = decodes.track ∙ stands.track
 
 pub told_on : (s next : SlicedTrack) (front written bytes : List ℕ) (samples : List ℤ) (stands : Stands s front written) → Decodes s next bytes samples
-    → IsTold (reading_of s.slicing.track (front ++ bytes)) (format_in_decoding next.decoder) (stands.samples ++ samples) good
+    → IsTold (reading_of (asked_by s.slicing) (front ++ bytes)) (format_in_decoding next.decoder) (stands.samples ++ samples) good
 told_on s next front written bytes samples stands decodes =
-    subst (λ (t : ℕ). IsTold (reading_of t (front ++ bytes)) (format_in_decoding next.decoder) (stands.samples ++ samples) good)
+    subst (λ (t : Asked). IsTold (reading_of t (front ++ bytes)) (format_in_decoding next.decoder) (stands.samples ++ samples) good)
     (same_track s next front written bytes samples stands decodes)
     (decodes.told (front ++ bytes) (stands.samples ++ samples) (decodes.stands front stands.samples stands.decoder))
 
@@ -132,10 +134,10 @@ moved s next front written bytes more samples stands decodes slices are =
     record {
       samples = stands.samples ++ samples;
       settings = slices.settings ∙ stands.settings ∙ ap track_settings (sym same);
-      track = same_track s next front written bytes samples stands decodes ∙ ap (λ (w : SlicesWave). w.track) (sym same);
+      track = same_track s next front written bytes samples stands decodes ∙ ap asked_by (sym same);
       within = decodes.within;
       decoder = decodes.stands front stands.samples stands.decoder;
-      told = subst (λ (w : SlicesWave). IsTold (reading_of w.track (front ++ bytes)) (format_in_decoding next.decoder) (stands.samples ++ samples) good)
+      told = subst (λ (w : SlicesWave). IsTold (reading_of (asked_by w) (front ++ bytes)) (format_in_decoding next.decoder) (stands.samples ++ samples) good)
           (sym same) told;
       slicer = slices.stands stands.samples stands.slicer;
       are = are ∙ ap (λ (w : SlicesWave). track_file w (format_in_decoding next.decoder) (stands.samples ++ samples)) (sym same);
@@ -148,7 +150,7 @@ grown_file : Reads → (s next : SlicedTrack) (front written bytes due : List �
     → written ++ (s.gathered.room.items ++ due) ≡ track_file s.slicing (format_in_decoding next.decoder) (stands.samples ++ samples)
 grown_file reads s next front written bytes due samples stands decodes same pace pace_is are =
     let told = told_on s next front written bytes samples stands decodes in
-    let none = none_yet reads s.slicing.track (front ++ bytes) (format_in_decoding next.decoder) (stands.samples ++ samples) good told in
+    let none = none_yet reads (asked_by s.slicing) (front ++ bytes) (format_in_decoding next.decoder) (stands.samples ++ samples) good told in
     let by_pace = subst (λ (p : Pace). AreDue p (settings_of s.slicer) stands.samples samples due) pace_is are in
     let by_words = subst (λ (x : Settings). AreDue (pace_in s.slicing (format_in_decoding next.decoder)) x stands.samples samples due) stands.settings by_pace in
     sym (append_assoc written s.gathered.room.items due)
@@ -194,7 +196,7 @@ pub begun : Reads → (s next : SlicedTrack) (front written bytes : List ℕ) (f
     → IsPut old new s.gathered.room.items (header_bytes (track_header s.slicing format)) next.gathered.room.items
     → (more : List ℕ) × Appends old new more × Stands next (front ++ bytes) (written ++ more)
 begun reads s next front written bytes format old new stands decodes slicer before now put =
-    let none = none_yet reads s.slicing.track front (format_in_decoding s.decoder) stands.samples good stands.told before in
+    let none = none_yet reads (asked_by s.slicing) front (format_in_decoding s.decoder) stands.samples good stands.told before in
     let header = header_bytes (track_header s.slicing format) in
     let empty : written ++ s.gathered.room.items ≡ [] = stands.are ∙ ap (λ (f : Option WaveFormat). track_file s.slicing f stands.samples) before in
     let file : track_file s.slicing (format_in_decoding next.decoder) (stands.samples ++ []) ≡ header =
@@ -257,11 +259,11 @@ flush_stop s front written old new stands f =
 
 -- what is told of bytes that end the reading
 told_stop : (s : SlicedTrack) (front written all : List ℕ) (v : Verdict WaveFault) (stands : Stands s front written)
-    → ((more : List ℕ) → IsTold (reading_of s.decoder.track (all ++ more)) (format_in_decoding s.decoder) stands.samples v)
-    → IsTold (reading_of s.slicing.track all) (format_in_decoding s.decoder) stands.samples v
+    → ((more : List ℕ) → IsTold (reading_of s.decoder.asked (all ++ more)) (format_in_decoding s.decoder) stands.samples v)
+    → IsTold (reading_of (asked_by s.slicing) all) (format_in_decoding s.decoder) stands.samples v
 told_stop s front written all v stands told =
-    subst (λ (t : ℕ). IsTold (reading_of t all) (format_in_decoding s.decoder) stands.samples v) stands.track
-    (subst (λ (l : List ℕ). IsTold (reading_of s.decoder.track l) (format_in_decoding s.decoder) stands.samples v) (append-nil all) (told []))
+    subst (λ (t : Asked). IsTold (reading_of t all) (format_in_decoding s.decoder) stands.samples v) stands.track
+    (subst (λ (l : List ℕ). IsTold (reading_of s.decoder.asked l) (format_in_decoding s.decoder) stands.samples v) (append-nil all) (told []))
 
 pub fault_stop : (s : SlicedTrack) (front written bytes : List ℕ) (f : WaveFault) (stop : Stop)
     (old new : Option (List ℕ))
@@ -314,7 +316,7 @@ pub ticks_fit : Reads → (s next : SlicedTrack) (bytes : List ℕ) (samples : L
 ticks_fit reads s next bytes samples going decodes =
     let stands = going.stands in
     let told = told_on s next going.bytes going.written bytes samples stands decodes in
-    let few = few_samples reads s.slicing.track (going.bytes ++ bytes) (format_in_decoding next.decoder) (stands.samples ++ samples) good told in
+    let few = few_samples reads (asked_by s.slicing) (going.bytes ++ bytes) (format_in_decoding next.decoder) (stands.samples ++ samples) good told in
     let all = length-append stands.samples samples in
     let fineness : (settings_of s.slicer).fineness ≡ 16 = ap (λ (x : Settings). x.fineness) stands.settings in
     let tick : tick_of s.slicer ≡ 16 * length stands.samples =
@@ -339,10 +341,10 @@ pushed_on s left front written more all stands = record {
 }
 
 -- the fault of the end, in the terms of every command
-pub end_is : (s : SlicedTrack) (front written : List ℕ) (end : Option WaveFault) → Stands s front written → end_fault_of s.decoder.track front ≡ end
+pub end_is : (s : SlicedTrack) (front written : List ℕ) (end : Option WaveFault) → Stands s front written → end_fault_of s.decoder.asked front ≡ end
     → (along_sound_file s.slicing).end_fault front ≡ option_map Sound end
 end_is s front written end stands is =
-    ap (option_map Sound) (subst (λ (t : ℕ). end_fault_of t front ≡ end) stands.track is)
+    ap (option_map Sound) (subst (λ (t : Asked). end_fault_of t front ≡ end) stands.track is)
 
 -- ---- the way of the engine
 

@@ -22,6 +22,8 @@ use Rattle.signal_commands.specs.WavLtc.{track_settings}
 use Rattle.signal_commands.proofs.PutMore.{is_pace}
 use Rattle.tc_io.specs.VerdictLemmas.{fault_stays, limit_stays}
 use Rattle.tc_command.specs.declared.input_fault.InputFault.TheVariants.{Sound}
+use Rattle.signal_commands.specs.WavLtc.{asked_by}
+use Rattle.wave_file.specs.declared.format.Asked.{Asked}
 
 -- ---- the file
 
@@ -67,12 +69,12 @@ file_first laws w r s goes = by_format goes.format
 
 -- what bytes show stays
 abbrev pub ShowsStay : Type 0
-ShowsStay = (track : ℕ) (bytes more : List ℕ) → GoesOn (reading_of track bytes) (reading_of track (bytes ++ more))
+ShowsStay = (asked : Asked) (bytes more : List ℕ) → GoesOn (reading_of asked bytes) (reading_of asked (bytes ++ more))
 
 track_first : IntervalsComeFirst → ShowsStay → (w : SlicesWave) (front more a b : List ℕ) → a ≡ track_of w front → b ≡ track_of w (front ++ more)
     → IsFront a b
 track_first laws shows w front more a b one all =
-    let first = file_first laws w (reading_of w.track front) (reading_of w.track (front ++ more)) (shows w.track front more) in
+    let first = file_first laws w (reading_of (asked_by w) front) (reading_of (asked_by w) (front ++ more)) (shows (asked_by w) front more) in
     (first.0, all ∙ first.1 ∙ ap (λ (l : List ℕ). l ++ first.0) (sym one))
 
 pub track_is_command : IntervalsComeFirst → ShowsStay → (w : SlicesWave) → IsCommand (along_sound_file w)
@@ -87,8 +89,8 @@ track_is_command laws shows w = record {
   some_output = λ input is. (_, refl);
   one_part = λ bytes a b one all. one ∙ sym all;
   one_output = λ input a b one all. one ∙ sym all;
-  fault = λ front rest f e. let goes = shows w.track front rest in fault_stays Sound _ _ f goes.fault e;
-  limit = λ front rest e. let goes = shows w.track front rest in limit_stays Sound _ _ goes.limit e;
+  fault = λ front rest f e. let goes = shows (asked_by w) front rest in fault_stays Sound _ _ f goes.fault e;
+  limit = λ front rest e. let goes = shows (asked_by w) front rest in limit_stays Sound _ _ goes.limit e;
   fault_unspent = λ front rest f e spent. spent;
   limit_unspent = λ front rest e spent. spent;
   ends = λ bytes f e. refl;

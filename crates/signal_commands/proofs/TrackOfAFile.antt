@@ -12,18 +12,20 @@ use Rattle.signal_commands.proofs.PutMore.{is_pace}
 use Rattle.signal_commands.proofs.SoundCovered.{TellAll, pace_ended, pace_passing, some_threshold}
 use Rattle.tc_command.specs.Command.{IsCommand}
 use Rattle.tc_command.specs.Told.{IsLawful, IsTold}
+use Rattle.signal_commands.specs.WavLtc.{asked_by}
+use Rattle.wave_file.specs.declared.format.Asked.{Asked}
 
 -- what is made is read whole
 abbrev AreReadAsMade : Type 0
-AreReadAsMade = (track : ℕ) (format : WaveFormat) (blocks : List (List Sample)) (bytes : List ℕ)
-    → IsMadeOf track format blocks bytes → reading_of track bytes ≡ read_whole format (samples_in track blocks)
+AreReadAsMade = (asked : Asked) (format : WaveFormat) (blocks : List (List Sample)) (bytes : List ℕ)
+    → IsMadeOf asked format blocks bytes → reading_of asked bytes ≡ read_whole format (samples_in asked.track blocks)
 
 slices_the_track : AreReadAsMade → TellAll → (w : SlicesWave) → IsWaveSlicing w → (bytes written : List ℕ)
     → written ≡ track_of w bytes → SlicesTheTrack w bytes written
 slices_the_track law tell w is bytes written are = record {
   are = are;
   made = λ format blocks made.
-      are ∙ ap (λ (r : Reading). track_file w r.format r.samples) (law w.track format blocks bytes made);
+      are ∙ ap (λ (r : Reading). track_file w r.format r.samples) (law (asked_by w) format blocks bytes made);
   tell = λ format blocks made.
       tell (track_pace w format) (track_settings w) (samples_in w.track blocks)
       (is_pace w.live w.system (16 * format.rate)) (omega arith) (some_threshold w.threshold is.threshold);

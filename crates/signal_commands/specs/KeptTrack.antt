@@ -19,6 +19,7 @@ use Rattle.signal_commands.specs.declared.wav_ltc.SlicedTrack.{SlicedTrack}
 use Rattle.signal_commands.specs.WavLtc.{along_sound_file, track_file, track_pace, track_settings}
 use Rattle.tc_command.specs.Meaning.{Meaning, Shows}
 use Rattle.tc_command.specs.declared.input_fault.InputFault.TheVariants.{Sound}
+use Rattle.signal_commands.specs.WavLtc.{asked_by}
 
 -- when the intervals of a distance are written, where there can be one
 abbrev pub pace_in : SlicesWave → Option WaveFormat → Pace
@@ -37,10 +38,10 @@ AreDue pace s front more due = spelled pace s (front ++ more) ≡ spelled pace s
 pub record Stands (s : SlicedTrack) (bytes written : List ℕ) : Type 0 where
   pub samples : List ℤ
   pub settings : settings_of s.slicer ≡ track_settings s.slicing
-  pub track : s.decoder.track ≡ s.slicing.track
+  pub track : s.decoder.asked ≡ asked_by s.slicing
   pub within : bytes_taken s.decoder ≤ MAX_BYTES
   pub decoder : StandsFor s.decoder bytes samples
-  pub told : IsTold (reading_of s.slicing.track bytes) (format_in_decoding s.decoder) samples good
+  pub told : IsTold (reading_of (asked_by s.slicing) bytes) (format_in_decoding s.decoder) samples good
   pub slicer : pcm.StandsFor s.slicer samples
   pub are : written ++ s.gathered.room.items ≡ track_file s.slicing (format_in_decoding s.decoder) samples
 

@@ -2,10 +2,13 @@ pub mod KeptFields
 pub mod KeptMtc
 pub mod KeptPath
 pub mod KeptSlices
+pub mod KeptSound
 pub mod KeptStops
 pub mod KeptTrack
+pub mod KeptTrackPath
 pub mod MtcRead
 pub mod PcmLtc
 pub mod PcmPath
 pub mod VitcRead
 pub mod WavLtc
+pub mod WavPath

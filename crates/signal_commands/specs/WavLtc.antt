@@ -20,10 +20,16 @@ use Rattle.wave_file.specs.Wave.{end_fault_of, reading_of}
 use Rattle.tc_io.specs.Verdict.{verdict_as}
 use Rattle.tc_command.specs.Meaning.{Meaning}
 use Rattle.tc_command.specs.Told.{Told}
+use Rattle.wave_file.specs.declared.format.Asked.{Asked}
+use Rattle.wave_file.specs.declared.stage.TheConstants.{MAX_SAMPLES}
 
 -- in 16 ticks a sample, from the place of the first one on
 abbrev pub track_settings : SlicesWave → Settings
 track_settings w = from_start 16 w.threshold w.smooth
+
+-- of a sound file its track is asked, at whatever rate, and all samples within the limit
+abbrev pub asked_by : SlicesWave → Asked
+asked_by w = record { track = w.track; least_rate = 1; most_samples = MAX_SAMPLES }
 
 -- the header: each sample has so many ticks
 abbrev pub track_header : SlicesWave → WaveFormat → IntervalHeader
@@ -41,17 +47,17 @@ track_file w (Some format) samples =
 
 -- the file of the track of a sound file
 abbrev pub track_of : SlicesWave → List ℕ → List ℕ
-track_of w bytes = track_file w (reading_of w.track bytes).format (reading_of w.track bytes).samples
+track_of w bytes = track_file w (reading_of (asked_by w) bytes).format (reading_of (asked_by w) bytes).samples
 
 -- what was written is the file of the track that is read. And of a sound file that was made of these blocks, it is the
 -- file of the distances of the track's samples, whose first one runs from tick 0. The intervals tell their crossings,
 -- from tick 0 on. A distance is written when it has ended, or where it is live, in quarters of a frame as it passes
 pub record SlicesTheTrack (w : SlicesWave) (bytes written : List ℕ) : Type 0 where
   pub are : written ≡ track_of w bytes
-  pub made : (format : WaveFormat) (blocks : List (List Sample)) → IsMadeOf w.track format blocks bytes
+  pub made : (format : WaveFormat) (blocks : List (List Sample)) → IsMadeOf (asked_by w) format blocks bytes
       → written ≡ file_of (track_header w format)
       (intervals_at (track_pace w format) (from_start 16 w.threshold w.smooth) (samples_in w.track blocks))
-  pub tell : (format : WaveFormat) (blocks : List (List Sample)) → IsMadeOf w.track format blocks bytes
+  pub tell : (format : WaveFormat) (blocks : List (List Sample)) → IsMadeOf (asked_by w) format blocks bytes
       → TellTheCrossings (track_pace w format) (from_start 16 w.threshold w.smooth) (samples_in w.track blocks)
   pub ended : (format : WaveFormat) → w.live ≡ false → track_pace w format ≡ Ended
   pub passing : (format : WaveFormat) → w.live ≡ true
@@ -61,8 +67,8 @@ pub record SlicesTheTrack (w : SlicesWave) (bytes written : List ℕ) : Type 0 w
 abbrev pub along_sound_file : SlicesWave → Meaning
 along_sound_file w = record {
   reads = true;
-  verdict = λ bytes. verdict_as Sound (reading_of w.track bytes).verdict;
-  end_fault = λ bytes. option_map Sound (end_fault_of w.track bytes);
+  verdict = λ bytes. verdict_as Sound (reading_of (asked_by w) bytes).verdict;
+  end_fault = λ bytes. option_map Sound (end_fault_of (asked_by w) bytes);
   spent = λ bytes. ⊥;
   part = λ bytes written. written ≡ track_of w bytes;
   output = λ bytes written. written ≡ track_of w bytes;

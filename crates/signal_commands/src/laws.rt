@@ -1,17 +1,20 @@
 //! What follows from the definitions alone.
-ghost use Rattle.std.specs.Prelude.{◌≡◌};
+ghost use Rattle.std.specs.Prelude.{◌≡◌, ◌^◌};
 ghost use Rattle.tc_job.specs.PathSlicing.{SlicesPath};
 ghost use Rattle.tc_job.specs.Slicing.{Slices};
+ghost use Rattle.tc_job.specs.TrackPath.{SlicesTrackPath};
 ghost use Rattle.tc_job.specs.WaveSlicing.{SlicesWave};
 ghost use Rattle.tc_command.specs.Command.{IsCommand};
 ghost use Rattle.tc_command.specs.Told.{IsLawful};
 ghost use Rattle.signal_commands.specs.declared.mtc_read.TheConstants.{MAX_BYTES};
 ghost use Rattle.signal_commands.specs.declared.pcm_ltc.TheConstants.{MAX_SAMPLES};
+ghost use Rattle.signal_commands.specs.declared.wav_path.TheConstants.{MAX_PATH_SAMPLES};
 ghost use Rattle.signal_commands.specs.MtcRead.{along_midi};
 ghost use Rattle.signal_commands.specs.PcmLtc.{along_samples, told_pcm_ltc};
 ghost use Rattle.signal_commands.specs.PcmPath.{along_path, told_pcm_path};
 ghost use Rattle.signal_commands.specs.VitcRead.{along_fields};
 ghost use Rattle.signal_commands.specs.WavLtc.{along_sound_file};
+ghost use Rattle.signal_commands.specs.WavPath.{along_track_path};
 
 use line_file::laws::{
     answers_of_a_front_come_first, bytes_have_answers, bytes_have_one_list_of_answers,
@@ -20,7 +23,8 @@ use line_file::laws::{
 use mtc_reader::laws::earlier_events_stay;
 use path_front::laws::{a_sound_has_one_list_of_intervals, what_samples_bring_so_far_comes_first};
 use pcm_front::laws::intervals_of_a_front_come_first;
-use wave_file::laws::what_a_sound_file_shows_stays;
+use tc_job::laws::a_sound_file_has_steps_from_its_least_rate_on;
+use wave_file::laws::{the_rate_of_a_format_is_judged, what_a_sound_file_shows_stays};
 
 /// Each of them is a command as any other: what it writes there is, comes first and is one, and what bytes
 /// show stays.
@@ -30,12 +34,15 @@ pub fn each_signal_makes_a_command()
     ensures tracks { (slicing : SlicesWave) → IsCommand (along_sound_file slicing) }
     ensures fields { IsCommand along_fields }
     ensures paths { (path : SlicesPath) → IsCommand (along_path path) }
+    ensures track_paths { (path : SlicesTrackPath) → IsCommand (along_track_path path) }
 {
     a_sound_has_one_list_of_intervals();
     what_samples_bring_so_far_comes_first();
     earlier_events_stay();
     intervals_of_a_front_come_first();
     what_a_sound_file_shows_stays();
+    the_rate_of_a_format_is_judged();
+    a_sound_file_has_steps_from_its_least_rate_on();
     answers_of_a_front_come_first();
     bytes_have_answers();
     bytes_have_one_list_of_answers();
@@ -64,4 +71,9 @@ pub fn mtc_read_has_this_limit()
 /// `pcm-ltc` takes a thousand million samples, and no more.
 pub fn pcm_ltc_has_this_limit()
     ensures { MAX_SAMPLES ≡ 1000000000 }
+{}
+
+/// `wav-ltc .. path` takes 2 to the 37th samples, and no more.
+pub fn wav_path_has_this_limit()
+    ensures { MAX_PATH_SAMPLES ≡ 2 ^ 37 }
 {}

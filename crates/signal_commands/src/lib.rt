@@ -4,8 +4,8 @@
 //! What this crate promises, for all sources and sinks:
 //! - `pcm-ltc` writes the interval file of the distances between the crossings of the samples
 //!   (`specs/PcmLtc.antt`), `wav-ltc` the same of a track of a sound file, whose first interval runs from
-//!   the first sample (`specs/WavLtc.antt`), and with `path` that of the cells of the best path through the sound
-//!   (`specs/PcmPath.antt`), the first two in pieces as they pass where the words say `live`,
+//!   the first sample (`specs/WavLtc.antt`), and with `path` both that of the cells of the best path through the
+//!   sound (`specs/PcmPath.antt`, `specs/WavPath.antt`), the first two in pieces as they pass where the words say `live`,
 //!   `mtc-read` a line for each label in the bytes (`specs/MtcRead.antt`), and
 //!   `vitc-read` a line for each field of a line file (`specs/VitcRead.antt`).
 //! - What was sent is what `mtc-read` reads (`ReadsWhatWasSent`). A line of `vitc-read` says whose lines the
@@ -14,20 +14,24 @@
 //! - Each is a command as any other (`laws`): what it writes comes first, there is one output of an input,
 //!   and what bytes show stays.
 //!
-//! Read `pcm_ltc`, `pcm_path`, `wav_ltc`, `mtc_read` and `vitc_read`, each by itself.
+//! Read `pcm_ltc`, `wav_ltc`, `mtc_read` and `vitc_read`, each by itself, and `path_sound`, `pcm_path` and
+//! `wav_path`.
 #![tactic(auto)]
 
 pub mod laws;
 mod mtc_read;
+mod path_sound;
 mod pcm_ltc;
 mod pcm_path;
 mod spelling;
 mod stopping;
 mod vitc_read;
 mod wav_ltc;
+mod wav_path;
 
 pub use mtc_read::{MAX_BYTES, midi_is_lawful, read_midi};
 pub use pcm_ltc::{MAX_SAMPLES, slice_sound};
 pub use pcm_path::hear_path;
 pub use vitc_read::{fields_are_lawful, read_fields};
 pub use wav_ltc::{slice_track, sliced_tracks_are_lawful};
+pub use wav_path::{MAX_PATH_SAMPLES, hear_track};

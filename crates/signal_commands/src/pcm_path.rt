@@ -1,28 +1,23 @@
 //! The engine of `pcm-ltc .. path`: an interval file of the cells of the best path through a sound. Read next:
-//! `path_front/src/front.rt`, and then `tc_command/src/gathered.rt`.
-ghost use Rattle.std.specs.Prelude.{◌≡◌, ◌+◌, ◌<◌, ◌++◌, [], OnErr, OnOk, IfErr, Err, List, ℕ, ℤ};
+//! `path_sound`.
+ghost use Rattle.std.specs.Prelude.{◌≡◌, ◌+◌, ◌<◌, ◌++◌, [], OnErr, OnOk, IfErr, Err, List, ℕ};
 ghost use Rattle.std.specs.Io.KnownBytes.{Appends};
 ghost use Rattle.tc_command.specs.Causes.{HasOutCause};
 ghost use Rattle.tc_command.specs.Stops.{Stops};
 ghost use Rattle.tc_command.specs.Told.{IsTold, WorksAsTold};
-ghost use Rattle.path_front.specs.Front.{FrontStandsFor, GoesOn, IsFrontSettled};
 ghost use Rattle.pcm_front.specs.Samples.{samples_of};
-ghost use Rattle.signal_commands.specs.KeptPath.{FailsAtEnd, HasFailed, HasGatheredAll, Hears, IsGoing, Stands};
-ghost use Rattle.signal_commands.specs.PcmPath.{along_path, told_pcm_path, IsPathFile};
+ghost use Rattle.signal_commands.specs.KeptPath.{Hears, IsGoing, Stands};
+ghost use Rattle.signal_commands.specs.PcmPath.{along_path, told_pcm_path};
 ghost use Rattle.signal_commands.specs.declared.pcm_ltc.TheConstants.{MAX_SAMPLES};
 
 use crate::laws::paths_are_lawful;
+use crate::path_sound::PathSound;
 use crate::pcm_ltc::MAX_SAMPLES;
 use crate::stopping::push_before;
 use byteorder::{ByteOrder, LittleEndian};
-use interval_file::{FileVersion, IntervalHeader, four_bytes, interval_header};
-use path_front::Front;
-use path_front::laws::{
-    a_sound_has_one_list_of_intervals, the_intervals_of_a_sound_last_as_long,
-    what_is_given_comes_first, what_samples_bring_so_far_comes_first,
-};
+use path_front::laws::{a_sound_has_one_list_of_intervals, the_intervals_of_a_sound_last_as_long};
 use pcm_front::laws::bytes_are_those_of_their_samples;
-use tc_command::{Engine, Gathered, InputFault, Stop, work};
+use tc_command::{Engine, InputFault, Stop, work};
 use tc_io::{Sink, Source};
 use tc_job::PathSlicing;
 
@@ -38,7 +33,7 @@ pub fn hear_path<S: Source, K: Sink>(
         out.old out.new result }
 {
     a_path_is_told(path);
-    work(&mut PathSound::new(path), source, out)
+    work(&mut PcmSound::new(path), source, out)
 }
 
 /// What is told of `pcm-ltc .. path` holds: the intervals last as long as the steps of the samples.
@@ -52,57 +47,28 @@ fn a_path_is_told(path: &PathSlicing)
     let _ticks = path.ticks();
 }
 
-/// Sound on its way into the cells of its best path.
+/// Samples on their way into the cells of their best path.
 #[derive(Drop)]
-struct PathSound {
-    path: PathSlicing,
-    front: Front,
+struct PcmSound {
+    sound: PathSound,
     /// Whole samples so far.
     samples: u64,
     /// The first byte of a sample, where a pull ended behind it.
     half: Option<u8>,
-    gathered: Gathered,
 }
 
-impl PathSound {
-    /// Before the first sample. The header stands already.
-    fn new(path: &PathSlicing) -> PathSound
-        ensures path { result.path ≡ path.now }
+impl PcmSound {
+    /// Before the first sample.
+    fn new(path: &PathSlicing) -> PcmSound
+        ensures path { result.sound.path ≡ path.now }
         ensures going { IsGoing result }
         ensures stands { Stands result [] [] }
     {
-        let header = interval_header(&IntervalHeader {
-            version: FileVersion::One,
-            system: path.system(),
-            tick_rate: path.tick_rate(),
-        });
-        PathSound {
-            path: *path,
-            front: Front::new(path.grid(), path.ticks(), path.least()),
+        PcmSound {
+            sound: PathSound::new(path),
             samples: 0,
             half: None,
-            gathered: Gathered::holding(&header),
         }
-    }
-
-    /// Gathers all intervals that the front has.
-    fn gather<K: Sink>(&mut self, out: &mut K) -> Result<(), Stop>
-        ensures all { OnOk result ((samples : List ℤ) (given : List ℕ) → FrontStandsFor self.old.front samples given
-            → HasGatheredAll self.old self.new (K.written out.old) (K.written out.new) samples given) }
-        ensures failed { OnErr result ((samples : List ℤ) (given : List ℕ) → FrontStandsFor self.old.front samples given
-            → HasFailed self.old self.new (K.written out.old) (K.written out.new) samples given) }
-        ensures why { IfErr result (λ stop. stop ≡ Stop.WriteFault) }
-        ensures settled { OnOk result (IsFrontSettled self.new.front) }
-        ensures goes { GoesOn self.old.front self.new.front }
-        ensures path { self.new.path ≡ self.old.path }
-        ensures samples { self.new.samples ≡ self.old.samples }
-        ensures half { self.new.half ≡ self.old.half }
-        ensures cause { HasOutCause (K.faults out.old) (K.faults out.new) result }
-    {
-        'due: while let Some(interval) = self.front.next() {
-            self.gathered.put(&four_bytes(interval), out)?;
-        }
-        Ok(())
     }
 
     /// Takes the sample of two bytes.
@@ -111,22 +77,19 @@ impl PathSound {
         requires room { self.old.samples < MAX_SAMPLES }
         ensures going { OnOk result (IsGoing self.new) }
         ensures samples { OnOk result (self.new.samples ≡ self.old.samples + 1) }
-        ensures path { self.new.path ≡ self.old.path }
+        ensures path { self.new.sound.path ≡ self.old.sound.path }
         ensures half { self.new.half ≡ self.old.half }
         ensures works { OnOk result ((whole written : List ℕ) → Hears self.old whole written
             → (more : List ℕ) × Appends (K.written out.old) (K.written out.new) more
             × Hears self.new (whole ++ pair) (written ++ more)) }
         ensures stops { IfErr result (λ stop. (whole written rest : List ℕ) → Hears self.old whole written
-            → Stops (along_path self.old.path) stop (K.written out.old) (K.written out.new)
+            → Stops (along_path self.old.sound.path) stop (K.written out.old) (K.written out.new)
             (whole ++ (pair ++ rest)) written) }
         ensures cause { HasOutCause (K.faults out.old) (K.faults out.new) result }
         ensures no_pull { result ≡ Err Stop.ReadFault → ⊥ }
     {
-        what_is_given_comes_first();
-        what_samples_bring_so_far_comes_first();
-        self.front.feed(LittleEndian::read_i16(&pair));
         self.samples += 1;
-        self.gather(out)
+        self.sound.hear(LittleEndian::read_i16(&pair), out)
     }
 
     /// The same, where one more may come.
@@ -134,43 +97,25 @@ impl PathSound {
         requires going { IsGoing self.old }
         ensures going { OnOk result (IsGoing self.new) }
         ensures samples { OnOk result (self.new.samples ≡ self.old.samples + 1) }
-        ensures path { self.new.path ≡ self.old.path }
+        ensures path { self.new.sound.path ≡ self.old.sound.path }
         ensures half { self.new.half ≡ self.old.half }
         ensures works { OnOk result ((whole written : List ℕ) → Hears self.old whole written
             → (more : List ℕ) × Appends (K.written out.old) (K.written out.new) more
             × Hears self.new (whole ++ pair) (written ++ more)) }
         ensures stops { IfErr result (λ stop. (whole written rest : List ℕ) → Hears self.old whole written
-            → Stops (along_path self.old.path) stop (K.written out.old) (K.written out.new)
+            → Stops (along_path self.old.sound.path) stop (K.written out.old) (K.written out.new)
             (whole ++ (pair ++ rest)) written) }
         ensures cause { HasOutCause (K.faults out.old) (K.faults out.new) result }
         ensures no_pull { result ≡ Err Stop.ReadFault → ⊥ }
     {
         if self.samples == MAX_SAMPLES {
-            return Err(push_before(Stop::Limit, &mut self.gathered, out));
+            return Err(push_before(Stop::Limit, &mut self.sound.gathered, out));
         }
         self.hear(pair, out)
     }
-
-    /// Ends the sound, and pushes the intervals of its last cells.
-    fn end<K: Sink>(&mut self, out: &mut K) -> Result<(), Stop>
-        requires going { IsGoing self.old }
-        ensures ends { OnOk result ((bytes written : List ℕ) → Stands self.old bytes written
-            → (more : List ℕ) × Appends (K.written out.old) (K.written out.new) more
-            × IsPathFile self.old.path (samples_of bytes) (written ++ more)) }
-        ensures fails { OnErr result ((bytes written : List ℕ) → Stands self.old bytes written
-            → FailsAtEnd self.old.path (K.written out.old) (K.written out.new) bytes written) }
-        ensures why { IfErr result (λ stop. stop ≡ Stop.WriteFault) }
-        ensures cause { HasOutCause (K.faults out.old) (K.faults out.new) result }
-    {
-        what_is_given_comes_first();
-        what_samples_bring_so_far_comes_first();
-        self.front.finish();
-        self.gather(out)?;
-        self.gathered.push(out)
-    }
 }
 
-impl Engine for PathSound {
+impl Engine for PcmSound {
     ghost use Rattle.std.specs.Prelude.{◌-◌, ◌+◌, ◌*◌, ◌≡◌, [], length};
     ghost use Rattle.std.specs.Option.{option_to_list};
     ghost use Rattle.signal_commands.specs.KeptPath.{IsGoing, Stands, stands_well};
@@ -181,13 +126,13 @@ impl Engine for PathSound {
 
     ghost meaning = { λ path. along_path path };
 
-    ghost choice = { λ s. s.path };
+    ghost choice = { λ s. s.sound.path };
 
     ghost is_going = { λ s. IsGoing s };
 
     ghost stands = { λ s bytes written. Stands s bytes written };
 
-    ghost is_settled = { λ s. s.gathered.room.items ≡ [] };
+    ghost is_settled = { λ s. s.sound.gathered.room.items ≡ [] };
 
     ghost budget = { λ s. 2 * MAX_SAMPLES + 1 - (2 * s.samples + length (option_to_list s.half)) };
 
@@ -208,13 +153,13 @@ impl Engine for PathSound {
     }
 
     fn flush<K: Sink>(&mut self, out: &mut K) -> Result<(), Stop> {
-        self.gathered.push(out)
+        self.sound.gathered.push(out)
     }
 
     fn finish<K: Sink>(&mut self, out: &mut K) -> Result<(), Stop> {
         match self.half {
             Some(_) => Err(Stop::Refused(InputFault::HalfSample(2 * self.samples + 1))),
-            None => self.end(out),
+            None => self.sound.end(out),
         }
     }
 }

@@ -13,7 +13,7 @@ ghost use Rattle.tc_command.specs.Stops.{Stops};
 ghost use Rattle.wave_file.specs.Format.{IsTakenFor};
 ghost use Rattle.wave_file.specs.StandsFor.{bytes_taken};
 ghost use Rattle.signal_commands.specs.KeptTrack.{AreDue, IsGoing, Stands, pace_in};
-ghost use Rattle.signal_commands.specs.WavLtc.{along_sound_file, track_header};
+ghost use Rattle.signal_commands.specs.WavLtc.{along_sound_file, asked_by, track_header};
 ghost use Rattle.interval_file.specs.IntervalHeader.{header_bytes};
 ghost use Rattle.tc_command.specs.Told.{IsLawful, IsTold, WorksAsTold};
 ghost use Rattle.signal_commands.specs.WavLtc.{told_wav_ltc};
@@ -29,7 +29,7 @@ use tc_command::{Engine, Gathered, InputFault, Stop, work};
 use tc_io::{Sink, Source};
 use tc_job::WaveSlicing;
 use wave_file::laws::{a_file_is_read_as_it_was_written, samples_are_few_and_behind_a_format};
-use wave_file::{Taken, WaveDecoder, WaveFormat};
+use wave_file::{Asked, MAX_SAMPLES, Taken, WaveDecoder, WaveFormat};
 
 /// So many ticks has a sample.
 const TICKS: u32 = 16;
@@ -88,7 +88,11 @@ impl SlicedTrack {
     {
         SlicedTrack {
             slicing: *slicing,
-            decoder: WaveDecoder::new(slicing.track()),
+            decoder: WaveDecoder::new(Asked {
+                track: slicing.track(),
+                least_rate: 1,
+                most_samples: MAX_SAMPLES,
+            }),
             slicer: Slicer::from_the_start(TICKS, slicing.threshold(), slicing.smooth()),
             room: [0; ROOM],
             gathered: Gathered::holding(&[]),
@@ -158,7 +162,7 @@ impl SlicedTrack {
 
     /// The header of the interval file.
     fn header(&self, format: &WaveFormat) -> [u8; 12]
-        requires { IsTakenFor self.now.decoder.track format.now }
+        requires { IsTakenFor self.now.decoder.asked format.now }
         ensures { result ≡ header_bytes (track_header self.now.slicing format.now) }
     {
         interval_header(&IntervalHeader {
@@ -171,7 +175,7 @@ impl SlicedTrack {
 
 /// When the intervals of a distance are written. Before the data have begun there is none.
 fn pace_in(slicing: &WaveSlicing, format: Option<WaveFormat>) -> Pace
-    requires { IfSome format (λ format. IsTakenFor slicing.now.track format) }
+    requires { IfSome format (λ format. IsTakenFor (asked_by slicing.now) format) }
     ensures value { result ≡ pace_in slicing.now format }
     ensures valid { IsPace result }
 {

@@ -2,7 +2,7 @@
 ghost use Rattle.std.specs.Prelude.{◌≤◌};
 
 use arrayvec::ArrayVec;
-use wave_file::{Taken, WaveDecoder, WaveFault, WaveFormat};
+use wave_file::{Asked, MAX_SAMPLES, Taken, WaveDecoder, WaveFault, WaveFormat};
 
 /// Eight samples of 8 bits, by `sox -n -r 8000 -c 1 -b 8 out.wav synth 0.001 sine 1000`.
 const SOX_EIGHT: &[u8] =
@@ -56,7 +56,11 @@ fn read_in_pieces(track: u32, bytes: &[u8], piece: usize, by_runs: bool) -> Told
     requires most { track ≤ 64 }
     requires piece { piece ≤ 1_000 }
 {
-    let mut decoder = WaveDecoder::new(track);
+    let mut decoder = WaveDecoder::new(Asked {
+        track,
+        least_rate: 1,
+        most_samples: MAX_SAMPLES,
+    });
     let mut format = None;
     let mut samples = ArrayVec::new();
     let mut at = 0;

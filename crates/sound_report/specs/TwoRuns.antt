@@ -23,6 +23,7 @@ use Rattle.tc_words.specs.Words.{answer_to}
 use Rattle.wave_file.specs.declared.format.WaveFormat.{WaveFormat}
 use Rattle.wave_file.specs.Wave.{reading_of}
 use Rattle.sound_report.specs.Whole.{AreWhole}
+use Rattle.signal_commands.specs.WavLtc.{asked_by}
 
 -- ---- the runs
 
@@ -63,10 +64,10 @@ pub record SoundsWords (profile : Profile) (s : Slices) (tape : List Cell) (word
 -- the same of a track of a sound file, where the tape begins behind a silence
 pub record TrackSoundsWords (profile : Profile) (w : SlicesWave) (format : WaveFormat) (tape : List Cell)
     (words : List Played) (file : List ℕ) : Type 0 where
-  pub is : (reading_of w.track file).format ≡ Some format
-  pub margin : HasMargin profile 16 w.threshold tape (sums w.smooth (reading_of w.track file).samples)
+  pub is : (reading_of (asked_by w) file).format ≡ Some format
+  pub margin : HasMargin profile 16 w.threshold tape (sums w.smooth (reading_of (asked_by w) file).samples)
   pub late : BeginsLate margin.delay margin.start tape
   pub fits : FitsBehindASilence margin.delay margin.start tape
-  pub whole : AreWhole w.live w.system (16 * format.rate) (track_settings w) (reading_of w.track file).samples
+  pub whole : AreWhole w.live w.system (16 * format.rate) (track_settings w) (reading_of (asked_by w) file).samples
   pub begins : bits tape ≡ false ∷ true ∷ bits_of_words words
   pub spelled : AreSpelled w.system words

@@ -37,6 +37,7 @@ use tape_sound::laws::{
 };
 use tape_spans::laws::the_open_span_has_the_last_line;
 use wave_file::laws::the_rate_of_a_format_is_judged;
+ghost use Rattle.signal_commands.specs.WavLtc.{asked_by};
 
 /// `pcm-ltc` and then a report: of a sound whose sums have a margin for a tape, the report under the
 /// tolerance of that margin has a line for each word of the tape, and none beside. Its ticks run from the
@@ -62,15 +63,15 @@ pub fn what_is_sliced_of_a_margin_is_reported()
 /// beside. Its ticks run from the first sample.
 pub fn what_is_sliced_of_a_track_is_reported()
     ensures { (profile : Profile) (w : SlicesWave) (format : WaveFormat) (tape : List Cell) (words : List Played)
-        (file written text : List ℕ) → (reading_of w.track file).format ≡ Some format
-        → (margin : HasMargin profile 16 w.threshold tape (sums w.smooth (reading_of w.track file).samples))
+        (file written text : List ℕ) → (reading_of (asked_by w) file).format ≡ Some format
+        → (margin : HasMargin profile 16 w.threshold tape (sums w.smooth (reading_of (asked_by w) file).samples))
         → BeginsLate margin.delay margin.start tape → FitsBehindASilence margin.delay margin.start tape
-        → AreWhole w.live w.system (16 * format.rate) (track_settings w) (reading_of w.track file).samples
+        → AreWhole w.live w.system (16 * format.rate) (track_settings w) (reading_of (asked_by w) file).samples
         → bits tape ≡ false ∷ true ∷ bits_of_words words → AreSpelled w.system words
         → Meaning.output (along_sound_file w) file written
         → Meaning.output (along_intervals (report profile)) written text
         → ReportsWords (track_header w format) margin.delay (margin.start + duration (take 2 tape)) tape words
-        (distances_from_start 16 w.threshold (sums w.smooth (reading_of w.track file).samples)) text }
+        (distances_from_start 16 w.threshold (sums w.smooth (reading_of (asked_by w) file).samples)) text }
 {
     a_file_is_read_as_it_was_written();
     a_silence_before_the_tape_costs_no_word();
@@ -102,15 +103,15 @@ pub fn the_spans_of_a_margin_are_told()
 pub fn the_spans_of_a_track_are_told()
     ensures { (flight : Flight) (w : SlicesWave) (format : WaveFormat) (tape : List Cell) (words : List Played)
         (file written text : List ℕ) → flight.witness ≡ NotAsked
-        → (reading_of w.track file).format ≡ Some format
-        → (margin : HasMargin flight.profile 16 w.threshold tape (sums w.smooth (reading_of w.track file).samples))
+        → (reading_of (asked_by w) file).format ≡ Some format
+        → (margin : HasMargin flight.profile 16 w.threshold tape (sums w.smooth (reading_of (asked_by w) file).samples))
         → BeginsLate margin.delay margin.start tape → FitsBehindASilence margin.delay margin.start tape
-        → AreWhole w.live w.system (16 * format.rate) (track_settings w) (reading_of w.track file).samples
+        → AreWhole w.live w.system (16 * format.rate) (track_settings w) (reading_of (asked_by w) file).samples
         → bits tape ≡ false ∷ true ∷ bits_of_words words → AreSpelled w.system words
         → Meaning.output (along_sound_file w) file written
         → Meaning.output (along_intervals (spanned_recording flight)) written text
         → TellsSpans (track_header w format) flight margin.delay (margin.start + duration (take 2 tape)) tape words
-        (distances_from_start 16 w.threshold (sums w.smooth (reading_of w.track file).samples)) text }
+        (distances_from_start 16 w.threshold (sums w.smooth (reading_of (asked_by w) file).samples)) text }
 {
     a_file_is_read_as_it_was_written();
     a_silence_before_the_tape_costs_no_word();
@@ -165,14 +166,14 @@ pub fn the_words_of_a_track_come_out_of_two_runs()
         (file text : List ℕ) → (is : TrackSoundsWords profile w format tape words file)
         → Piped (Job.WavLtc w) (report_under profile) file text
         → ReportsWords (track_header w format) is.margin.delay (is.margin.start + duration (take 2 tape)) tape words
-        (distances_from_start 16 w.threshold (sums w.smooth (reading_of w.track file).samples)) text }
+        (distances_from_start 16 w.threshold (sums w.smooth (reading_of (asked_by w) file).samples)) text }
     ensures spans { (flight : Flight) (w : SlicesWave) (format : WaveFormat) (tape : List Cell) (words : List Played)
         (file text : List ℕ) → flight.witness ≡ NotAsked
         → (is : TrackSoundsWords flight.profile w format tape words file)
         → Piped (Job.WavLtc w) (Job.LtcSpans flight) file text
         → TellsSpans (track_header w format) flight is.margin.delay (is.margin.start + duration (take 2 tape)) tape
         words
-        (distances_from_start 16 w.threshold (sums w.smooth (reading_of w.track file).samples)) text }
+        (distances_from_start 16 w.threshold (sums w.smooth (reading_of (asked_by w) file).samples)) text }
     ensures one_span { (flight : Flight) (w : SlicesWave) (format : WaveFormat) (tape : List Cell) (first : Played)
         (more : List Played) (file text : List ℕ) → flight.witness ≡ NotAsked
         → (is : TrackSoundsWords flight.profile w format tape (first ∷ more) file)
@@ -180,7 +181,7 @@ pub fn the_words_of_a_track_come_out_of_two_runs()
         → Piped (Job.WavLtc w) (Job.LtcSpans flight) file text
         → TellsOneSpan (track_header w format) is.margin.delay (is.margin.start + duration (take 2 tape)) tape first
         more
-        (distances_from_start 16 w.threshold (sums w.smooth (reading_of w.track file).samples)) text }
+        (distances_from_start 16 w.threshold (sums w.smooth (reading_of (asked_by w) file).samples)) text }
 {
     what_is_sliced_of_a_track_is_reported();
     the_spans_of_a_track_are_told();

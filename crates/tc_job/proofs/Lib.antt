@@ -1,1 +1,2 @@
+mod EachRate
 pub mod FirstFit

@@ -8,4 +8,5 @@ pub mod PathGrid
 pub mod PathSlicing
 pub mod Slicing
 pub mod SoundLevel
+pub mod TrackPath
 pub mod WaveSlicing

@@ -8,6 +8,7 @@ use crate::path_slicing::PathSlicing;
 use crate::slicing::Slicing;
 use crate::sound_level::SoundLevel;
 use crate::stripe::Stripe;
+use crate::track_path::TrackPath;
 use crate::wave_slicing::WaveSlicing;
 use crate::witness::Witness;
 use interval_file::FileVersion;
@@ -65,6 +66,8 @@ pub enum Job {
     /// `wav-ltc SYSTEM TRACK THRESHOLD [SMOOTH [deep]]`: reads a sound file, and writes an interval file of
     /// the distances of the crossings of a track.
     WavLtc { slicing: WaveSlicing },
+    /// `wav-ltc SYSTEM TRACK THRESHOLD path`: the same of the cells of the best path through the track.
+    WavPath { path: TrackPath },
     /// `ltc-pcm LEVEL`: reads an interval file, and writes it as samples of sound.
     LtcPcm { level: SoundLevel },
     /// `vitc-read`: reads a line file, and writes a line for each field.

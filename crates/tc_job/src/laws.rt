@@ -1,5 +1,5 @@
 //! The limits that code and definitions share, how each command is typed, and a quarter of a frame.
-ghost use Rattle.std.specs.Prelude.{◌≡◌, ℕ, ◌-◌, ◌^◌, List, [], ◌∷◌, codes, map};
+ghost use Rattle.std.specs.Prelude.{◌≡◌, ℕ, ◌-◌, ◌^◌, ◌<◌, ◌≤◌, List, [], ◌∷◌, codes, map, Some, None};
 ghost use Rattle.tc_address.specs.declared.system.System.TheVariants.{F24, F25, F30};
 ghost use Rattle.tc_job.specs.declared.chase_run.TheConstants.{MAX_SLIP};
 ghost use Rattle.tc_job.specs.declared.load_run.TheConstants.{MAX_WORDS};
@@ -7,6 +7,8 @@ ghost use Rattle.tc_job.specs.declared.slicing.TheConstants.{MAX_FINENESS, MAX_L
 ghost use Rattle.tc_job.specs.declared.stripe.TheConstants.{MAX_FRAMES};
 ghost use Rattle.tc_job.specs.declared.usages.TheConstants.{USAGES};
 ghost use Rattle.tc_job.specs.Pace.{quarter_frame};
+ghost use Rattle.tc_job.specs.PathSlicing.{SlicesPath};
+ghost use Rattle.tc_job.specs.TrackPath.{least_rate_of, sound_of, SlicesTrackPath};
 
 /// A run makes a million frames at most, and a load run reads a hundred thousand words at most. A sample has 64
 /// ticks at most, and a size of 15 bits. A transport is told to slip by a thousand subframes at most.
@@ -29,8 +31,8 @@ pub fn each_command_is_typed_so()
         ∷ (codes "ltc-mtc", codes " LIMIT [worn|rough [firm]]")
         ∷ (codes "ltc-jam", codes " LIMIT CELL TICK-RATE [worn|rough [firm]]")
         ∷ (codes "ltc-convert", codes " VERSION")
-        ∷ (codes "pcm-ltc", codes " SYSTEM RATE THRESHOLD [FINENESS [path|follow|deep [SMOOTH]]] [live]")
-        ∷ (codes "wav-ltc", codes " SYSTEM TRACK THRESHOLD [SMOOTH [deep]] [live]")
+        ∷ (codes "pcm-ltc", codes " SYSTEM RATE THRESHOLD [FINENESS path | [FINENESS [follow|deep [SMOOTH]]] [live]]")
+        ∷ (codes "wav-ltc", codes " SYSTEM TRACK THRESHOLD [path | [SMOOTH [deep]] [live]]")
         ∷ (codes "ltc-pcm", codes " LEVEL")
         ∷ (codes "ltc-make", codes " COUNT DIRECTION LABEL FRAMES CELL TICK-RATE [TO-CELL STEP]")
         ∷ (codes "ltc-load", codes " SEED WORDS")
@@ -44,6 +46,13 @@ pub fn each_command_is_typed_so()
         ∷ (codes "help", codes "")
         ∷ (codes "version", codes "")
         ∷ [] }
+{}
+
+/// A sound file has steps from its least rate on, up to 6,250,000 samples a second, and below it none.
+pub fn a_sound_file_has_steps_from_its_least_rate_on()
+    ensures from { (t : SlicesTrackPath) (rate : ℕ) → least_rate_of t.system ≤ rate → rate ≤ 6_250_000
+        → (path : SlicesPath) × (sound_of t rate ≡ Some path) }
+    ensures below { (t : SlicesTrackPath) (rate : ℕ) → rate < least_rate_of t.system → sound_of t rate ≡ None }
 {}
 
 /// A quarter of a frame at 48,000 ticks a second; where it is less than a tick or longer than an interval, it is the

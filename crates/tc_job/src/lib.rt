@@ -7,8 +7,8 @@
 //! `specs/`, as `IsStripe` of `Stripe.antt`), and gives back what it was made of.
 //!
 //! Read `fault`, `job`, `stripe`, `flight`, `jam`, `chase_run`, `line_stripe`, `load_run`, `pace`, `slicing`,
-//! `path_grid`, `path_slicing`, `sound_level`, `wave_slicing` and `witness`, with `specs/` beside them, and
-//! `usages`, the table that `help` prints. Nothing here allocates or fails.
+//! `path_grid`, `path_slicing`, `track_path`, `sound_level`, `wave_slicing` and `witness`, with `specs/` beside
+//! them, and `usages`, the table that `help` prints. Nothing here allocates or fails.
 //!
 //! A later command joins in these places:
 //! - its job, a variant of `Job` (`job`), whose doc line begins with its word;
@@ -29,6 +29,7 @@ mod path_slicing;
 mod slicing;
 mod sound_level;
 mod stripe;
+mod track_path;
 pub mod usages;
 mod wave_slicing;
 mod witness;
@@ -45,5 +46,6 @@ pub use path_slicing::PathSlicing;
 pub use slicing::{MAX_FINENESS, MAX_LEVEL, Slicing};
 pub use sound_level::SoundLevel;
 pub use stripe::{MAX_FRAMES, Stripe};
+pub use track_path::TrackPath;
 pub use wave_slicing::WaveSlicing;
 pub use witness::Witness;

@@ -1,7 +1,8 @@
 //! How each command is typed, for the lines of help.
 
 /// The word of each command and what stands behind it in its line of `help`, a row a command. A word in capitals is a
-/// value, what stands in brackets may be left out, and of words with a bar between them one is given.
+/// value, what stands in brackets may be left out, and of words with a bar between them one is given, and so of ways
+/// with a bar between them.
 pub const USAGES: [(&str, &str); 22] = [
     ("ltc-read", ""),
     ("ltc-worn", ""),
@@ -13,9 +14,12 @@ pub const USAGES: [(&str, &str); 22] = [
     ("ltc-convert", " VERSION"),
     (
         "pcm-ltc",
-        " SYSTEM RATE THRESHOLD [FINENESS [path|follow|deep [SMOOTH]]] [live]",
+        " SYSTEM RATE THRESHOLD [FINENESS path | [FINENESS [follow|deep [SMOOTH]]] [live]]",
     ),
-    ("wav-ltc", " SYSTEM TRACK THRESHOLD [SMOOTH [deep]] [live]"),
+    (
+        "wav-ltc",
+        " SYSTEM TRACK THRESHOLD [path | [SMOOTH [deep]] [live]]",
+    ),
     ("ltc-pcm", " LEVEL"),
     (
         "ltc-make",

@@ -32,6 +32,7 @@ use Rattle.wave_file.specs.declared.format.WaveFormat.{WaveFormat}
 use Rattle.wave_file.specs.Wave.{reading_of}
 use Rattle.tc_top.specs.SoundAgain.{times, IsBehindTheFirst, IsSlicedAgain, SlicesFileTo}
 use Rattle.tc_command.specs.declared.input_fault.InputFault.TheVariants.{Intervals}
+use Rattle.signal_commands.specs.WavLtc.{asked_by}
 
 -- what the laws of the files, of samples and of sound say
 pub record SoundLaws : Type 0 where
@@ -67,7 +68,7 @@ all_intervals (x ∷ xs) are = ((are.0, are.1), all_intervals xs are.2)
 
 -- what is written of a track whose format is known
 file_written : (w : SlicesWave) (format : WaveFormat) (samples : List ℤ) (bytes : List ℕ)
-    → (reading_of w.track bytes).format ≡ Some format → (reading_of w.track bytes).samples ≡ samples
+    → (reading_of (asked_by w) bytes).format ≡ Some format → (reading_of (asked_by w) bytes).samples ≡ samples
     → track_of w bytes ≡ file_of (track_header w format) (intervals_at (track_pace w format) (track_settings w) samples)
 file_written w format samples bytes begins are =
     ap₂ (λ (f : Option WaveFormat) (l : List ℤ). track_file w f l) begins are

@@ -25,6 +25,7 @@ use Rattle.signal_commands.specs.PcmLtc.{told_pcm_ltc}
 use Rattle.signal_commands.specs.PcmPath.{told_pcm_path}
 use Rattle.signal_commands.specs.VitcRead.{told_vitc_read}
 use Rattle.signal_commands.specs.WavLtc.{told_wav_ltc}
+use Rattle.signal_commands.specs.WavPath.{told_wav_path}
 
 abbrev pub told_of : Job → Told
 told_of jobs.LtcRead = told_ltc_read Normal
@@ -43,6 +44,7 @@ told_of (jobs.LtcPcm level) = told_ltc_pcm level
 told_of (jobs.PcmLtc slicing) = told_pcm_ltc slicing
 told_of (jobs.PcmPath path) = told_pcm_path path
 told_of (jobs.WavLtc slicing) = told_wav_ltc slicing
+told_of (jobs.WavPath path) = told_wav_path path
 told_of jobs.MtcRead = told_mtc_read
 told_of jobs.VitcRead = told_vitc_read
 told_of (jobs.VitcMake stripe) = told_vitc_make stripe

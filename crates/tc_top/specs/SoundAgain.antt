@@ -17,6 +17,7 @@ use Rattle.tc_top.specs.Commands.{meaning_of}
 use Rattle.tc_command.specs.Meaning.{Meaning, IsInput}
 use Rattle.signal_commands.specs.PcmLtc.{sliced_header}
 use Rattle.signal_commands.specs.WavLtc.{track_header}
+use Rattle.signal_commands.specs.WavLtc.{asked_by}
 
 -- each interval, so many times as long
 abbrev pub times : ℕ → List ℕ → List ℕ
@@ -44,8 +45,8 @@ pub record SlicesFileTo (level : ℕ) (w : SlicesWave) (format : WaveFormat) (so
   pub some : 1 ≤ least
   pub most : least ≤ level
   pub half : level ≤ 2 * least
-  pub begins : (reading_of w.track bytes).format ≡ Some format
-  pub samples : (reading_of w.track bytes).samples ≡ samples_of sound
+  pub begins : (reading_of (asked_by w) bytes).format ≡ Some format
+  pub samples : (reading_of (asked_by w) bytes).samples ≡ samples_of sound
   pub output : Meaning.output (meaning_of (WavLtc w)) bytes written
 
 -- the intervals of a sound file, 16 times as long as those of the recording, stand behind the distance to its first

@@ -29,7 +29,7 @@ use made_commands::{
 };
 use signal_commands::laws::{paths_are_lawful, sliced_sound_is_lawful};
 use signal_commands::{
-    fields_are_lawful, hear_path, midi_is_lawful, read_fields, read_midi, slice_sound, slice_track,
+    fields_are_lawful, hear_path, hear_track, midi_is_lawful, read_fields, read_midi, slice_sound, slice_track,
     sliced_tracks_are_lawful,
 };
 use tc_command::{Status, Stop, push_note, stop_note};
@@ -133,6 +133,7 @@ fn work_on<S: Source, K: Sink>(job: &Job, source: &mut S, out: &mut K) -> Result
         Job::PcmLtc { slicing } => slice_sound(slicing, source, out),
         Job::PcmPath { path } => hear_path(path, source, out),
         Job::WavLtc { slicing } => slice_track(slicing, source, out),
+        Job::WavPath { path } => hear_track(path, source, out),
         Job::MtcRead => read_midi(source, out),
         Job::VitcRead => read_fields(source, out),
         Job::VitcMake { stripe } => make_lines(stripe, source, out),

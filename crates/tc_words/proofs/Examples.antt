@@ -3,7 +3,7 @@ use Rattle.std.proofs.Common.{◌≡◌, [], ◌∷◌, true, false, Some, None,
 use Rattle.pcm_front.specs.declared.threshold.Threshold.TheVariants.{Fixed, Follow, Deep}
 use Rattle.tc_address.specs.declared.count.Count.TheVariants.{C30, Drop30}
 use Rattle.tc_address.specs.declared.system.System.TheVariants.{F25, F30}
-use Rattle.tc_job.specs.declared.job.Job.TheVariants.{LtcRead, PcmLtc, WavLtc}
+use Rattle.tc_job.specs.declared.job.Job.TheVariants.{LtcRead, PcmLtc, WavLtc, WavPath}
 use Rattle.tc_job.specs.declared.job.Task.TheVariants.{Stream}
 use Rattle.tc_job.specs.declared.fault.WordsFault.TheVariants.{Dash, Command, CountOfWords, Value}
 use Rattle.tc_words.specs.Words.{answer_to}
@@ -12,7 +12,9 @@ use Rattle.tc_words.specs.Live.{before_live, ends_live}
 use Rattle.tc_words.specs.PcmLtc.{fineness_in, following_in, sliced}
 use Rattle.tc_words.specs.Values.{between, count_in, count_with_lines, number_spelled, system_in}
 use Rattle.tc_words.specs.WavLtc.{deep_in, sliced_track}
+use Rattle.tc_words.specs.WavPath.{path_of_track}
 use Rattle.tc_job.specs.Slicing.{slicing_of}
+use Rattle.tc_job.specs.TrackPath.{track_path_of}
 use Rattle.tc_job.specs.WaveSlicing.{wave_slicing_of}
 
 no_word : answer_to [] ≡ Err Command
@@ -123,3 +125,19 @@ a_live_track : wav_ltc (codes "25" ∷ codes "1" ∷ codes "9" ∷ codes "live" 
     ≡ Ok (WavLtc (wave_slicing_of F25 1 (Follow 9) 1 true))
 unfolding wav_ltc sliced_track system_in between number_spelled deep_in
 a_live_track = refl
+
+-- ---- the best path through a track
+
+a_path : wav_ltc (codes "25" ∷ codes "2" ∷ codes "250" ∷ codes "path" ∷ []) ≡ Ok (WavPath (track_path_of F25 2 250))
+unfolding wav_ltc path_of_track system_in between number_spelled
+a_path = refl
+
+-- nothing may stand behind `path`
+a_live_path : wav_ltc (codes "25" ∷ codes "2" ∷ codes "250" ∷ codes "path" ∷ codes "live" ∷ []) ≡ Err (Value 5)
+unfolding wav_ltc path_of_track system_in between number_spelled
+a_live_path = refl
+
+-- and it stands at the place of SMOOTH
+a_smooth_path : wav_ltc (codes "25" ∷ codes "2" ∷ codes "250" ∷ codes "2" ∷ codes "path" ∷ []) ≡ Err (Value 5)
+unfolding wav_ltc sliced_track system_in between number_spelled deep_in
+a_smooth_path = refl

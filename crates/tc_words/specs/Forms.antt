@@ -1,9 +1,9 @@
 -- The words that the form of a command makes, as `help` prints it: a word in capitals stands for a value, what stands
--- in brackets may be left out, and of words with a bar between them one is given. Behind `path` nothing is.
-use Rattle.std.specs.Prelude.{◌≡◌, ℕ, ◌==◌, Bool, true, false, not, ◌&&◌, ◌||◌, List, [], ◌∷◌, ◌++◌, codes, map}
+-- in brackets may be left out, of words with a bar between them one is given, and so of ways with ` | ` between them.
+use Rattle.std.specs.Prelude.{◌≡◌, ℕ, ◌==◌, Bool, true, false, not, ◌&&◌, List, [], ◌∷◌, ◌++◌, codes, map}
 use Rattle.std.specs.Prelude.{if◌then◌else◌}
-use Rattle.std.specs.Prelude.{drop, get_or, length, nat_lt, Option, Some, None}
-use Rattle.std.specs.List.{filter, flat_map, list_any, AllByRecursion}
+use Rattle.std.specs.Prelude.{drop, get_or, Option, Some, None}
+use Rattle.std.specs.List.{flat_map, list_any, AllByRecursion}
 use Rattle.std.specs.Result.{is_ok}
 use Rattle.std.specs.Str.{bytes_eq}
 use Rattle.tc_job.specs.declared.usages.TheConstants.{USAGES}
@@ -53,33 +53,57 @@ Ways = List (List Word)
 abbrev pub then_ways : Ways → Ways → Ways
 then_ways first next = flat_map (λ way. map (λ more. way ++ more) next) first
 
--- a form as it is read from its end: the letters of a word, the ways from there to the end of the innermost brackets,
--- and those behind these brackets, and behind those around them
+-- what is read of the ways in some brackets: from where it is read on to their end or to a bar, and those behind the bars
+pub record Part : Type 0 where
+  pub ways : Ways
+  pub others : Ways
+
+-- nothing yet
+abbrev pub no_part : Part
+no_part = record { ways = [] ∷ []; others = [] }
+
+-- the ways that it allows
+abbrev pub ways_in : Part → Ways
+ways_in part = part.ways ++ part.others
+
+-- a form as it is read from its end: the letters of a word, what is read of the innermost brackets, and of what stands
+-- behind these brackets, and behind those around them
 pub record FormRead : Type 0 where
   pub letters : Word
-  pub ways : Ways
-  pub behind : List Ways
+  pub part : Part
+  pub behind : List Part
 
 -- a whole word in front of some ways; no letters are no word
 abbrev pub before_ways : Word → Ways → Ways
 before_ways [] ways = ways
 before_ways word ways = then_ways (map (λ one. value_of one ∷ []) (between_bars word)) ways
 
+-- a bar by itself, in front of ways that may be taken instead
+abbrev pub before_bar : Part → Part
+before_bar part = record { ways = [] ∷ []; others = ways_in part }
+
 -- a word is whole
 abbrev pub with_word : FormRead → FormRead
-with_word r = record { letters = []; ways = before_ways r.letters r.ways; behind = r.behind }
+with_word r = record {
+  letters = [];
+  part = if bytes_eq r.letters (codes "|") then before_bar r.part
+      else record { ways = before_ways r.letters r.part.ways; others = r.part.others };
+  behind = r.behind;
+}
 
 -- brackets end here
 abbrev pub brackets_end : FormRead → FormRead
-brackets_end r = record { letters = []; ways = [] ∷ []; behind = r.ways ∷ r.behind }
+brackets_end r = record { letters = []; part = no_part; behind = r.part ∷ r.behind }
 
 -- they begin here: what is in them may be left out
 abbrev pub brackets_begin : FormRead → FormRead
-brackets_begin r = record {
-  letters = [];
-  ways = then_ways ([] ∷ r.ways) (get_or r.behind 0 ([] ∷ []));
-  behind = drop 1 r.behind;
-}
+brackets_begin r =
+    let behind = get_or r.behind 0 no_part in
+    record {
+      letters = [];
+      part = record { ways = then_ways ([] ∷ ways_in r.part) behind.ways; others = behind.others };
+      behind = drop 1 r.behind;
+    }
 
 -- one letter more, a space or a bracket
 abbrev pub with_letter : ℕ → FormRead → FormRead
@@ -90,12 +114,12 @@ with_letter letter r =
     else record r { letters = letter ∷ r.letters }
 
 unfoldable pub read_form : List ℕ → FormRead
-read_form [] = record { letters = []; ways = [] ∷ []; behind = [] }
+read_form [] = record { letters = []; part = no_part; behind = [] }
 read_form (letter ∷ more) = with_letter letter (read_form more)
 
 -- the words in each way that the form allows
 abbrev pub ways_of : List ℕ → Ways
-ways_of form = (with_word (read_form form)).ways
+ways_of form = ways_in (with_word (read_form form)).part
 
 -- ---- the table
 
@@ -108,16 +132,7 @@ abbrev pub are_once : List (Word × List ℕ) → Bool
 are_once [] = true
 are_once (row ∷ more) = not (list_any (λ other. bytes_eq row.0 other.0) more) && are_once more
 
--- something stands behind the word `path`, which the form does not tell: nothing may
-abbrev pub is_behind_path : List Word → Bool
-is_behind_path [] = false
-is_behind_path (word ∷ more) = (bytes_eq word (codes "path") && nat_lt 0 (length more)) || is_behind_path more
-
--- the words that a form makes
-abbrev pub made_by : List ℕ → Ways
-made_by form = filter (λ words. not (is_behind_path words)) (ways_of form)
-
 -- each way to make words by a form is taken by its command
 abbrev pub AreTaken : List (Word × List ℕ) → Type 0
 AreTaken table =
-    AllByRecursion (λ row. AllByRecursion (λ words. is_ok (task_of row.0 words) ≡ true) (made_by row.1)) table
+    AllByRecursion (λ row. AllByRecursion (λ words. is_ok (task_of row.0 words) ≡ true) (ways_of row.1)) table

@@ -9,4 +9,5 @@ pub mod PcmPath
 pub mod Usages
 pub mod Values
 pub mod WavLtc
+pub mod WavPath
 pub mod Words

@@ -26,6 +26,7 @@ use Rattle.tc_words.specs.Flight.{flight_in}
 use Rattle.tc_words.specs.LtcMake.{striped}
 use Rattle.tc_words.specs.PcmLtc.{sliced}
 use Rattle.tc_words.specs.PcmPath.{is_path, path_of_samples}
+use Rattle.tc_words.specs.WavPath.{is_track_path, path_of_track}
 use Rattle.tc_words.specs.Live.{before_live, ends_live}
 use Rattle.tc_words.specs.Values.{Word, between, count_in, count_with_lines, map_ok, number_spelled, numbered, read_or}
 use Rattle.tc_words.specs.Values.{tolerance_in, value_or, version_in, witness_in}
@@ -83,9 +84,8 @@ unfoldable pub ltc_convert : List Word → Result Job WordsFault
 ltc_convert (version ∷ []) = value_or 1 (version_in version) (λ v. Ok (jobs.LtcConvert v))
 ltc_convert _ = Err CountOfWords
 
--- `pcm-ltc SYSTEM RATE THRESHOLD [FINENESS [follow|deep [SMOOTH]]] [live]`: without the last words the ticks are
--- samples, the threshold stays where it is, each sample stands for itself, and a distance is written when it has ended.
--- Behind FINENESS `path` may stand, alone
+-- `pcm-ltc SYSTEM RATE THRESHOLD [FINENESS path | [FINENESS [follow|deep [SMOOTH]]] [live]]`: without the last words the ticks are
+-- samples, the threshold stays where it is, each sample stands for itself, and a distance is written when it has ended
 unfoldable pub pcm_ltc : List Word → Result Job WordsFault
 pcm_ltc (system ∷ rate ∷ threshold ∷ more) =
     if nat_lt 4 (length more) then Err CountOfWords
@@ -93,11 +93,12 @@ pcm_ltc (system ∷ rate ∷ threshold ∷ more) =
     else sliced system rate threshold (before_live more) (ends_live more)
 pcm_ltc _ = Err CountOfWords
 
--- `wav-ltc SYSTEM TRACK THRESHOLD [SMOOTH [deep]] [live]`: without the last words each sample stands for itself, the
+-- `wav-ltc SYSTEM TRACK THRESHOLD [path | [SMOOTH [deep]] [live]]`: without the last words each sample stands for itself, the
 -- threshold is at a half, and a distance is written when it has ended
 unfoldable pub wav_ltc : List Word → Result Job WordsFault
 wav_ltc (system ∷ track ∷ threshold ∷ more) =
     if nat_lt 3 (length more) then Err CountOfWords
+    else if is_track_path more then path_of_track system track threshold more
     else sliced_track system track threshold (before_live more) (ends_live more)
 wav_ltc _ = Err CountOfWords
 

@@ -13,7 +13,7 @@ pub fn each_command_has_its_usage()
 
 /// No command has two rows, and each way to make words by the form of a row is taken by its command: with a
 /// value for each word in capitals, with and without what stands in brackets, and with each of the words
-/// between bars; behind `path` nothing is given.
+/// and of the ways between bars.
 pub fn each_form_is_taken()
     ensures once { are_once rows ≡ true }
     ensures taken { AreTaken rows }

@@ -10,8 +10,8 @@
 //!
 //! Read `words` and `values`, with `specs/Words.antt` and `specs/Values.antt` beside them: `words` and
 //! `Words.antt` have the same rows. Behind them come the files of the commands of many words: `flight`,
-//! `ltc_chase`, `ltc_make`, `vitc_make`, `live`, `pcm_ltc`, `pcm_path` and `wav_ltc`. The tasks themselves
-//! stand in `tc_job`.
+//! `ltc_chase`, `ltc_make`, `vitc_make`, `live`, `pcm_ltc`, `pcm_path`, `wav_ltc` and `wav_path`. The tasks
+//! themselves stand in `tc_job`.
 //!
 //! A later command joins in these places, once it stands in `tc_job`:
 //! - its row in `job_of`, in `words` and in `specs/Words.antt`: its word, and `no_values` with its job where it
@@ -30,6 +30,7 @@ mod pcm_path;
 mod values;
 mod vitc_make;
 mod wav_ltc;
+mod wav_path;
 mod words;
 
 pub use words::read_words;

@@ -22,7 +22,8 @@ pub(crate) fn is_path(more: &[&str]) -> bool
     }
 }
 
-fn is_the_word(word: &str) -> bool
+/// Whether a word is `path`.
+pub(crate) fn is_the_word(word: &str) -> bool
     ensures { result ≡ bytes_eq word.now (codes "path") }
 {
     match word {

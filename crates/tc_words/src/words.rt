@@ -25,6 +25,7 @@ use crate::values::{
 };
 use crate::vitc_make::in_lines;
 use crate::wav_ltc::sliced_track;
+use crate::wav_path::{is_track_path, path_of_track};
 use biphase::{MAX_SHAPED, MIN_SHAPED};
 use command_words::CommandLine;
 use limits::MAX_TICK_RATE;
@@ -277,7 +278,7 @@ fn ltc_convert(values: &[&str]) -> Result<Job, WordsFault>
     Ok(Job::LtcConvert { version })
 }
 
-// `pcm-ltc SYSTEM RATE THRESHOLD [FINENESS [follow|deep [SMOOTH]]] [live]`, or `path` behind FINENESS
+// `pcm-ltc SYSTEM RATE THRESHOLD [FINENESS path | [FINENESS [follow|deep [SMOOTH]]] [live]]`
 #[tactic(auto, unfolding(crate::specs::Words::pcm_ltc))]
 fn pcm_ltc(values: &[&str]) -> Result<Job, WordsFault>
     ensures { result ≡ pcm_ltc (map (λ v. v.now) values.now) }
@@ -295,7 +296,7 @@ fn pcm_ltc(values: &[&str]) -> Result<Job, WordsFault>
     sliced(system, rate, threshold, more, live)
 }
 
-// `wav-ltc SYSTEM TRACK THRESHOLD [SMOOTH [deep]] [live]`
+// `wav-ltc SYSTEM TRACK THRESHOLD [path | [SMOOTH [deep]] [live]]`
 #[tactic(auto, unfolding(crate::specs::Words::wav_ltc))]
 fn wav_ltc(values: &[&str]) -> Result<Job, WordsFault>
     ensures { result ≡ wav_ltc (map (λ v. v.now) values.now) }
@@ -305,6 +306,9 @@ fn wav_ltc(values: &[&str]) -> Result<Job, WordsFault>
     };
     if more.len() > 3 {
         return Err(WordsFault::CountOfWords);
+    }
+    if is_track_path(more) {
+        return path_of_track(system, track, threshold, more);
     }
     let (more, live) = without_live(more);
     sliced_track(system, track, threshold, more, live)

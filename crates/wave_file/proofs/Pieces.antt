@@ -15,6 +15,7 @@ use Rattle.wave_file.specs.Chunk.{chunk_of}
 use Rattle.wave_file.specs.Stage.{width_of, IsPassed}
 use Rattle.wave_file.specs.declared.stage.Stage.TheVariants as stage
 use Rattle.wave_file.specs.Wave.{Reading, bad, chunk_at, chunks_at, format_at, judged_width, padded, piece, sizes_at, taken}
+use Rattle.wave_file.specs.declared.format.Asked.{Asked}
 
 -- two tests that hold together are one
 pub nat_le_same : (a b c d : ℕ) → (a ≤ b → c ≤ d) → (c ≤ d → a ≤ b) → nat_le a b ≡ nat_le c d
@@ -37,62 +38,62 @@ piece_whole width brings p more e =
     rw (there, front, behind) refl
 
 -- bytes of a chunk that are passed over
-pub chunks_skip : (track : ℕ) (notes : Notes) (bytes more : List ℕ) (skip after place : ℕ) → skip ≡ length bytes + after
-    → chunks_at track skip notes place (bytes ++ more) ≡ chunks_at track after notes (place + length bytes) more
+pub chunks_skip : (asked : Asked) (notes : Notes) (bytes more : List ℕ) (skip after place : ℕ) → skip ≡ length bytes + after
+    → chunks_at asked skip notes place (bytes ++ more) ≡ chunks_at asked after notes (place + length bytes) more
 unfolding chunks_at
-chunks_skip track notes [] more skip after place e =
+chunks_skip asked notes [] more skip after place e =
     let same : skip ≡ after = omega (arith, e) in
     let there : place + 0 ≡ place = omega arith in
     rw (same, there) refl
-chunks_skip track notes (b ∷ bytes) more zero after place e = absurd (omega (arith, e))
-chunks_skip track notes (b ∷ bytes) more (suc skip) after place e =
+chunks_skip asked notes (b ∷ bytes) more zero after place e = absurd (omega (arith, e))
+chunks_skip asked notes (b ∷ bytes) more (suc skip) after place e =
     let less : skip ≡ length bytes + after = omega (arith, e) in
     let there : (place + 1) + length bytes ≡ place + length (b ∷ bytes) = omega arith in
-    chunks_skip track notes bytes more skip after (place + 1) less ∙ ap (λ (n : ℕ). chunks_at track after notes n more) there
+    chunks_skip asked notes bytes more skip after (place + 1) less ∙ ap (λ (n : ℕ). chunks_at asked after notes n more) there
 
 -- the letters and the size of a chunk
-pub chunks_head : (track : ℕ) (notes : Notes) (place : ℕ) (head more : List ℕ) → length head ≡ 8
-    → chunks_at track 0 notes place (head ++ more) ≡ taken (chunk_of notes place (big_number 4 head) (little_number 4 (drop 4 head)))
-    (λ chunk. chunk_at track notes (place + 8) chunk (λ size notes. chunks_at track (padded size) notes (place + 8) more) more)
+pub chunks_head : (asked : Asked) (notes : Notes) (place : ℕ) (head more : List ℕ) → length head ≡ 8
+    → chunks_at asked 0 notes place (head ++ more) ≡ taken (chunk_of notes place (big_number 4 head) (little_number 4 (drop 4 head)))
+    (λ chunk. chunk_at asked notes (place + 8) chunk (λ size notes. chunks_at asked (padded size) notes (place + 8) more) more)
 unfolding chunks_at
-chunks_head track notes place (a ∷ b ∷ c ∷ d ∷ e ∷ f ∷ g ∷ h ∷ []) more len = refl
-chunks_head track notes place _ more len = absurd (omega (arith, len))
+chunks_head asked notes place (a ∷ b ∷ c ∷ d ∷ e ∷ f ∷ g ∷ h ∷ []) more len = refl
+chunks_head asked notes place _ more len = absurd (omega (arith, len))
 
 -- what letters and a size bring, by the chunk that they begin
-pub head_brings : (track : ℕ) (notes : Notes) (place : ℕ) (head more : List ℕ) (r : Result Chunk WaveFault) → length head ≡ 8
+pub head_brings : (asked : Asked) (notes : Notes) (place : ℕ) (head more : List ℕ) (r : Result Chunk WaveFault) → length head ≡ 8
     → chunk_of notes place (big_number 4 head) (little_number 4 (drop 4 head)) ≡ r
-    → chunks_at track 0 notes place (head ++ more) ≡ taken r
-    (λ chunk. chunk_at track notes (place + 8) chunk (λ size notes. chunks_at track (padded size) notes (place + 8) more) more)
-head_brings track notes place head more r len is = chunks_head track notes place head more len
+    → chunks_at asked 0 notes place (head ++ more) ≡ taken r
+    (λ chunk. chunk_at asked notes (place + 8) chunk (λ size notes. chunks_at asked (padded size) notes (place + 8) more) more)
+head_brings asked notes place head more r len is = chunks_head asked notes place head more len
     ∙ ap (λ (r : Result Chunk WaveFault). taken r
-    (λ chunk. chunk_at track notes (place + 8) chunk (λ size notes. chunks_at track (padded size) notes (place + 8) more) more)) is
+    (λ chunk. chunk_at asked notes (place + 8) chunk (λ size notes. chunks_at asked (padded size) notes (place + 8) more) more)) is
 
 -- the bytes of a format chunk that are judged, and its others
-pub format_brings : (track : ℕ) (notes : Notes) (place size : ℕ) (p more : List ℕ) (format : WaveFormat) → length p ≡ judged_width size
-    → format_in track place p ≡ Ok format
-    → format_at track notes place size (λ notes. chunks_at track (padded size) notes place (p ++ more)) (p ++ more)
-    ≡ chunks_at track (padded size - length p) (record notes { format = Some format }) (place + length p) more
-format_brings track notes place size p more format len is =
+pub format_brings : (asked : Asked) (notes : Notes) (place size : ℕ) (p more : List ℕ) (format : WaveFormat) → length p ≡ judged_width size
+    → format_in asked place p ≡ Ok format
+    → format_at asked notes place size (λ notes. chunks_at asked (padded size) notes place (p ++ more)) (p ++ more)
+    ≡ chunks_at asked (padded size - length p) (record notes { format = Some format }) (place + length p) more
+format_brings asked notes place size p more format len is =
     let judged = λ (r : Result WaveFormat WaveFault). taken r
-    (λ format. chunks_at track (padded size) (record notes { format = Some format }) place (p ++ more)) in
-    piece_whole (judged_width size) (λ body rest. judged (format_in track place body)) p more len ∙ ap judged is
-    ∙ chunks_skip track _ p more (padded size) (padded size - length p) place (omega (arith, len))
+    (λ format. chunks_at asked (padded size) (record notes { format = Some format }) place (p ++ more)) in
+    piece_whole (judged_width size) (λ body rest. judged (format_in asked place body)) p more len ∙ ap judged is
+    ∙ chunks_skip asked _ p more (padded size) (padded size - length p) place (omega (arith, len))
 
-pub format_refuses : (track : ℕ) (notes : Notes) (place size : ℕ) (p more : List ℕ) (f : WaveFault) → length p ≡ judged_width size
-    → format_in track place p ≡ Err f
-    → format_at track notes place size (λ notes. chunks_at track (padded size) notes place (p ++ more)) (p ++ more) ≡ bad f
-format_refuses track notes place size p more f len is =
+pub format_refuses : (asked : Asked) (notes : Notes) (place size : ℕ) (p more : List ℕ) (f : WaveFault) → length p ≡ judged_width size
+    → format_in asked place p ≡ Err f
+    → format_at asked notes place size (λ notes. chunks_at asked (padded size) notes place (p ++ more)) (p ++ more) ≡ bad f
+format_refuses asked notes place size p more f len is =
     let judged = λ (r : Result WaveFormat WaveFault). taken r
-    (λ format. chunks_at track (padded size) (record notes { format = Some format }) place (p ++ more)) in
-    piece_whole (judged_width size) (λ body rest. judged (format_in track place body)) p more len ∙ ap judged is
+    (λ format. chunks_at asked (padded size) (record notes { format = Some format }) place (p ++ more)) in
+    piece_whole (judged_width size) (λ body rest. judged (format_in asked place body)) p more len ∙ ap judged is
 
 -- the first bytes of a chunk of sizes, and its others
-pub sizes_bring : (track : ℕ) (notes : Notes) (place size : ℕ) (p more : List ℕ) → length p ≡ 16 → 16 ≤ size
-    → sizes_at notes (λ notes. chunks_at track (padded size) notes place (p ++ more)) (p ++ more)
-    ≡ chunks_at track (padded size - 16) (record notes { data_size = Some (little_number 8 (drop 8 p)) }) (place + length p) more
-sizes_bring track notes place size p more len least =
-    piece_whole 16 (λ body rest. chunks_at track (padded size) (record notes { data_size = Some (little_number 8 (drop 8 body)) }) place (p ++ more))
-    p more len ∙ chunks_skip track _ p more (padded size) (padded size - 16) place (omega (arith, len, least))
+pub sizes_bring : (asked : Asked) (notes : Notes) (place size : ℕ) (p more : List ℕ) → length p ≡ 16 → 16 ≤ size
+    → sizes_at notes (λ notes. chunks_at asked (padded size) notes place (p ++ more)) (p ++ more)
+    ≡ chunks_at asked (padded size - 16) (record notes { data_size = Some (little_number 8 (drop 8 p)) }) (place + length p) more
+sizes_bring asked notes place size p more len least =
+    piece_whole 16 (λ body rest. chunks_at asked (padded size) (record notes { data_size = Some (little_number 8 (drop 8 body)) }) place (p ++ more))
+    p more len ∙ chunks_skip asked _ p more (padded size) (padded size - 16) place (omega (arith, len, least))
 
 -- ---- what is passed over
 
@@ -108,9 +109,9 @@ chunk_passed skip count most after e some within = record {
   some = some;
   within = within;
   format = refl;
-  stays = λ track place is. tt;
+  stays = λ asked place is. tt;
   alone = chunk_alone skip (omega (arith, e, some));
   wait = chunk_wait after;
-  passes = λ track notes place bytes more len.
-      chunks_skip track notes bytes more skip after place (omega (arith, e, len)) ∙ ap (λ (n : ℕ). chunks_at track after notes (place + n) more) len;
+  passes = λ asked notes place bytes more len.
+      chunks_skip asked notes bytes more skip after place (omega (arith, e, len)) ∙ ap (λ (n : ℕ). chunks_at asked after notes (place + n) more) len;
 }

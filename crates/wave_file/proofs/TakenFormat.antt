@@ -6,6 +6,8 @@ use Rattle.std.proofs.lemmas.Nat.{mul-le}
 use Rattle.wave_file.specs.declared.fault.WaveFault.{WaveFault}
 use Rattle.wave_file.specs.declared.format.WaveFormat.{WaveFormat}
 use Rattle.wave_file.specs.Format.{field_fault, is_rate, is_sample_size, is_track_count, IsTakenFor}
+use Rattle.wave_file.specs.declared.format.Asked.{Asked}
+use Rattle.wave_file.specs.Format.{IsAsked}
 
 record Passes (a b c d e f : Bool) : Type 0 where
   tracks : b ≡ true
@@ -62,9 +64,9 @@ between tracks bits block a b c d e =
     let high = mul-le tracks bits 64 32 b d in
     (omega (arith, low, e), omega (arith, high, e))
 
-pub taken_for : (track place : ℕ) (pcm : Bool) (f : WaveFormat) → 1 ≤ track → field_fault track place pcm f ≡ None → IsTakenFor track f
-taken_for track place pcm f first none =
-    let p = passes pcm (is_track_count f.tracks) (is_rate f.rate) (8 * f.block == f.tracks * f.bits) (is_sample_size f.bits) (nat_lt f.tracks track)
+pub taken_for : (asked : Asked) (place : ℕ) (pcm : Bool) (f : WaveFormat) → IsAsked asked → field_fault asked place pcm f ≡ None → IsTakenFor asked f
+taken_for asked place pcm f first none =
+    let p = passes pcm (is_track_count f.tracks) (is_rate asked.least_rate f.rate) (8 * f.block == f.tracks * f.bits) (is_sample_size f.bits) (nat_lt f.tracks asked.track)
     _ _ _ _ _ _ none in
     let tracks = and_parts _ _ p.tracks in
     let rate = and_parts _ _ p.rate in
@@ -74,10 +76,11 @@ taken_for track place pcm f first none =
     let least = leb-true 1 f.tracks tracks.0 in
     let b = between f.tracks f.bits f.block least most s.least s.most same in
     record {
-      first = first;
-      among = ltb-false f.tracks track p.among;
+      first = first.first;
+      among = ltb-false f.tracks asked.track p.among;
       most = most;
-      rate_least = leb-true 1 f.rate rate.0;
+      rate_least = omega (arith, first.some_rate, leb-true asked.least_rate f.rate rate.0);
+      rate_asked = leb-true asked.least_rate f.rate rate.0;
       rate_most = leb-true f.rate 6_250_000 rate.1;
       bits_least = s.least;
       bits_most = s.most;

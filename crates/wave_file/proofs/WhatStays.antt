@@ -18,13 +18,14 @@ use Rattle.wave_file.specs.declared.chunk.TheConstants.{WAVE}
 use Rattle.wave_file.specs.declared.fault.WaveFault.{WaveFault}
 use Rattle.wave_file.specs.declared.fault.WaveFault.TheVariants as fault
 use Rattle.wave_file.specs.declared.format.WaveFormat.{WaveFormat}
-use Rattle.wave_file.specs.declared.stage.TheConstants.{MAX_BYTES, MAX_SAMPLES}
+use Rattle.wave_file.specs.declared.stage.TheConstants.{MAX_BYTES}
 use Rattle.wave_file.specs.Chunk.{chunk_of, form_of, no_notes}
 use Rattle.wave_file.specs.Format.{format_in, sample_in, samples_at}
 use Rattle.wave_file.specs.GoesOn.{GoesOn, IsWithin}
 use Rattle.wave_file.specs.Wave.{Reading, and_more, bad, behind_form, blocks_inside, bytes_inside, chunk_at, chunks_at}
 use Rattle.tc_io.specs.Verdict.{Verdict, good, refused, past_limit}
 use Rattle.wave_file.specs.Wave.{data_at, file_at, judged_width, padded, piece, reading_of, taken, unfinished}
+use Rattle.wave_file.specs.declared.format.Asked.{Asked}
 
 -- ---- a piece
 
@@ -76,21 +77,21 @@ more_blocks a b zero less = omega arith
 more_blocks a b (suc n) less = let whole = div-mul-le_self a (suc n) in le-div (a / suc n) b (suc n) (omega arith) (omega (arith, whole, less))
 
 -- the samples of the blocks that are there come first
-samples_first : (format : WaveFormat) (track count others : ℕ) (bytes more : List ℕ) → count ≤ others → count * format.block ≤ length bytes
-    → (rest : List ℤ) × (samples_at format track others (bytes ++ more) ≡ samples_at format track count bytes ++ rest)
+samples_first : (format : WaveFormat) (asked : Asked) (count others : ℕ) (bytes more : List ℕ) → count ≤ others → count * format.block ≤ length bytes
+    → (rest : List ℤ) × (samples_at format asked others (bytes ++ more) ≡ samples_at format asked count bytes ++ rest)
 unfolding samples_at
-samples_first format track zero others bytes more less there = (samples_at format track others (bytes ++ more), refl)
-samples_first format track (suc count) zero bytes more less there = absurd (omega (arith, less))
-samples_first format track (suc count) (suc others) bytes more less there =
+samples_first format asked zero others bytes more less there = (samples_at format asked others (bytes ++ more), refl)
+samples_first format asked (suc count) zero bytes more less there = absurd (omega (arith, less))
+samples_first format asked (suc count) (suc others) bytes more less there =
     let w = format.block in
     let one = suc-mul count w in
     let within : w ≤ length bytes = omega (arith, there, one) in
     let left = length-drop w bytes in
-    let rest = samples_first format track count others (drop w bytes) more (omega (arith, less)) (omega (arith, there, one, left)) in (
+    let rest = samples_first format asked count others (drop w bytes) more (omega (arith, less)) (omega (arith, there, one, left)) in (
       rest.0,
-      ap₂ (λ (block behind : List ℕ). sample_in format track block ∷ samples_at format track others behind)
+      ap₂ (λ (block behind : List ℕ). sample_in format asked block ∷ samples_at format asked others behind)
           (take-append-le w bytes more within) (drop-append-le w bytes more within)
-          ∙ ap (λ (l : List ℤ). sample_in format track (take w bytes) ∷ l) rest.1,
+          ∙ ap (λ (l : List ℤ). sample_in format asked (take w bytes) ∷ l) rest.1,
     )
 
 never_refused : (b : Bool) (f : WaveFault) → ¬ ((if b then good else past_limit) ≡ refused f)
@@ -101,9 +102,9 @@ is_past : (b : Bool) → if◌then◌else◌ {A = Verdict WaveFault} b good past
 is_past true e = absurd cc
 is_past false e = refl
 
-data_goes_on : (track : ℕ) (format : WaveFormat) (extent : Extent) (room : ℕ) (bytes more : List ℕ)
-    → GoesOn (data_at track format extent room bytes) (data_at track format extent room (bytes ++ more))
-data_goes_on track format extent room bytes more =
+data_goes_on : (asked : Asked) (format : WaveFormat) (extent : Extent) (room : ℕ) (bytes more : List ℕ)
+    → GoesOn (data_at asked format extent room bytes) (data_at asked format extent room (bytes ++ more))
+data_goes_on asked format extent room bytes more =
     let count = blocks_inside format extent bytes in
     let all = blocks_inside format extent (bytes ++ more) in
     let no_fewer : count ≤ all = more_blocks _ _ format.block (more_inside extent bytes more) in
@@ -114,7 +115,7 @@ data_goes_on track format extent room bytes more =
     let fewer = times_le (min room count) count format.block taken in omega (arith, fewer, whole, inside) in
     record {
       format = inr refl;
-      samples = samples_first format track (min room count) (min room all) bytes more (omega (arith, no_fewer)) fits;
+      samples = samples_first format asked (min room count) (min room all) bytes more (omega (arith, no_fewer)) fits;
       fault = λ f e. absurd (never_refused (nat_le count room) f e);
       limit = λ e.
           let past = leb-false count room (is_past (nat_le count room) e) in
@@ -132,56 +133,56 @@ data_goes_on track format extent room bytes more =
 -- ---- chunks
 
 -- the format in the bytes of a chunk, and what comes behind them; and the size of the data in the bytes of another
-abbrev format_brings : ℕ → Notes → ℕ → (Notes → Reading) → List ℕ → Reading
-format_brings track notes place next body = taken (format_in track place body) (λ format. next (record notes { format = Some format }))
+abbrev format_brings : Asked → Notes → ℕ → (Notes → Reading) → List ℕ → Reading
+format_brings asked notes place next body = taken (format_in asked place body) (λ format. next (record notes { format = Some format }))
 
 abbrev sizes_bring : Notes → (Notes → Reading) → List ℕ → Reading
 sizes_bring notes next body = next (record notes { data_size = Some (little_number 8 (drop 8 body)) })
 
 -- what a chunk begins, where the chunks behind its bytes go on
-chunk_goes_on : (track : ℕ) (notes : Notes) (place : ℕ) (chunk : Chunk) (next later : ℕ → Notes → Reading) (bytes more : List ℕ)
+chunk_goes_on : (asked : Asked) (notes : Notes) (place : ℕ) (chunk : Chunk) (next later : ℕ → Notes → Reading) (bytes more : List ℕ)
     → ((size : ℕ) (n : Notes) → GoesOn (next size n) (later size n))
-    → GoesOn (chunk_at track notes place chunk next bytes) (chunk_at track notes place chunk later (bytes ++ more))
-chunk_goes_on track notes place (chunk.Format size) next later bytes more behind =
-    piece_goes_on (judged_width size) (λ body rest. format_brings track notes place (next size) body)
-    (λ body rest. format_brings track notes place (later size) body) bytes more
-    (λ body rest. taken_goes_on (format_in track place body) (λ format. next size (record notes { format = Some format }))
+    → GoesOn (chunk_at asked notes place chunk next bytes) (chunk_at asked notes place chunk later (bytes ++ more))
+chunk_goes_on asked notes place (chunk.Format size) next later bytes more behind =
+    piece_goes_on (judged_width size) (λ body rest. format_brings asked notes place (next size) body)
+    (λ body rest. format_brings asked notes place (later size) body) bytes more
+    (λ body rest. taken_goes_on (format_in asked place body) (λ format. next size (record notes { format = Some format }))
     (λ format. later size (record notes { format = Some format })) (λ format. behind size (record notes { format = Some format })))
-chunk_goes_on track notes place (chunk.Sizes size) next later bytes more behind =
+chunk_goes_on asked notes place (chunk.Sizes size) next later bytes more behind =
     piece_goes_on 16 (λ body rest. sizes_bring notes (next size) body) (λ body rest. sizes_bring notes (later size) body) bytes more
     (λ body rest. behind size (record notes { data_size = Some (little_number 8 (drop 8 body)) }))
-chunk_goes_on track notes place (chunk.Data format extent) next later bytes more behind = data_goes_on track format extent MAX_SAMPLES bytes more
-chunk_goes_on track notes place (chunk.Other size) next later bytes more behind = behind size notes
+chunk_goes_on asked notes place (chunk.Data format extent) next later bytes more behind = data_goes_on asked format extent asked.most_samples bytes more
+chunk_goes_on asked notes place (chunk.Other size) next later bytes more behind = behind size notes
 
-chunks_go_on : (track skip : ℕ) (notes : Notes) (place : ℕ) (bytes more : List ℕ)
-    → GoesOn (chunks_at track skip notes place bytes) (chunks_at track skip notes place (bytes ++ more))
+chunks_go_on : (asked : Asked) (skip : ℕ) (notes : Notes) (place : ℕ) (bytes more : List ℕ)
+    → GoesOn (chunks_at asked skip notes place bytes) (chunks_at asked skip notes place (bytes ++ more))
 unfolding chunks_at
-chunks_go_on track (suc skip) notes place (byte ∷ bytes) more = chunks_go_on track skip notes (place + 1) bytes more
-chunks_go_on track zero notes place (a ∷ b ∷ c ∷ d ∷ e ∷ f ∷ g ∷ h ∷ bytes) more =
-    let next = λ (size : ℕ) (n : Notes). chunks_at track (padded size) n (place + 8) bytes in
-    let later = λ (size : ℕ) (n : Notes). chunks_at track (padded size) n (place + 8) (bytes ++ more) in
+chunks_go_on asked (suc skip) notes place (byte ∷ bytes) more = chunks_go_on asked skip notes (place + 1) bytes more
+chunks_go_on asked zero notes place (a ∷ b ∷ c ∷ d ∷ e ∷ f ∷ g ∷ h ∷ bytes) more =
+    let next = λ (size : ℕ) (n : Notes). chunks_at asked (padded size) n (place + 8) bytes in
+    let later = λ (size : ℕ) (n : Notes). chunks_at asked (padded size) n (place + 8) (bytes ++ more) in
     taken_goes_on (chunk_of notes place (big_number 4 (a ∷ b ∷ c ∷ d ∷ [])) (little_number 4 (e ∷ f ∷ g ∷ h ∷ [])))
-    (λ chunk. chunk_at track notes (place + 8) chunk next bytes) (λ chunk. chunk_at track notes (place + 8) chunk later (bytes ++ more))
-    (λ chunk. chunk_goes_on track notes (place + 8) chunk next later bytes more (λ size n. chunks_go_on track (padded size) n (place + 8) bytes more))
-chunks_go_on track skip notes place bytes more = unfinished_goes_on (chunks_at track skip notes place (bytes ++ more))
+    (λ chunk. chunk_at asked notes (place + 8) chunk next bytes) (λ chunk. chunk_at asked notes (place + 8) chunk later (bytes ++ more))
+    (λ chunk. chunk_goes_on asked notes (place + 8) chunk next later bytes more (λ size n. chunks_go_on asked (padded size) n (place + 8) bytes more))
+chunks_go_on asked skip notes place bytes more = unfinished_goes_on (chunks_at asked skip notes place (bytes ++ more))
 
 -- ---- the file
 
-file_goes_on : (track : ℕ) (bytes more : List ℕ) → GoesOn (file_at track bytes) (file_at track (bytes ++ more))
-file_goes_on track bytes more =
-    let brings = λ (letters rest : List ℕ). behind_form track (form_of (big_number 4 letters)) rest in
+file_goes_on : (asked : Asked) (bytes more : List ℕ) → GoesOn (file_at asked bytes) (file_at asked (bytes ++ more))
+file_goes_on asked bytes more =
+    let brings = λ (letters rest : List ℕ). behind_form asked (form_of (big_number 4 letters)) rest in
     piece_goes_on 4 brings brings bytes more (λ letters rest. by_form (form_of (big_number 4 letters)) rest)
   where
-    by_letters : (b is_long : Bool) (size : ℕ) (rest : List ℕ) → GoesOn (if b then chunks_at track 0 (no_notes is_long size) 12 rest else bad (fault.Wave 8))
-        (if b then chunks_at track 0 (no_notes is_long size) 12 (rest ++ more) else bad (fault.Wave 8))
-    by_letters true is_long size rest = chunks_go_on track 0 (no_notes is_long size) 12 rest more
+    by_letters : (b is_long : Bool) (size : ℕ) (rest : List ℕ) → GoesOn (if b then chunks_at asked 0 (no_notes is_long size) 12 rest else bad (fault.Wave 8))
+        (if b then chunks_at asked 0 (no_notes is_long size) 12 (rest ++ more) else bad (fault.Wave 8))
+    by_letters true is_long size rest = chunks_go_on asked 0 (no_notes is_long size) 12 rest more
     by_letters false is_long size rest = same_goes_on _
 
-    by_form : (form : Option Bool) (rest : List ℕ) → GoesOn (behind_form track form rest) (behind_form track form (rest ++ more))
+    by_form : (form : Option Bool) (rest : List ℕ) → GoesOn (behind_form asked form rest) (behind_form asked form (rest ++ more))
     by_form None rest = same_goes_on _
     by_form (Some is_long) rest =
         let brings = λ (wave rest : List ℕ). if big_number 4 (drop 4 wave) == WAVE
-        then chunks_at track 0 (no_notes is_long (little_number 4 wave)) 12 rest
+        then chunks_at asked 0 (no_notes is_long (little_number 4 wave)) 12 rest
         else bad (fault.Wave 8) in
         piece_goes_on 8 brings brings rest more (λ wave rest. by_letters (big_number 4 (drop 4 wave) == WAVE) is_long (little_number 4 wave) rest)
 
@@ -194,8 +195,8 @@ cut_goes_on r s goes = record {
   limit = λ e. ap and_more (goes.limit e);
 }
 
-pub reading_goes_on : (track : ℕ) (bytes more : List ℕ) → GoesOn (reading_of track bytes) (reading_of track (bytes ++ more))
-reading_goes_on track bytes more = go (cases_lt MAX_BYTES (length bytes)) (cases_lt MAX_BYTES (length (bytes ++ more)))
+pub reading_goes_on : (asked : Asked) (bytes more : List ℕ) → GoesOn (reading_of asked bytes) (reading_of asked (bytes ++ more))
+reading_goes_on asked bytes more = go (cases_lt MAX_BYTES (length bytes)) (cases_lt MAX_BYTES (length (bytes ++ more)))
   where
     within : (l : List ℕ) → length l ≤ MAX_BYTES → nat_le (length l) MAX_BYTES ≡ true
     within l e = le-leb (length l) MAX_BYTES e
@@ -204,15 +205,15 @@ reading_goes_on track bytes more = go (cases_lt MAX_BYTES (length bytes)) (cases
     over l e = lt-leb (length l) MAX_BYTES e
 
     go : (MAX_BYTES < length bytes) ⊎ (length bytes ≤ MAX_BYTES) → (MAX_BYTES < length (bytes ++ more)) ⊎ (length (bytes ++ more) ≤ MAX_BYTES)
-        → GoesOn (reading_of track bytes) (reading_of track (bytes ++ more))
-    go (inr few) (inr fewer) = rw (within bytes few, within (bytes ++ more) fewer) (file_goes_on track bytes more)
+        → GoesOn (reading_of asked bytes) (reading_of asked (bytes ++ more))
+    go (inr few) (inr fewer) = rw (within bytes few, within (bytes ++ more) fewer) (file_goes_on asked bytes more)
     go (inr few) (inl many) =
         let left = MAX_BYTES - length bytes in
         let limit : MAX_BYTES ≡ length bytes + left = omega (arith, few) in
         let cut : take MAX_BYTES (bytes ++ more) ≡ bytes ++ take left more =
         ap (λ (n : ℕ). take n (bytes ++ more)) limit ∙ take-append-add bytes more left in
         rw (within bytes few, over (bytes ++ more) many, cut)
-        (cut_goes_on (file_at track bytes) (file_at track (bytes ++ take left more)) (file_goes_on track bytes (take left more)))
+        (cut_goes_on (file_at asked bytes) (file_at asked (bytes ++ take left more)) (file_goes_on asked bytes (take left more)))
     go (inl much) (inl many) =
         let cut : take MAX_BYTES (bytes ++ more) ≡ take MAX_BYTES bytes = take-append-le MAX_BYTES bytes more (omega (arith, much)) in
         rw (over bytes much, over (bytes ++ more) many, cut) (same_goes_on _)
@@ -220,73 +221,73 @@ reading_goes_on track bytes more = go (cases_lt MAX_BYTES (length bytes)) (cases
 
 -- ---- how many samples, and behind which format
 
-length-samples : (format : WaveFormat) (track count : ℕ) (bytes : List ℕ) → length (samples_at format track count bytes) ≡ count
+length-samples : (format : WaveFormat) (asked : Asked) (count : ℕ) (bytes : List ℕ) → length (samples_at format asked count bytes) ≡ count
 unfolding samples_at
-length-samples format track zero bytes = refl
-length-samples format track (suc count) bytes = let rest = length-samples format track count (drop format.block bytes) in omega (arith, rest)
+length-samples format asked zero bytes = refl
+length-samples format asked (suc count) bytes = let rest = length-samples format asked count (drop format.block bytes) in omega (arith, rest)
 
-few_unfinished : IsWithin unfinished
-few_unfinished = record { few = omega arith; none = λ e. refl; ends = λ e. refl }
+few_unfinished : (asked : Asked) → IsWithin asked unfinished
+few_unfinished asked = record { few = omega arith; none = λ e. refl; ends = λ e. refl }
 
-few_bad : (f : WaveFault) → IsWithin (bad f)
-few_bad f = record { few = omega arith; none = λ e. refl; ends = λ e. refl }
+few_bad : (asked : Asked) (f : WaveFault) → IsWithin asked (bad f)
+few_bad asked f = record { few = omega arith; none = λ e. refl; ends = λ e. refl }
 
-few_in_piece : (width : ℕ) (brings : List ℕ → List ℕ → Reading) (bytes : List ℕ) → ((body rest : List ℕ) → IsWithin (brings body rest))
-    → IsWithin (piece width brings bytes)
-few_in_piece width brings bytes few = by_test (nat_le width (length bytes))
+few_in_piece : (asked : Asked) (width : ℕ) (brings : List ℕ → List ℕ → Reading) (bytes : List ℕ) → ((body rest : List ℕ) → IsWithin asked (brings body rest))
+    → IsWithin asked (piece width brings bytes)
+few_in_piece asked width brings bytes few = by_test (nat_le width (length bytes))
   where
-    by_test : (b : Bool) → IsWithin (if b then brings (take width bytes) (drop width bytes) else unfinished)
+    by_test : (b : Bool) → IsWithin asked (if b then brings (take width bytes) (drop width bytes) else unfinished)
     by_test true = few (take width bytes) (drop width bytes)
-    by_test false = few_unfinished
+    by_test false = few_unfinished asked
 
-few_taken : {A : Type 0} (r : Result A WaveFault) (next : A → Reading) → ((value : A) → IsWithin (next value)) → IsWithin (taken r next)
-few_taken (Ok value) next few = few value
-few_taken (Err f) next few = few_bad f
+few_taken : {A : Type 0} (asked : Asked) (r : Result A WaveFault) (next : A → Reading) → ((value : A) → IsWithin asked (next value)) → IsWithin asked (taken r next)
+few_taken asked (Ok value) next few = few value
+few_taken asked (Err f) next few = few_bad asked f
 
-few_in_chunk : (track : ℕ) (notes : Notes) (place : ℕ) (chunk : Chunk) (next : ℕ → Notes → Reading) (bytes : List ℕ)
-    → ((size : ℕ) (n : Notes) → IsWithin (next size n)) → IsWithin (chunk_at track notes place chunk next bytes)
-few_in_chunk track notes place (chunk.Format size) next bytes behind =
-    few_in_piece (judged_width size) (λ body rest. format_brings track notes place (next size) body) bytes
-    (λ body rest. few_taken (format_in track place body) (λ format. next size (record notes { format = Some format }))
+few_in_chunk : (asked : Asked) (notes : Notes) (place : ℕ) (chunk : Chunk) (next : ℕ → Notes → Reading) (bytes : List ℕ)
+    → ((size : ℕ) (n : Notes) → IsWithin asked (next size n)) → IsWithin asked (chunk_at asked notes place chunk next bytes)
+few_in_chunk asked notes place (chunk.Format size) next bytes behind =
+    few_in_piece asked (judged_width size) (λ body rest. format_brings asked notes place (next size) body) bytes
+    (λ body rest. few_taken asked (format_in asked place body) (λ format. next size (record notes { format = Some format }))
     (λ format. behind size (record notes { format = Some format })))
-few_in_chunk track notes place (chunk.Sizes size) next bytes behind =
-    few_in_piece 16 (λ body rest. sizes_bring notes (next size) body) bytes (λ body rest. behind size (record notes { data_size = Some (little_number 8 (drop 8 body)) }))
-few_in_chunk track notes place (chunk.Data format extent) next bytes behind =
-    let count = length-samples format track (min MAX_SAMPLES (blocks_inside format extent bytes)) bytes in
+few_in_chunk asked notes place (chunk.Sizes size) next bytes behind =
+    few_in_piece asked 16 (λ body rest. sizes_bring notes (next size) body) bytes (λ body rest. behind size (record notes { data_size = Some (little_number 8 (drop 8 body)) }))
+few_in_chunk asked notes place (chunk.Data format extent) next bytes behind =
+    let count = length-samples format asked (min asked.most_samples (blocks_inside format extent bytes)) bytes in
     record { few = omega (arith, count); none = λ e. absurd cc; ends = λ e. absurd cc }
-few_in_chunk track notes place (chunk.Other size) next bytes behind = behind size notes
+few_in_chunk asked notes place (chunk.Other size) next bytes behind = behind size notes
 
-few_in_chunks : (track skip : ℕ) (notes : Notes) (place : ℕ) (bytes : List ℕ) → IsWithin (chunks_at track skip notes place bytes)
+few_in_chunks : (asked : Asked) (skip : ℕ) (notes : Notes) (place : ℕ) (bytes : List ℕ) → IsWithin asked (chunks_at asked skip notes place bytes)
 unfolding chunks_at
-few_in_chunks track (suc skip) notes place (byte ∷ bytes) = few_in_chunks track skip notes (place + 1) bytes
-few_in_chunks track zero notes place (a ∷ b ∷ c ∷ d ∷ e ∷ f ∷ g ∷ h ∷ bytes) =
-    let next = λ (size : ℕ) (n : Notes). chunks_at track (padded size) n (place + 8) bytes in
-    few_taken (chunk_of notes place (big_number 4 (a ∷ b ∷ c ∷ d ∷ [])) (little_number 4 (e ∷ f ∷ g ∷ h ∷ [])))
-    (λ chunk. chunk_at track notes (place + 8) chunk next bytes)
-    (λ chunk. few_in_chunk track notes (place + 8) chunk next bytes (λ size n. few_in_chunks track (padded size) n (place + 8) bytes))
-few_in_chunks track skip notes place bytes = few_unfinished
+few_in_chunks asked (suc skip) notes place (byte ∷ bytes) = few_in_chunks asked skip notes (place + 1) bytes
+few_in_chunks asked zero notes place (a ∷ b ∷ c ∷ d ∷ e ∷ f ∷ g ∷ h ∷ bytes) =
+    let next = λ (size : ℕ) (n : Notes). chunks_at asked (padded size) n (place + 8) bytes in
+    few_taken asked (chunk_of notes place (big_number 4 (a ∷ b ∷ c ∷ d ∷ [])) (little_number 4 (e ∷ f ∷ g ∷ h ∷ [])))
+    (λ chunk. chunk_at asked notes (place + 8) chunk next bytes)
+    (λ chunk. few_in_chunk asked notes (place + 8) chunk next bytes (λ size n. few_in_chunks asked (padded size) n (place + 8) bytes))
+few_in_chunks asked skip notes place bytes = few_unfinished asked
 
-few_in_file : (track : ℕ) (bytes : List ℕ) → IsWithin (file_at track bytes)
-few_in_file track bytes =
-    few_in_piece 4 (λ letters rest. behind_form track (form_of (big_number 4 letters)) rest) bytes (λ letters rest. by_form (form_of (big_number 4 letters)) rest)
+few_in_file : (asked : Asked) (bytes : List ℕ) → IsWithin asked (file_at asked bytes)
+few_in_file asked bytes =
+    few_in_piece asked 4 (λ letters rest. behind_form asked (form_of (big_number 4 letters)) rest) bytes (λ letters rest. by_form (form_of (big_number 4 letters)) rest)
   where
-    by_letters : (b is_long : Bool) (size : ℕ) (rest : List ℕ) → IsWithin (if b then chunks_at track 0 (no_notes is_long size) 12 rest else bad (fault.Wave 8))
-    by_letters true is_long size rest = few_in_chunks track 0 (no_notes is_long size) 12 rest
-    by_letters false is_long size rest = few_bad (fault.Wave 8)
+    by_letters : (b is_long : Bool) (size : ℕ) (rest : List ℕ) → IsWithin asked (if b then chunks_at asked 0 (no_notes is_long size) 12 rest else bad (fault.Wave 8))
+    by_letters true is_long size rest = few_in_chunks asked 0 (no_notes is_long size) 12 rest
+    by_letters false is_long size rest = few_bad asked (fault.Wave 8)
 
-    by_form : (form : Option Bool) (rest : List ℕ) → IsWithin (behind_form track form rest)
-    by_form None rest = few_bad (fault.Riff 0)
+    by_form : (form : Option Bool) (rest : List ℕ) → IsWithin asked (behind_form asked form rest)
+    by_form None rest = few_bad asked (fault.Riff 0)
     by_form (Some is_long) rest =
         let brings = λ (wave rest : List ℕ). if big_number 4 (drop 4 wave) == WAVE
-        then chunks_at track 0 (no_notes is_long (little_number 4 wave)) 12 rest
+        then chunks_at asked 0 (no_notes is_long (little_number 4 wave)) 12 rest
         else bad (fault.Wave 8) in
-        few_in_piece 8 brings rest (λ wave rest. by_letters (big_number 4 (drop 4 wave) == WAVE) is_long (little_number 4 wave) rest)
+        few_in_piece asked 8 brings rest (λ wave rest. by_letters (big_number 4 (drop 4 wave) == WAVE) is_long (little_number 4 wave) rest)
 
-pub few_samples : (track : ℕ) (bytes : List ℕ) → IsWithin (reading_of track bytes)
-few_samples track bytes = by_test (nat_le (length bytes) MAX_BYTES)
+pub few_samples : (asked : Asked) (bytes : List ℕ) → IsWithin asked (reading_of asked bytes)
+few_samples asked bytes = by_test (nat_le (length bytes) MAX_BYTES)
   where
-    by_test : (b : Bool) → IsWithin (if b then file_at track bytes
-        else let r = file_at track (take MAX_BYTES bytes) in record r { verdict = and_more r.verdict; may_end = false })
-    by_test true = few_in_file track bytes
+    by_test : (b : Bool) → IsWithin asked (if b then file_at asked bytes
+        else let r = file_at asked (take MAX_BYTES bytes) in record r { verdict = and_more r.verdict; may_end = false })
+    by_test true = few_in_file asked bytes
     by_test false =
-        let within = few_in_file track (take MAX_BYTES bytes) in record { few = within.few; none = within.none; ends = λ e. refl }
+        let within = few_in_file asked (take MAX_BYTES bytes) in record { few = within.few; none = within.none; ends = λ e. refl }

@@ -22,7 +22,6 @@ use Rattle.wave_file.specs.declared.chunk.TheConstants.{LEAST_OPEN_SIZE}
 use Rattle.wave_file.specs.declared.fault.WaveFault.{WaveFault}
 use Rattle.wave_file.specs.declared.fault.WaveFault.TheVariants as fault
 use Rattle.wave_file.specs.declared.format.WaveFormat.{WaveFormat}
-use Rattle.wave_file.specs.declared.stage.TheConstants.{MAX_SAMPLES}
 use Rattle.wave_file.specs.Chunk.{chunk_of, extent_of, form_of, is_open, long_extent, no_notes}
 use Rattle.wave_file.specs.Format.{field_fault, format_in, format_of, is_pcm, is_rate, is_sample_size, is_track_count}
 use Rattle.wave_file.specs.Format.{samples_at, unless, IsTakenFor}
@@ -39,20 +38,21 @@ use Rattle.wave_file.proofs.Decoding.{within_file}
 use Rattle.wave_file.proofs.Blocks.{blocks_more, none_inside, same_reading}
 use Rattle.wave_file.proofs.Pieces.{chunks_skip, format_brings, head_brings, piece_whole, sizes_bring}
 use Rattle.wave_file.proofs.WrittenSamples.{data_length, samples_read}
+use Rattle.wave_file.specs.declared.format.Asked.{Asked}
 
 -- ---- data
 
 -- nothing of the data is left
-nothing_left : (track : ℕ) (format : WaveFormat) (extent : Extent) (room : ℕ) (tail : List ℕ) → 1 ≤ format.block
+nothing_left : (asked : Asked) (format : WaveFormat) (extent : Extent) (room : ℕ) (tail : List ℕ) → 1 ≤ format.block
     → bytes_inside extent tail ≡ 0 → may_end_at format.block extent tail ≡ true
-    → data_at track format extent room tail ≡ read_whole format []
+    → data_at asked format extent room tail ≡ read_whole format []
 unfolding samples_at
-nothing_left track format extent room tail some inside ends =
+nothing_left asked format extent room tail some inside ends =
     let none : bytes_inside extent tail / format.block ≡ 0 =
     ap (λ (n : ℕ). n / format.block) inside ∙ (let n = none_inside 0 format.block 1 (omega (arith, some)) in omega
     (arith, n)) in
     let all : min room (bytes_inside extent tail / format.block) ≡ 0 = omega (arith, none) in
-    same_reading (Some format) _ _ _ _ _ _ (ap (λ (n : ℕ). samples_at format track n tail) all)
+    same_reading (Some format) _ _ _ _ _ _ (ap (λ (n : ℕ). samples_at format asked n tail) all)
     (ap (λ (b : Bool). if b then good else past_limit) (le-leb (bytes_inside extent tail / format.block) room
     (omega (arith, none)))) ends
 
@@ -64,19 +64,19 @@ Covers Open count tail = tail ≡ []
 at_end : (n : ℕ) → 1 ≤ n → (0 % n == 0) ≡ true
 at_end n some = let less : 0 < n = omega (arith, some) in ap (λ (m : ℕ). m == 0) (mod-eq_of_lt less)
 
-pub data_read : (track : ℕ) (format : WaveFormat) (extent : Extent) (blocks : List (List Sample)) (tail : List ℕ)
-    → IsTakenFor track format → AllByRecursion (IsBlock format) blocks → length blocks ≤ MAX_SAMPLES
+pub data_read : (asked : Asked) (format : WaveFormat) (extent : Extent) (blocks : List (List Sample)) (tail : List ℕ)
+    → IsTakenFor asked format → AllByRecursion (IsBlock format) blocks → length blocks ≤ asked.most_samples
     → Covers extent (length (data_text blocks)) tail
-    → data_at track format extent MAX_SAMPLES (data_text blocks ++ tail) ≡ read_whole format (track_of track blocks)
-data_read track format extent blocks tail fits whole few covers =
+    → data_at asked format extent asked.most_samples (data_text blocks ++ tail) ≡ read_whole format (track_of asked.track blocks)
+data_read asked format extent blocks tail fits whole few covers =
     let count = length blocks in
-    let size = data_length format track blocks fits whole in
-    blocks_more track format count extent MAX_SAMPLES (data_text blocks) tail size fits.some
+    let size = data_length format asked blocks fits whole in
+    blocks_more asked format count extent asked.most_samples (data_text blocks) tail size fits.some
     (has extent size covers) few
-    ∙ ap (with_samples (samples_at format track count (data_text blocks))) (left extent size covers)
+    ∙ ap (with_samples (samples_at format asked count (data_text blocks))) (left extent size covers)
     ∙ same_reading (Some format) _ _ _ _ _ _
-    (append-nil (samples_at format track count (data_text blocks))
-    ∙ samples_read format track blocks fits whole) refl refl
+    (append-nil (samples_at format asked count (data_text blocks))
+    ∙ samples_read format asked blocks fits whole) refl refl
   where
     has : (extent : Extent) → length (data_text blocks) ≡ length blocks * format.block
         → Covers extent (length (data_text blocks)) tail
@@ -86,16 +86,16 @@ data_read track format extent blocks tail fits whole few covers =
 
     left : (extent : Extent) → length (data_text blocks) ≡ length blocks * format.block
         → Covers extent (length (data_text blocks)) tail
-        → data_at track format (extent_behind extent (length blocks * format.block)) (MAX_SAMPLES - length blocks) tail
+        → data_at asked format (extent_behind extent (length blocks * format.block)) (asked.most_samples - length blocks) tail
         ≡ read_whole format []
     left (Announced n) size covers =
         let none : n - length blocks * format.block ≡ 0 = omega (arith, size, covers) in
-        ap (λ (n : ℕ). data_at track format (Announced n) (MAX_SAMPLES - length blocks) tail) none
-        ∙ nothing_left track format (Announced 0) (MAX_SAMPLES - length blocks) tail fits.some (omega arith)
+        ap (λ (n : ℕ). data_at asked format (Announced n) (asked.most_samples - length blocks) tail) none
+        ∙ nothing_left asked format (Announced 0) (asked.most_samples - length blocks) tail fits.some (omega arith)
         (le-leb 0 (length tail) (omega arith))
     left Open size covers =
-        ap (λ (l : List ℕ). data_at track format Open (MAX_SAMPLES - length blocks) l) covers
-        ∙ nothing_left track format Open (MAX_SAMPLES - length blocks) [] fits.some refl (at_end format.block fits.some)
+        ap (λ (l : List ℕ). data_at asked format Open (asked.most_samples - length blocks) l) covers
+        ∙ nothing_left asked format Open (asked.most_samples - length blocks) [] fits.some refl (at_end format.block fits.some)
 
 -- ---- the head of a chunk
 
@@ -112,15 +112,15 @@ head_read letters size a b = record {
 }
 
 -- what a head brings, by the chunk that it begins
-begun : (track : ℕ) (notes : Notes) (place letters size : ℕ) (more : List ℕ) (r : Result Chunk WaveFault)
+begun : (asked : Asked) (notes : Notes) (place letters size : ℕ) (more : List ℕ) (r : Result Chunk WaveFault)
     → letters < 2 ^ 32 → size < 2 ^ 32
     → chunk_of notes place letters size ≡ r
-    → chunks_at track 0 notes place (head_text letters size ++ more) ≡ taken r
-    (λ chunk. chunk_at track notes (place + 8) chunk (λ size notes. chunks_at track (padded size) notes
+    → chunks_at asked 0 notes place (head_text letters size ++ more) ≡ taken r
+    (λ chunk. chunk_at asked notes (place + 8) chunk (λ size notes. chunks_at asked (padded size) notes
     (place + 8) more) more)
-begun track notes place letters size more r a b is =
+begun asked notes place letters size more r a b is =
     let h = head_read letters size a b in
-    head_brings track notes place (head_text letters size) more r h.long (rw (h.letters_are, h.size_is) is)
+    head_brings asked notes place (head_text letters size) more r h.long (rw (h.letters_are, h.size_is) is)
 
 -- ---- chunks that are passed over
 
@@ -135,36 +135,36 @@ body_length body =
     let sum = length-append body (replicate (length body % 2) 0) in
     let more = length-replicate {A = ℕ} (length body % 2) 0 in omega (arith, sum, more)
 
-other_read : (track : ℕ) (notes : Notes) (place : ℕ) (c : OtherChunk) (more : List ℕ) → IsOther c
-    → chunks_at track 0 notes place (chunk_text c.letters c.body ++ more)
-    ≡ chunks_at track 0 notes (place + length (chunk_text c.letters c.body)) more
-other_read track notes place c more other =
+other_read : (asked : Asked) (notes : Notes) (place : ℕ) (c : OtherChunk) (more : List ℕ) → IsOther c
+    → chunks_at asked 0 notes place (chunk_text c.letters c.body ++ more)
+    ≡ chunks_at asked 0 notes (place + length (chunk_text c.letters c.body)) more
+other_read asked notes place c more other =
     let size = length c.body in
     let head = head_text c.letters size in
     let body = c.body ++ replicate (size % 2) 0 in
     let sum = length-append head body in
     let bytes = body_length c.body in
-    ap (λ (l : List ℕ). chunks_at track 0 notes place l) (append_assoc head body more)
-    ∙ begun track notes place c.letters size (body ++ more) (Ok (chunk.Other size)) other.letters other.size
+    ap (λ (l : List ℕ). chunks_at asked 0 notes place l) (append_assoc head body more)
+    ∙ begun asked notes place c.letters size (body ++ more) (Ok (chunk.Other size)) other.letters other.size
     (is_other notes place c.letters size other.no_data other.no_format other.no_sizes)
-    ∙ chunks_skip track notes body more (padded size) 0 (place + 8) (omega (arith, bytes))
-    ∙ ap (λ (n : ℕ). chunks_at track 0 notes n more) (let e : place + 8 + length body ≡ place + length (head
+    ∙ chunks_skip asked notes body more (padded size) 0 (place + 8) (omega (arith, bytes))
+    ∙ ap (λ (n : ℕ). chunks_at asked 0 notes n more) (let e : place + 8 + length body ≡ place + length (head
     ++ body) = omega (arith, sum) in e)
 
-others_read : (track : ℕ) (notes : Notes) (place : ℕ) (chunks : List OtherChunk) (more : List ℕ)
+others_read : (asked : Asked) (notes : Notes) (place : ℕ) (chunks : List OtherChunk) (more : List ℕ)
     → AllByRecursion IsOther chunks
-    → chunks_at track 0 notes place (others_text chunks ++ more)
-    ≡ chunks_at track 0 notes (place + length (others_text chunks)) more
-others_read track notes place [] more all =
-    let none : place + 0 ≡ place = omega arith in ap (λ (n : ℕ). chunks_at track 0 notes n more) (sym none)
-others_read track notes place (c ∷ chunks) more all =
+    → chunks_at asked 0 notes place (others_text chunks ++ more)
+    ≡ chunks_at asked 0 notes (place + length (others_text chunks)) more
+others_read asked notes place [] more all =
+    let none : place + 0 ≡ place = omega arith in ap (λ (n : ℕ). chunks_at asked 0 notes n more) (sym none)
+others_read asked notes place (c ∷ chunks) more all =
     let first = chunk_text c.letters c.body in
     let rest = others_text chunks in
     let sum = length-append first rest in
-    ap (λ (l : List ℕ). chunks_at track 0 notes place l) (append_assoc first rest more)
-    ∙ other_read track notes place c (rest ++ more) all.0
-    ∙ others_read track notes (place + length first) chunks more all.1
-    ∙ ap (λ (n : ℕ). chunks_at track 0 notes n more) (let e : place + length first + length rest
+    ap (λ (l : List ℕ). chunks_at asked 0 notes place l) (append_assoc first rest more)
+    ∙ other_read asked notes place c (rest ++ more) all.0
+    ∙ others_read asked notes (place + length first) chunks more all.1
+    ∙ ap (λ (n : ℕ). chunks_at asked 0 notes n more) (let e : place + length first + length rest
     ≡ place + length (first ++ rest) = omega (arith, sum) in e)
 
 -- ---- the format
@@ -174,8 +174,8 @@ same_format : (a b c d e f g h : ℕ) → a ≡ e → b ≡ f → c ≡ g → d 
     let other : WaveFormat = record { tracks = e; rate = f; block = g; bits = h } in one ≡ other
 same_format a b c d e f g h p q r s = rw (p, q, r, s) refl
 
-format_back : (track : ℕ) (f : WaveFormat) → IsTakenFor track f → format_of (format_text f) ≡ f
-format_back track f fits =
+format_back : (asked : Asked) (f : WaveFormat) → IsTakenFor asked f → format_of (format_text f) ≡ f
+format_back asked f fits =
     let most = fits.most in
     let rate = fits.rate_most in
     let room = fits.room in
@@ -198,66 +198,66 @@ is_size bits least most whole = go (bits / 8) whole
     go (suc (suc (suc (suc zero)))) e = rw e refl
     go (suc (suc (suc (suc (suc q))))) e = absurd (omega (arith, e, most))
 
-no_fault : (track place : ℕ) (f : WaveFormat) → IsTakenFor track f → field_fault track place true f ≡ None
-no_fault track place f fits =
+no_fault : (asked : Asked) (place : ℕ) (f : WaveFormat) → IsTakenFor asked f → field_fault asked place true f ≡ None
+no_fault asked place f fits =
     let tracks : is_track_count f.tracks ≡ true =
     both (nat_le 1 f.tracks) (nat_le f.tracks 64) (le-leb 1 f.tracks (some fits.first fits.among))
     (le-leb f.tracks 64 fits.most) in
-    let rate : is_rate f.rate ≡ true = both (nat_le 1 f.rate) (nat_le f.rate 6_250_000)
-    (le-leb 1 f.rate fits.rate_least) (le-leb f.rate 6_250_000 fits.rate_most) in
+    let rate : is_rate asked.least_rate f.rate ≡ true = both (nat_le asked.least_rate f.rate) (nat_le f.rate 6_250_000)
+    (le-leb asked.least_rate f.rate fits.rate_asked) (le-leb f.rate 6_250_000 fits.rate_most) in
     let block : (8 * f.block == f.tracks * f.bits) ≡ true = eq-eqb (8 * f.block) (f.tracks * f.bits)
     (ap (λ (n : ℕ). 8 * n) fits.block ∙ mul_left_comm 8 f.tracks (f.bits / 8)
     ∙ ap (λ (n : ℕ). f.tracks * n) (sym fits.whole)) in
     let bits = is_size f.bits fits.bits_least fits.bits_most fits.whole in
-    let among : nat_lt f.tracks track ≡ false = le-ltb f.tracks track fits.among in
+    let among : nat_lt f.tracks asked.track ≡ false = le-ltb f.tracks asked.track fits.among in
     rw (tracks, rate, block, bits, among) refl
   where
     both : (a b : Bool) → a ≡ true → b ≡ true → (a && b) ≡ true
     both a b p q = rw (p, q) refl
 
-    some : 1 ≤ track → track ≤ f.tracks → 1 ≤ f.tracks
+    some : 1 ≤ asked.track → asked.track ≤ f.tracks → 1 ≤ f.tracks
     some a b = omega (arith, a, b)
 
-format_read : (track place : ℕ) (f : WaveFormat) → IsTakenFor track f → format_in track place (format_text f) ≡ Ok f
-format_read track place f fits =
+format_read : (asked : Asked) (place : ℕ) (f : WaveFormat) → IsTakenFor asked f → format_in asked place (format_text f) ≡ Ok f
+format_read asked place f fits =
     let body = format_text f in
-    let back = format_back track f fits in
+    let back = format_back asked f fits in
     let pcm : is_pcm body ≡ true = refl in
-    let none : field_fault track place (is_pcm body) (format_of body) ≡ None =
-    ap₂ (λ (pcm : Bool) (g : WaveFormat). field_fault track place pcm g) pcm back ∙ no_fault track place f fits in
+    let none : field_fault asked place (is_pcm body) (format_of body) ≡ None =
+    ap₂ (λ (pcm : Bool) (g : WaveFormat). field_fault asked place pcm g) pcm back ∙ no_fault asked place f fits in
     ap₂ (λ (fault : Option WaveFault) (g : WaveFormat). unless fault g) none back
 
 -- the chunk of the format, whose place is that behind its head
-format_chunk : (track : ℕ) (notes : Notes) (place : ℕ) (f : WaveFormat) (more : List ℕ) → IsTakenFor track f
-    → chunks_at track 0 notes place (chunk_text FORMAT (format_text f) ++ more)
-    ≡ chunks_at track 0 (record notes { format = Some f }) (place + 24) more
-format_chunk track notes place f more fits =
+format_chunk : (asked : Asked) (notes : Notes) (place : ℕ) (f : WaveFormat) (more : List ℕ) → IsTakenFor asked f
+    → chunks_at asked 0 notes place (chunk_text FORMAT (format_text f) ++ more)
+    ≡ chunks_at asked 0 (record notes { format = Some f }) (place + 24) more
+format_chunk asked notes place f more fits =
     let head = head_text FORMAT 16 in
     let body = format_text f in
-    begun track notes place FORMAT 16 (body ++ more) (Ok (chunk.Format 16)) (omega arith) (omega arith) refl
-    ∙ format_brings track notes (place + 8) 16 body more f refl (format_read track (place + 8) f fits)
-    ∙ ap (λ (n : ℕ). chunks_at track 0 (record notes { format = Some f }) n more) (let e : place + 8 + 16
+    begun asked notes place FORMAT 16 (body ++ more) (Ok (chunk.Format 16)) (omega arith) (omega arith) refl
+    ∙ format_brings asked notes (place + 8) 16 body more f refl (format_read asked (place + 8) f fits)
+    ∙ ap (λ (n : ℕ). chunks_at asked 0 (record notes { format = Some f }) n more) (let e : place + 8 + 16
     ≡ place + 24 = omega arith in e)
 
 -- ---- long sizes
 
-sizes_chunk : (track : ℕ) (place file_size size data_size : ℕ) (more : List ℕ) → data_size < 2 ^ 64
-    → chunks_at track 0 (no_notes true size) place (chunk_text SIZES (sizes_text file_size data_size) ++ more)
-    ≡ chunks_at track 0 (record (no_notes true size) { data_size = Some data_size }) (place + 36) more
-sizes_chunk track place file_size size data_size more below =
+sizes_chunk : (asked : Asked) (place file_size size data_size : ℕ) (more : List ℕ) → data_size < 2 ^ 64
+    → chunks_at asked 0 (no_notes true size) place (chunk_text SIZES (sizes_text file_size data_size) ++ more)
+    ≡ chunks_at asked 0 (record (no_notes true size) { data_size = Some data_size }) (place + 36) more
+sizes_chunk asked place file_size size data_size more below =
     let notes = no_notes true size in
     let front = little_bytes 8 file_size ++ little_bytes 8 data_size in
     let rest = little_bytes 8 0 ++ little_bytes 4 0 in
     let is : little_number 8 (drop 8 front) ≡ data_size = little_number-reads_back 8 data_size []
     (omega (arith, below)) in
-    begun track notes place SIZES 28 (front ++ (rest ++ more)) (Ok (chunk.Sizes 28)) (omega arith) (omega arith) refl
-    ∙ sizes_bring track notes (place + 8) 28 front (rest ++ more) refl (omega arith)
-    ∙ ap (λ (k : ℕ). chunks_at track 12 (record notes { data_size = Some (little_number 8 (drop 8 front)) }) k (rest
+    begun asked notes place SIZES 28 (front ++ (rest ++ more)) (Ok (chunk.Sizes 28)) (omega arith) (omega arith) refl
+    ∙ sizes_bring asked notes (place + 8) 28 front (rest ++ more) refl (omega arith)
+    ∙ ap (λ (k : ℕ). chunks_at asked 12 (record notes { data_size = Some (little_number 8 (drop 8 front)) }) k (rest
     ++ more))
     (let e : place + 8 + length front ≡ place + 24 = omega arith in e)
-    ∙ ap (λ (n : ℕ). chunks_at track 12 (record notes { data_size = Some n }) (place + 24) (rest ++ more)) is
-    ∙ chunks_skip track (record notes { data_size = Some data_size }) rest more 12 0 (place + 24) refl
-    ∙ ap (λ (n : ℕ). chunks_at track 0 (record notes { data_size = Some data_size }) n more) (let e : place + 24 + 12
+    ∙ ap (λ (n : ℕ). chunks_at asked 12 (record notes { data_size = Some n }) (place + 24) (rest ++ more)) is
+    ∙ chunks_skip asked (record notes { data_size = Some data_size }) rest more 12 0 (place + 24) refl
+    ∙ ap (λ (n : ℕ). chunks_at asked 0 (record notes { data_size = Some data_size }) n more) (let e : place + 24 + 12
     ≡ place + 36 = omega arith in e)
 
 -- ---- behind the form
@@ -266,70 +266,70 @@ sizes_chunk track place file_size size data_size more below =
 abbrev noted : Notes → WaveFormat → Notes
 noted notes format = record notes { format = Some format }
 
-pub behind_read : (track : ℕ) (notes : Notes) (place : ℕ) (before : List OtherChunk) (format : WaveFormat) (size : ℕ)
-    (blocks : List (List Sample)) (tail : List ℕ) (extent : Extent) → AreParts track before format blocks
+pub behind_read : (asked : Asked) (notes : Notes) (place : ℕ) (before : List OtherChunk) (format : WaveFormat) (size : ℕ)
+    (blocks : List (List Sample)) (tail : List ℕ) (extent : Extent) → AreParts asked before format blocks
     → size < 2 ^ 32
     → extent_of (noted notes format) (place + length (others_text before) + 24) size ≡ Some extent
     → Covers extent (length (data_text blocks)) tail
-    → chunks_at track 0 notes place (behind_head before format size blocks tail)
-    ≡ read_whole format (track_of track blocks)
-behind_read track notes place before format size blocks tail extent parts below is covers =
+    → chunks_at asked 0 notes place (behind_head before format size blocks tail)
+    ≡ read_whole format (track_of asked.track blocks)
+behind_read asked notes place before format size blocks tail extent parts below is covers =
     let there = place + length (others_text before) in
     let bytes = data_text blocks ++ tail in
     let extent_is : chunk_of (noted notes format) (there + 24) DATA size ≡ Ok (chunk.Data format extent) = rw is refl in
-    others_read track notes place before (chunk_text FORMAT (format_text format)
+    others_read asked notes place before (chunk_text FORMAT (format_text format)
     ++ (head_text DATA size ++ bytes)) parts.others
-    ∙ format_chunk track notes there format (head_text DATA size ++ bytes) parts.taken
-    ∙ begun track (noted notes format) (there + 24) DATA size bytes (Ok (chunk.Data format extent))
+    ∙ format_chunk asked notes there format (head_text DATA size ++ bytes) parts.taken
+    ∙ begun asked (noted notes format) (there + 24) DATA size bytes (Ok (chunk.Data format extent))
     (omega arith) below extent_is
-    ∙ data_read track format extent blocks tail parts.taken parts.whole parts.few covers
+    ∙ data_read asked format extent blocks tail parts.taken parts.whole parts.few covers
 
 -- the form, the size behind it, and the letters WAVE
-pub form_read : (track form size : ℕ) (is_long : Bool) (rest : List ℕ) → form < 2 ^ 32 → size < 2 ^ 32
+pub form_read : (asked : Asked) (form size : ℕ) (is_long : Bool) (rest : List ℕ) → form < 2 ^ 32 → size < 2 ^ 32
     → form_of form ≡ Some is_long
-    → file_at track (head_text form size ++ (big_bytes 4 WAVE
-    ++ rest)) ≡ chunks_at track 0 (no_notes is_long size) 12 rest
-form_read track form size is_long rest a b is =
+    → file_at asked (head_text form size ++ (big_bytes 4 WAVE
+    ++ rest)) ≡ chunks_at asked 0 (no_notes is_long size) 12 rest
+form_read asked form size is_long rest a b is =
     let letters = big_bytes 4 form in
     let wave = little_bytes 4 size ++ big_bytes 4 WAVE in
     let letters_are : big_number 4 letters ≡ form = big_number-reads_back 4 form [] (omega (arith, a)) in
     let size_is : little_number 4 wave ≡ size = little_number-reads_back 4 size (big_bytes 4 WAVE) (omega (arith, b)) in
-    piece_whole 4 (λ (letters rest : List ℕ). behind_form track (form_of (big_number 4 letters)) rest) letters (wave
+    piece_whole 4 (λ (letters rest : List ℕ). behind_form asked (form_of (big_number 4 letters)) rest) letters (wave
     ++ rest) refl
-    ∙ ap (λ (form : Option Bool). behind_form track form (wave ++ rest)) (ap form_of letters_are ∙ is)
+    ∙ ap (λ (form : Option Bool). behind_form asked form (wave ++ rest)) (ap form_of letters_are ∙ is)
     ∙ piece_whole 8 (λ (wave rest : List ℕ). if big_number 4 (drop 4 wave) == WAVE
-    then chunks_at track 0 (no_notes is_long (little_number 4 wave)) 12 rest else bad (fault.Wave 8)) wave rest refl
-    ∙ ap (λ (n : ℕ). chunks_at track 0 (no_notes is_long n) 12 rest) size_is
+    then chunks_at asked 0 (no_notes is_long (little_number 4 wave)) 12 rest else bad (fault.Wave 8)) wave rest refl
+    ∙ ap (λ (n : ℕ). chunks_at asked 0 (no_notes is_long n) 12 rest) size_is
 
 -- ---- whole files
 
 behind_others : (before : List OtherChunk) → 12 + length (others_text before) + 24 ≡ 36 + length (others_text before)
 behind_others before = omega arith
 
-pub file_read : (track file_size : ℕ) (before : List OtherChunk) (format : WaveFormat) (size : ℕ)
+pub file_read : (asked : Asked) (file_size : ℕ) (before : List OtherChunk) (format : WaveFormat) (size : ℕ)
     (blocks : List (List Sample))
-    (tail : List ℕ) (extent : Extent) → AreParts track before format blocks → file_size < 2 ^ 32 → size < 2 ^ 32
+    (tail : List ℕ) (extent : Extent) → AreParts asked before format blocks → file_size < 2 ^ 32 → size < 2 ^ 32
     → extent_of (noted (no_notes false file_size) format) (36 + length (others_text before)) size ≡ Some extent
     → Covers extent (length (data_text blocks)) tail
-    → file_at track (file_of file_size before format size blocks tail) ≡ read_whole format (track_of track blocks)
-file_read track file_size before format size blocks tail extent parts a b is covers =
-    form_read track RIFF file_size false (behind_head before format size blocks tail) (omega arith) a refl
-    ∙ behind_read track (no_notes false file_size) 12 before format size blocks tail extent parts b
+    → file_at asked (file_of file_size before format size blocks tail) ≡ read_whole format (track_of asked.track blocks)
+file_read asked file_size before format size blocks tail extent parts a b is covers =
+    form_read asked RIFF file_size false (behind_head before format size blocks tail) (omega arith) a refl
+    ∙ behind_read asked (no_notes false file_size) 12 before format size blocks tail extent parts b
     (ap (λ (n : ℕ). extent_of (noted (no_notes false file_size) format) n size) (behind_others before) ∙ is) covers
 
-pub long_file_read : (track form file_size data_size : ℕ) (before : List OtherChunk) (format : WaveFormat)
+pub long_file_read : (asked : Asked) (form file_size data_size : ℕ) (before : List OtherChunk) (format : WaveFormat)
     (blocks : List (List Sample))
-    (tail : List ℕ) (extent : Extent) → AreParts track before format blocks → form < 2 ^ 32 → form_of form ≡ Some true
+    (tail : List ℕ) (extent : Extent) → AreParts asked before format blocks → form < 2 ^ 32 → form_of form ≡ Some true
     → data_size < 2 ^ 64
     → long_extent (Some data_size) ≡ Some extent
     → Covers extent (length (data_text blocks)) tail
-    → file_at track (long_file_of form file_size data_size before format blocks tail)
-    ≡ read_whole format (track_of track blocks)
-long_file_read track form file_size data_size before format blocks tail extent parts a is b told covers =
+    → file_at asked (long_file_of form file_size data_size before format blocks tail)
+    ≡ read_whole format (track_of asked.track blocks)
+long_file_read asked form file_size data_size before format blocks tail extent parts a is b told covers =
     let rest = behind_head before format NO_SIZE blocks tail in
-    form_read track form NO_SIZE true (chunk_text SIZES (sizes_text file_size data_size) ++ rest) a (omega arith) is
-    ∙ sizes_chunk track 12 file_size NO_SIZE data_size rest b
-    ∙ behind_read track (record (no_notes true NO_SIZE) { data_size = Some data_size }) 48 before format NO_SIZE blocks
+    form_read asked form NO_SIZE true (chunk_text SIZES (sizes_text file_size data_size) ++ rest) a (omega arith) is
+    ∙ sizes_chunk asked 12 file_size NO_SIZE data_size rest b
+    ∙ behind_read asked (record (no_notes true NO_SIZE) { data_size = Some data_size }) 48 before format NO_SIZE blocks
     tail extent parts
     (omega arith) told covers
 
@@ -344,39 +344,39 @@ told_size file_size place size format some less =
     let none = ne_eqb size 0 (λ e. omega (arith, e, some)) in
     rw (greatest, great, none) refl
 
-pub told_file : (track file_size : ℕ) (before : List OtherChunk) (format : WaveFormat) (blocks : List (List Sample))
+pub told_file : (asked : Asked) (file_size : ℕ) (before : List OtherChunk) (format : WaveFormat) (blocks : List (List Sample))
     (tail : List ℕ)
-    → AreParts track before format blocks → 1 ≤ length blocks → file_size < 2 ^ 32
+    → AreParts asked before format blocks → 1 ≤ length blocks → file_size < 2 ^ 32
     → length (data_text blocks) < 2 ^ 31 - 2 ^ 16
-    → file_at track (file_of file_size before format (length (data_text blocks)) blocks tail)
-    ≡ read_whole format (track_of track blocks)
-told_file track file_size before format blocks tail parts some a less =
-    let size = data_length format track blocks parts.taken parts.whole in
+    → file_at asked (file_of file_size before format (length (data_text blocks)) blocks tail)
+    ≡ read_whole format (track_of asked.track blocks)
+told_file asked file_size before format blocks tail parts some a less =
+    let size = data_length format asked blocks parts.taken parts.whole in
     let bytes = mul-le 1 1 (length blocks) format.block some parts.taken.some in
-    file_read track file_size before format (length (data_text blocks)) blocks tail
+    file_read asked file_size before format (length (data_text blocks)) blocks tail
     (Announced (length (data_text blocks))) parts a
     (omega (arith, less)) (told_size file_size _ (length (data_text blocks)) format
     (omega (arith, size, bytes)) less) refl
 
-pub streamed_file : (track file_size size : ℕ) (before : List OtherChunk) (format : WaveFormat)
+pub streamed_file : (asked : Asked) (file_size size : ℕ) (before : List OtherChunk) (format : WaveFormat)
     (blocks : List (List Sample))
-    → AreParts track before format blocks → file_size < 2 ^ 32 → size < 2 ^ 32
+    → AreParts asked before format blocks → file_size < 2 ^ 32 → size < 2 ^ 32
     → is_open (no_notes false file_size) (36 + length (others_text before)) size ≡ true
-    → file_at track (file_of file_size before format size blocks []) ≡ read_whole format (track_of track blocks)
-streamed_file track file_size size before format blocks parts a b untold =
-    file_read track file_size before format size blocks [] Open parts a b (rw untold refl) refl
+    → file_at asked (file_of file_size before format size blocks []) ≡ read_whole format (track_of asked.track blocks)
+streamed_file asked file_size size before format blocks parts a b untold =
+    file_read asked file_size before format size blocks [] Open parts a b (rw untold refl) refl
 
-pub long_told_file : (track form file_size : ℕ) (before : List OtherChunk) (format : WaveFormat)
+pub long_told_file : (asked : Asked) (form file_size : ℕ) (before : List OtherChunk) (format : WaveFormat)
     (blocks : List (List Sample)) (tail : List ℕ)
-    → AreParts track before format blocks → 1 ≤ length blocks → (form ≡ RF64) ⊎ (form ≡ BW64)
+    → AreParts asked before format blocks → 1 ≤ length blocks → (form ≡ RF64) ⊎ (form ≡ BW64)
     → length (data_text blocks) < 2 ^ 64
-    → file_at track (long_file_of form file_size (length (data_text blocks)) before format blocks tail)
-    ≡ read_whole format (track_of track blocks)
-long_told_file track form file_size before format blocks tail parts some is less =
-    let size = data_length format track blocks parts.taken parts.whole in
+    → file_at asked (long_file_of form file_size (length (data_text blocks)) before format blocks tail)
+    ≡ read_whole format (track_of asked.track blocks)
+long_told_file asked form file_size before format blocks tail parts some is less =
+    let size = data_length format asked blocks parts.taken parts.whole in
     let bytes = mul-le 1 1 (length blocks) format.block some parts.taken.some in
     let all = length (data_text blocks) in
-    long_file_read track form file_size all before format blocks tail (Announced all) parts (below form is)
+    long_file_read asked form file_size all before format blocks tail (Announced all) parts (below form is)
     (long form is) less
     (announced all (omega (arith, size, bytes))) refl
   where
@@ -394,18 +394,18 @@ long_told_file track form file_size before format blocks tail parts some is less
 
 -- ---- any of them, of no more bytes than are read
 
-pub made_file : (track : ℕ) (format : WaveFormat) (blocks : List (List Sample)) (bytes : List ℕ)
-    → IsMadeOf track format blocks bytes → reading_of track bytes ≡ read_whole format (track_of track blocks)
-made_file track format blocks bytes file = within_file track bytes file.within ∙ by_form file.made
+pub made_file : (asked : Asked) (format : WaveFormat) (blocks : List (List Sample)) (bytes : List ℕ)
+    → IsMadeOf asked format blocks bytes → reading_of asked bytes ≡ read_whole format (track_of asked.track blocks)
+made_file asked format blocks bytes file = within_file asked bytes file.within ∙ by_form file.made
   where
-    by_form : TellsItsSize track format blocks bytes ⊎ TellsNoSize track format blocks bytes
-        ⊎ TellsALongSize track format blocks bytes → file_at track bytes ≡ read_whole format (track_of track blocks)
+    by_form : TellsItsSize asked format blocks bytes ⊎ TellsNoSize asked format blocks bytes
+        ⊎ TellsALongSize asked format blocks bytes → file_at asked bytes ≡ read_whole format (track_of asked.track blocks)
     by_form (inl f) =
-        ap (file_at track) f.are
-        ∙ told_file track f.file_size f.before format blocks f.tail f.parts f.some f.fits f.told
+        ap (file_at asked) f.are
+        ∙ told_file asked f.file_size f.before format blocks f.tail f.parts f.some f.fits f.told
     by_form (inr (inl f)) =
-        ap (file_at track) f.are
-        ∙ streamed_file track f.file_size f.size f.before format blocks f.parts f.fits.0 f.fits.1 f.untold
+        ap (file_at asked) f.are
+        ∙ streamed_file asked f.file_size f.size f.before format blocks f.parts f.fits.0 f.fits.1 f.untold
     by_form (inr (inr f)) =
-        ap (file_at track) f.are
-        ∙ long_told_file track f.form f.file_size f.before format blocks f.tail f.parts f.some f.long f.told
+        ap (file_at asked) f.are
+        ∙ long_told_file asked f.form f.file_size f.before format blocks f.tail f.parts f.some f.long f.told

@@ -18,6 +18,7 @@ use Rattle.wave_file.specs.declared.format.WaveFormat.{WaveFormat}
 use Rattle.wave_file.specs.Format.{sample_in, sample_width, samples_at, IsTakenFor}
 use Rattle.wave_file.specs.Grammar.{Sample, Eight, Wide, IsBlock, IsOfWidth, block_text, data_text, sample_text}
 use Rattle.wave_file.specs.Grammar.{track_of, value_of}
+use Rattle.wave_file.specs.declared.format.Asked.{Asked}
 
 -- ---- widths
 
@@ -63,26 +64,26 @@ sample_at w (suc k) (s ∷ block) d all less = sample_at w k block d all.1 (omeg
 
 -- ---- a sample
 
-read_at : (format : WaveFormat) (track : ℕ) (bytes rest : List ℕ) (s : Sample) → 1 ≤ track
+read_at : (format : WaveFormat) (asked : Asked) (bytes rest : List ℕ) (s : Sample) → 1 ≤ asked.track
     → IsOfWidth (sample_width format) s
-    → drop ((track - 1) * sample_width format) bytes ≡ sample_text s ++ rest → sample_in format track bytes ≡ value_of s
-read_at format track bytes rest (Eight byte) first is there =
+    → drop ((asked.track - 1) * sample_width format) bytes ≡ sample_text s ++ rest → sample_in format asked bytes ≡ value_of s
+read_at format asked bytes rest (Eight byte) first is there =
     let w = sample_width format in
-    let at : (track - 1) * w + 0 ≡ track - 1 = ap (λ (n : ℕ). (track - 1) * n + 0) is
-    ∙ (let e : (track - 1) * 1 + 0 ≡ track - 1 = omega arith in e) in
-    let found : slice_index bytes (track - 1) ≡ byte =
-    ap (λ (i : ℕ). get_or bytes i 0) (sym at) ∙ sym (get_or-drop ((track - 1) * w) bytes 0 0)
+    let at : (asked.track - 1) * w + 0 ≡ asked.track - 1 = ap (λ (n : ℕ). (asked.track - 1) * n + 0) is
+    ∙ (let e : (asked.track - 1) * 1 + 0 ≡ asked.track - 1 = omega arith in e) in
+    let found : slice_index bytes (asked.track - 1) ≡ byte =
+    ap (λ (i : ℕ). get_or bytes i 0) (sym at) ∙ sym (get_or-drop ((asked.track - 1) * w) bytes 0 0)
     ∙ ap (λ (l : List ℕ). get_or l 0 0) there in
     cond-true (w == 1) _ _ (ap (λ (n : ℕ). n == 1) is) ∙ ap (λ (n : ℕ). pos (256 * n) -ℤ pos 32_768) found
-read_at format track bytes rest (Wide below upper) first is there =
+read_at format asked bytes rest (Wide below upper) first is there =
     let w = sample_width format in
     let word = little_bytes 2 (cast_unsigned w16 upper) in
-    let one = suc-mul (track - 1) w in
-    let same : suc (track - 1) ≡ track = omega (arith, first) in
-    let all : track * w ≡ (track - 1) * w + w = ap (λ (n : ℕ). n * w) (sym same) ∙ one in
-    let place : track * w - 2 ≡ (track - 1) * w + length below = omega (arith, all, is.0) in
-    let found : drop (track * w - 2) bytes ≡ word ++ rest =
-    ap (λ (n : ℕ). drop n bytes) place ∙ sym (drop-drop (length below) ((track - 1) * w) bytes)
+    let one = suc-mul (asked.track - 1) w in
+    let same : suc (asked.track - 1) ≡ asked.track = omega (arith, first) in
+    let all : asked.track * w ≡ (asked.track - 1) * w + w = ap (λ (n : ℕ). n * w) (sym same) ∙ one in
+    let place : asked.track * w - 2 ≡ (asked.track - 1) * w + length below = omega (arith, all, is.0) in
+    let found : drop (asked.track * w - 2) bytes ≡ word ++ rest =
+    ap (λ (n : ℕ). drop n bytes) place ∙ sym (drop-drop (length below) ((asked.track - 1) * w) bytes)
     ∙ ap (λ (l : List ℕ). drop (length below) l) (there ∙ append_assoc below word rest)
     ∙ drop-append_seam below (word ++ rest) in
     cond-false (w == 1) _ _ (ne_eqb w 1 (λ e. omega (arith, e, is.0)))
@@ -92,50 +93,50 @@ read_at format track bytes rest (Wide below upper) first is there =
 
 -- ---- blocks
 
-pub block_is_whole : (format : WaveFormat) (track : ℕ) (block : List Sample) → IsTakenFor track format
+pub block_is_whole : (format : WaveFormat) (asked : Asked) (block : List Sample) → IsTakenFor asked format
     → IsBlock format block
     → length (block_text block) ≡ format.block
-block_is_whole format track block taken is =
+block_is_whole format asked block taken is =
     block_length (sample_width format) block is.1 ∙ ap (λ (n : ℕ). n * sample_width format) is.0 ∙ sym taken.block
 
-block_read : (format : WaveFormat) (track : ℕ) (block : List Sample) → IsTakenFor track format → IsBlock format block
-    → sample_in format track (block_text block) ≡ value_of (get_or block (track - 1) (Eight 0))
-block_read format track block taken is =
+block_read : (format : WaveFormat) (asked : Asked) (block : List Sample) → IsTakenFor asked format → IsBlock format block
+    → sample_in format asked (block_text block) ≡ value_of (get_or block (asked.track - 1) (Eight 0))
+block_read format asked block taken is =
     let w = sample_width format in
     let tracks = is.0 in
     let first = taken.first in
     let among = taken.among in
-    let less : track - 1 < length block = omega (arith, tracks, first, among) in
-    read_at format track (block_text block) (block_text (drop (suc (track - 1)) block))
-    (get_or block (track - 1) (Eight 0)) first
-    (sample_at w (track - 1) block (Eight 0) is.1 less) (from_track w (track - 1) block (Eight 0) is.1 less)
+    let less : asked.track - 1 < length block = omega (arith, tracks, first, among) in
+    read_at format asked (block_text block) (block_text (drop (suc (asked.track - 1)) block))
+    (get_or block (asked.track - 1) (Eight 0)) first
+    (sample_at w (asked.track - 1) block (Eight 0) is.1 less) (from_track w (asked.track - 1) block (Eight 0) is.1 less)
 
 -- the samples of the blocks are those of the track
-pub samples_read : (format : WaveFormat) (track : ℕ) (blocks : List (List Sample)) → IsTakenFor track format
-    → AllByRecursion (IsBlock format) blocks → samples_at format track (length blocks) (data_text blocks)
-    ≡ track_of track blocks
+pub samples_read : (format : WaveFormat) (asked : Asked) (blocks : List (List Sample)) → IsTakenFor asked format
+    → AllByRecursion (IsBlock format) blocks → samples_at format asked (length blocks) (data_text blocks)
+    ≡ track_of asked.track blocks
 unfolding samples_at
-samples_read format track [] taken all = refl
-samples_read format track (block ∷ blocks) taken all =
-    let len = block_is_whole format track block taken all.0 in
+samples_read format asked [] taken all = refl
+samples_read format asked (block ∷ blocks) taken all =
+    let len = block_is_whole format asked block taken all.0 in
     let bytes = block_text block in
     let more = data_text blocks in
     let front : take format.block (bytes ++ more) ≡ bytes = subst (λ (n : ℕ). take n (bytes
     ++ more) ≡ bytes) len (take-append_seam bytes more) in
     let behind : drop format.block (bytes ++ more) ≡ more = subst (λ (n : ℕ). drop n (bytes
     ++ more) ≡ more) len (drop-append_seam bytes more) in
-    ap₂ (λ (x : ℤ) (xs : List ℤ). x ∷ xs) (ap (sample_in format track) front
-    ∙ block_read format track block taken all.0)
-    (ap (λ (l : List ℕ). samples_at format track (length blocks) l) behind
-    ∙ samples_read format track blocks taken all.1)
+    ap₂ (λ (x : ℤ) (xs : List ℤ). x ∷ xs) (ap (sample_in format asked) front
+    ∙ block_read format asked block taken all.0)
+    (ap (λ (l : List ℕ). samples_at format asked (length blocks) l) behind
+    ∙ samples_read format asked blocks taken all.1)
 
 -- the bytes of the data are whole blocks
-pub data_length : (format : WaveFormat) (track : ℕ) (blocks : List (List Sample)) → IsTakenFor track format
+pub data_length : (format : WaveFormat) (asked : Asked) (blocks : List (List Sample)) → IsTakenFor asked format
     → AllByRecursion (IsBlock format) blocks → length (data_text blocks) ≡ length blocks * format.block
-data_length format track [] taken all = omega arith
-data_length format track (block ∷ blocks) taken all =
-    let one = block_is_whole format track block taken all.0 in
-    let rest = data_length format track blocks taken all.1 in
+data_length format asked [] taken all = omega arith
+data_length format asked (block ∷ blocks) taken all =
+    let one = block_is_whole format asked block taken all.0 in
+    let rest = data_length format asked blocks taken all.1 in
     let sum = length-append (block_text block) (data_text blocks) in
     let next = suc-mul (length blocks) format.block in
     omega (arith, one, rest, sum, next)

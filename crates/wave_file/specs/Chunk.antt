@@ -12,6 +12,7 @@ use Rattle.wave_file.specs.declared.chunk.Extent.TheVariants as extent
 use Rattle.wave_file.specs.declared.chunk.Notes.{Notes}
 use Rattle.wave_file.specs.declared.chunk.TheConstants.{RIFF, RF64, BW64, FORMAT, SIZES, DATA, NO_SIZE}
 use Rattle.wave_file.specs.declared.chunk.TheConstants.{LEAST_OPEN_SIZE, GREATEST_OPEN_SIZE}
+use Rattle.wave_file.specs.declared.format.Asked.{Asked}
 
 -- the first four letters: RF64 and BW64 have their sizes in 64 bits
 abbrev pub form_of : ℕ → Option Bool
@@ -69,12 +70,12 @@ chunk_of notes place letters size =
 -- ---- what is known of a chunk
 
 -- the formats in notes are taken
-abbrev pub IsNoted : ℕ → Notes → Type 0
-IsNoted track notes = IfSome notes.format (λ format. IsTakenFor track format)
+abbrev pub IsNoted : Asked → Notes → Type 0
+IsNoted asked notes = IfSome notes.format (λ format. IsTakenFor asked format)
 
 -- the chunk is long enough, and its format is taken
-abbrev pub IsChunkFor : ℕ → Chunk → Type 0
-IsChunkFor track (chunk.Format size) = 16 ≤ size
-IsChunkFor track (chunk.Sizes size) = 16 ≤ size
-IsChunkFor track (chunk.Data format extent) = IsTakenFor track format
-IsChunkFor track (chunk.Other size) = ⊤
+abbrev pub IsChunkFor : Asked → Chunk → Type 0
+IsChunkFor asked (chunk.Format size) = 16 ≤ size
+IsChunkFor asked (chunk.Sizes size) = 16 ≤ size
+IsChunkFor asked (chunk.Data format extent) = IsTakenFor asked format
+IsChunkFor asked (chunk.Other size) = ⊤

@@ -9,7 +9,17 @@ use Rattle.wave_file.specs.declared.fault.WaveFault.{WaveFault}
 use Rattle.wave_file.specs.declared.fault.WaveFault.TheVariants as fault
 use Rattle.wave_file.specs.declared.format.WaveFormat.{WaveFormat}
 use Rattle.wave_file.specs.declared.format.TheConstants.{MAX_RATE}
+use Rattle.wave_file.specs.declared.stage.TheConstants.{MAX_SAMPLES}
 use Rattle.limits.specs.declared.sound_file.TheConstants.{MAX_TRACKS}
+use Rattle.wave_file.specs.declared.format.Asked.{Asked}
+
+-- ---- what is asked
+
+-- a track from 1, from 1 sample a second on, and samples within the limit
+pub record IsAsked (asked : Asked) : Type 0 where
+  pub first : 1 ≤ asked.track
+  pub some_rate : 1 ≤ asked.least_rate
+  pub few : asked.most_samples ≤ MAX_SAMPLES
 
 -- ---- the format
 
@@ -31,21 +41,22 @@ is_pcm body =
 abbrev pub is_track_count : ℕ → Bool
 is_track_count tracks = nat_le 1 tracks && nat_le tracks MAX_TRACKS
 
-abbrev pub is_rate : ℕ → Bool
-is_rate rate = nat_le 1 rate && nat_le rate MAX_RATE
+abbrev pub is_rate : ℕ → ℕ → Bool
+is_rate least rate = nat_le least rate && nat_le rate MAX_RATE
 
 abbrev pub is_sample_size : ℕ → Bool
 is_sample_size bits = (bits == 8) || ((bits == 16) || ((bits == 24) || (bits == 32)))
 
--- the first field that is not taken, and behind all of them a track that is not there
-abbrev pub field_fault : ℕ → ℕ → Bool → WaveFormat → Option WaveFault
-field_fault track place is_pcm format =
+-- the first field that is not taken, a rate below the least that is asked among them, and behind all of them a track
+-- that is not there
+abbrev pub field_fault : Asked → ℕ → Bool → WaveFormat → Option WaveFault
+field_fault asked place is_pcm format =
     if not is_pcm then Some (fault.Format place)
     else if not (is_track_count format.tracks) then Some (fault.Format (place + 2))
-    else if not (is_rate format.rate) then Some (fault.Format (place + 4))
+    else if not (is_rate asked.least_rate format.rate) then Some (fault.Format (place + 4))
     else if not (8 * format.block == format.tracks * format.bits) then Some (fault.Format (place + 12))
     else if not (is_sample_size format.bits) then Some (fault.Format (place + 14))
-    else if nat_lt format.tracks track then Some (fault.Track (place + 2))
+    else if nat_lt format.tracks asked.track then Some (fault.Track (place + 2))
     else None
 
 abbrev pub unless : {A : Type 0} → Option WaveFault → A → Result A WaveFault
@@ -53,15 +64,16 @@ unless (Some f) value = Err f
 unless None value = Ok value
 
 -- the format of the first bytes of a chunk, which stand at a place, for a track from 1
-abbrev pub format_in : ℕ → ℕ → List ℕ → Result WaveFormat WaveFault
-format_in track place body = unless (field_fault track place (is_pcm body) (format_of body)) (format_of body)
+abbrev pub format_in : Asked → ℕ → List ℕ → Result WaveFormat WaveFault
+format_in asked place body = unless (field_fault asked place (is_pcm body) (format_of body)) (format_of body)
 
 -- a format that is taken for a track
-pub record IsTakenFor (track : ℕ) (format : WaveFormat) : Type 0 where
-  pub first : 1 ≤ track
-  pub among : track ≤ format.tracks
+pub record IsTakenFor (asked : Asked) (format : WaveFormat) : Type 0 where
+  pub first : 1 ≤ asked.track
+  pub among : asked.track ≤ format.tracks
   pub most : format.tracks ≤ 64
   pub rate_least : 1 ≤ format.rate
+  pub rate_asked : asked.least_rate ≤ format.rate
   pub rate_most : format.rate ≤ 6_250_000
   pub bits_least : 8 ≤ format.bits
   pub bits_most : format.bits ≤ 32
@@ -78,13 +90,13 @@ sample_width format = format.bits / 8
 
 -- the sample of a track in a block, as its upper 16 bits: the two bytes above, or of 8 bits, which have no sign, 256
 -- times what they stand above 128
-abbrev pub sample_in : WaveFormat → ℕ → List ℕ → ℤ
-sample_in format track block =
-    if sample_width format == 1 then pos (256 * slice_index block (track - 1)) -ℤ pos 32_768
-    else cast_signed w16 (little_number 2 (drop (track * sample_width format - 2) block))
+abbrev pub sample_in : WaveFormat → Asked → List ℕ → ℤ
+sample_in format asked block =
+    if sample_width format == 1 then pos (256 * slice_index block (asked.track - 1)) -ℤ pos 32_768
+    else cast_signed w16 (little_number 2 (drop (asked.track * sample_width format - 2) block))
 
 -- the samples of so many blocks, one block after another
-unfoldable pub samples_at : WaveFormat → ℕ → ℕ → List ℕ → List ℤ
-samples_at format track zero bytes = []
-samples_at format track (suc count) bytes =
-    sample_in format track (take format.block bytes) ∷ samples_at format track count (drop format.block bytes)
+unfoldable pub samples_at : WaveFormat → Asked → ℕ → List ℕ → List ℤ
+samples_at format asked zero bytes = []
+samples_at format asked (suc count) bytes =
+    sample_in format asked (take format.block bytes) ∷ samples_at format asked count (drop format.block bytes)

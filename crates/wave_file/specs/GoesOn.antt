@@ -1,7 +1,7 @@
 -- What holds of whatever bytes say of a sound file, and what more bytes may change of it: nothing that is shown.
 use Rattle.std.specs.Prelude.{◌≡◌, ◌⊎◌, ◌≤◌, ℤ, false, List, [], ◌++◌, length, None}
 use Rattle.wave_file.specs.declared.fault.WaveFault.{WaveFault}
-use Rattle.wave_file.specs.declared.stage.TheConstants.{MAX_SAMPLES}
+use Rattle.wave_file.specs.declared.format.Asked.{Asked}
 use Rattle.wave_file.specs.Wave.{Reading}
 use Rattle.tc_io.specs.Verdict.{refused, past_limit}
 
@@ -12,8 +12,8 @@ pub record GoesOn (front whole : Reading) : Type 0 where
   pub fault : (f : WaveFault) → front.verdict ≡ refused f → whole.verdict ≡ refused f
   pub limit : front.verdict ≡ past_limit → whole.verdict ≡ past_limit
 
--- no more samples than the limit; and none, and no end of the input, before a format
-pub record IsWithin (r : Reading) : Type 0 where
-  pub few : length r.samples ≤ MAX_SAMPLES
+-- no more samples than are asked; and none, and no end of the input, before a format
+pub record IsWithin (asked : Asked) (r : Reading) : Type 0 where
+  pub few : length r.samples ≤ asked.most_samples
   pub none : r.format ≡ None → r.samples ≡ []
   pub ends : r.format ≡ None → r.may_end ≡ false

@@ -10,11 +10,12 @@ use Rattle.byteorder.specs.Endian.{big_bytes, little_bytes}
 use Rattle.wave_file.specs.declared.chunk.TheConstants.{RIFF, RF64, BW64, WAVE, FORMAT, SIZES, DATA, NO_SIZE}
 use Rattle.wave_file.specs.declared.chunk.TheConstants.{LEAST_OPEN_SIZE}
 use Rattle.wave_file.specs.declared.format.WaveFormat.{WaveFormat}
-use Rattle.wave_file.specs.declared.stage.TheConstants.{MAX_BYTES, MAX_SAMPLES}
+use Rattle.wave_file.specs.declared.stage.TheConstants.{MAX_BYTES}
 use Rattle.wave_file.specs.Chunk.{is_open, no_notes}
 use Rattle.wave_file.specs.Format.{sample_width, IsTakenFor}
 use Rattle.wave_file.specs.Wave.{Reading}
 use Rattle.tc_io.specs.Verdict.{good}
+use Rattle.wave_file.specs.declared.format.Asked.{Asked}
 
 -- ---- samples
 
@@ -111,52 +112,52 @@ long_file_of form file_size data_size before format blocks tail =
     ++ behind_head before format NO_SIZE blocks tail))
 
 -- the parts of a file fit one another, and a track is among them
-pub record AreParts (track : ℕ) (before : List OtherChunk) (format : WaveFormat)
+pub record AreParts (asked : Asked) (before : List OtherChunk) (format : WaveFormat)
     (blocks : List (List Sample)) : Type 0 where
   pub others : AllByRecursion IsOther before
-  pub taken : IsTakenFor track format
+  pub taken : IsTakenFor asked format
   pub whole : AllByRecursion (IsBlock format) blocks
-  pub few : length blocks ≤ MAX_SAMPLES
+  pub few : length blocks ≤ asked.most_samples
 
 -- what is read of a file whose samples of a track these are
 abbrev pub read_whole : WaveFormat → List ℤ → Reading
 read_whole format samples = record { format = Some format; samples = samples; verdict = good; may_end = true }
 
 -- the bytes are a file in RIFF that tells the size of its data
-pub record TellsItsSize (track : ℕ) (format : WaveFormat) (blocks : List (List Sample)) (bytes : List ℕ) : Type 0 where
+pub record TellsItsSize (asked : Asked) (format : WaveFormat) (blocks : List (List Sample)) (bytes : List ℕ) : Type 0 where
   pub file_size : ℕ
   pub before : List OtherChunk
   pub tail : List ℕ
   pub are : bytes ≡ file_of file_size before format (length (data_text blocks)) blocks tail
-  pub parts : AreParts track before format blocks
+  pub parts : AreParts asked before format blocks
   pub some : 1 ≤ length blocks
   pub fits : file_size < 2 ^ 32
   pub told : length (data_text blocks) < LEAST_OPEN_SIZE
 
 -- they are one in RIFF whose size tells no length, and that ends with its data
-pub record TellsNoSize (track : ℕ) (format : WaveFormat) (blocks : List (List Sample)) (bytes : List ℕ) : Type 0 where
+pub record TellsNoSize (asked : Asked) (format : WaveFormat) (blocks : List (List Sample)) (bytes : List ℕ) : Type 0 where
   pub file_size : ℕ
   pub before : List OtherChunk
   pub size : ℕ
   pub are : bytes ≡ file_of file_size before format size blocks []
-  pub parts : AreParts track before format blocks
+  pub parts : AreParts asked before format blocks
   pub fits : (file_size < 2 ^ 32) × (size < 2 ^ 32)
   pub untold : is_open (no_notes false file_size) (36 + length (others_text before)) size ≡ true
 
 -- they are one in RF64 or BW64, whose `ds64` tells the size of its data
-pub record TellsALongSize (track : ℕ) (format : WaveFormat) (blocks : List (List Sample)) (bytes : List ℕ) : Type 0 where
+pub record TellsALongSize (asked : Asked) (format : WaveFormat) (blocks : List (List Sample)) (bytes : List ℕ) : Type 0 where
   pub form : ℕ
   pub file_size : ℕ
   pub before : List OtherChunk
   pub tail : List ℕ
   pub are : bytes ≡ long_file_of form file_size (length (data_text blocks)) before format blocks tail
-  pub parts : AreParts track before format blocks
+  pub parts : AreParts asked before format blocks
   pub some : 1 ≤ length blocks
   pub long : (form ≡ RF64) ⊎ (form ≡ BW64)
   pub told : length (data_text blocks) < 2 ^ 64
 
 -- they are a sound file that was made of these blocks, of no more bytes than are read
-pub record IsMadeOf (track : ℕ) (format : WaveFormat) (blocks : List (List Sample)) (bytes : List ℕ) : Type 0 where
-  pub made : TellsItsSize track format blocks bytes ⊎ TellsNoSize track format blocks bytes
-      ⊎ TellsALongSize track format blocks bytes
+pub record IsMadeOf (asked : Asked) (format : WaveFormat) (blocks : List (List Sample)) (bytes : List ℕ) : Type 0 where
+  pub made : TellsItsSize asked format blocks bytes ⊎ TellsNoSize asked format blocks bytes
+      ⊎ TellsALongSize asked format blocks bytes
   pub within : length bytes ≤ MAX_BYTES

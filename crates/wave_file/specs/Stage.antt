@@ -13,6 +13,7 @@ use Rattle.wave_file.specs.Format.{IsTakenFor}
 use Rattle.wave_file.specs.Wave.{Reading, chunks_at, data_at, file_at, format_at, judged_width, padded, sizes_at}
 use Rattle.wave_file.specs.Wave.{wave_at}
 use Rattle.tc_io.specs.Verdict.{good}
+use Rattle.wave_file.specs.declared.format.Asked.{Asked}
 
 -- no block of the data is left: so many bytes of them, and what follows
 abbrev pub tail_at : WaveFormat → ℕ → List ℕ → Reading
@@ -20,16 +21,16 @@ tail_at format left bytes =
     record { format = Some format; samples = []; verdict = good; may_end = nat_le left (length bytes) }
 
 -- what the bytes from a place on say, behind those of the stages before
-abbrev pub at : ℕ → Notes → ℕ → Stage → List ℕ → Reading
-at track notes place Riff bytes = file_at track bytes
-at track notes place (Wave is_long) bytes = wave_at track is_long bytes
-at track notes place (Chunk skip) bytes = chunks_at track skip notes place bytes
-at track notes place (Format size) bytes =
-    format_at track notes place size (λ notes. chunks_at track (padded size) notes place bytes) bytes
-at track notes place (Sizes size) bytes =
-    sizes_at notes (λ notes. chunks_at track (padded size) notes place bytes) bytes
-at track notes place (Data format extent room) bytes = data_at track format extent room bytes
-at track notes place (Tail format left) bytes = tail_at format left bytes
+abbrev pub at : Asked → Notes → ℕ → Stage → List ℕ → Reading
+at asked notes place Riff bytes = file_at asked bytes
+at asked notes place (Wave is_long) bytes = wave_at asked is_long bytes
+at asked notes place (Chunk skip) bytes = chunks_at asked skip notes place bytes
+at asked notes place (Format size) bytes =
+    format_at asked notes place size (λ notes. chunks_at asked (padded size) notes place bytes) bytes
+at asked notes place (Sizes size) bytes =
+    sizes_at notes (λ notes. chunks_at asked (padded size) notes place bytes) bytes
+at asked notes place (Data format extent room) bytes = data_at asked format extent room bytes
+at asked notes place (Tail format left) bytes = tail_at format left bytes
 
 -- the format, where the data have begun
 abbrev pub format_at_stage : Stage → Option WaveFormat
@@ -77,22 +78,22 @@ data_stage format (extent.Announced left) room =
 data_stage format extent.Open room = Data format extent.Open room
 
 -- what is kept of a stage, and the place where its piece may begin
-abbrev pub IsStage : ℕ → ℕ → Stage → Type 0
-IsStage track place Riff = place ≡ 0
-IsStage track place (Wave is_long) = place ≡ 4
-IsStage track place (Chunk skip) = ⊤
-IsStage track place (Format size) = 16 ≤ size
-IsStage track place (Sizes size) = 16 ≤ size
-IsStage track place (Data format extent room) = IsTakenFor track format × HasBlock format extent × (room ≤ MAX_SAMPLES)
-IsStage track place (Tail format left) = IsTakenFor track format
+abbrev pub IsStage : Asked → ℕ → Stage → Type 0
+IsStage asked place Riff = place ≡ 0
+IsStage asked place (Wave is_long) = place ≡ 4
+IsStage asked place (Chunk skip) = ⊤
+IsStage asked place (Format size) = 16 ≤ size
+IsStage asked place (Sizes size) = 16 ≤ size
+IsStage asked place (Data format extent room) = IsTakenFor asked format × HasBlock format extent × (room ≤ MAX_SAMPLES)
+IsStage asked place (Tail format left) = IsTakenFor asked format
 
 -- so many of the bytes belong to no piece, and the stage behind them is the other one
 pub record IsPassed (old : Stage) (most : ℕ) (count : ℕ) (new : Stage) : Type 0 where
   pub some : 1 ≤ count
   pub within : count ≤ most
   pub format : format_at_stage new ≡ format_at_stage old
-  pub stays : (track place : ℕ) → IsStage track place old → IsStage track (place + count) new
+  pub stays : (asked : Asked) (place : ℕ) → IsStage asked place old → IsStage asked (place + count) new
   pub alone : width_of old ≡ 1
   pub wait : 1 ≤ width_of new
-  pub passes : (track : ℕ) (notes : Notes) (place : ℕ) (bytes more : List ℕ) → length bytes ≡ count
-      → at track notes place old (bytes ++ more) ≡ at track notes (place + count) new more
+  pub passes : (asked : Asked) (notes : Notes) (place : ℕ) (bytes more : List ℕ) → length bytes ≡ count
+      → at asked notes place old (bytes ++ more) ≡ at asked notes (place + count) new more

@@ -16,23 +16,25 @@ use Rattle.std.specs.Prelude.{true, false, ◌==◌}
 use Rattle.wave_file.specs.declared.chunk.Extent.{Extent}
 use Rattle.wave_file.specs.declared.chunk.Extent.TheVariants as extent
 use Rattle.wave_file.specs.declared.fault.WaveFault.{WaveFault}
+use Rattle.wave_file.specs.declared.format.Asked.{Asked}
+use Rattle.wave_file.specs.Format.{IsAsked}
 
--- the track, what the chunks so far say, the place behind the whole pieces, what the next bytes are, and the bytes of
+-- what is asked, what the chunks so far say, the place behind the whole pieces, what the next bytes are, and the bytes of
 -- a piece that is not whole
 pub record Decoding : Type 0 where
-  pub track : ℕ
+  pub asked : Asked
   pub notes : Notes
   pub place : ℕ
   pub stage : Stage
   pub part : List ℕ
 
-abbrev pub decoding_of : ℕ → Notes → ℕ → Stage → List ℕ → Decoding
-decoding_of track notes place stage part =
-    record { track = track; notes = notes; place = place; stage = stage; part = part }
+abbrev pub decoding_of : Asked → Notes → ℕ → Stage → List ℕ → Decoding
+decoding_of asked notes place stage part =
+    record { asked = asked; notes = notes; place = place; stage = stage; part = part }
 
 -- of no bytes
-abbrev pub no_decoding : ℕ → Decoding
-no_decoding track = decoding_of track (no_notes false 0) 0 Riff []
+abbrev pub no_decoding : Asked → Decoding
+no_decoding asked = decoding_of asked (no_notes false 0) 0 Riff []
 
 -- how many bytes were taken
 abbrev pub bytes_taken : Decoding → ℕ
@@ -44,10 +46,10 @@ format_in_decoding d = format_at_stage d.stage
 
 -- what a decoder keeps is in its range
 pub record IsDecoding (d : Decoding) : Type 0 where
-  pub least : 1 ≤ d.track
-  pub most : d.track ≤ 64
-  pub notes : IsNoted d.track d.notes
-  pub stage : IsStage d.track d.place d.stage
+  pub least : IsAsked d.asked
+  pub most : d.asked.track ≤ 64
+  pub notes : IsNoted d.asked d.notes
+  pub stage : IsStage d.asked d.place d.stage
   pub part : length d.part < width_of d.stage
   pub within : bytes_taken d ≤ MAX_BYTES
 
@@ -56,8 +58,8 @@ pub record StandsFor (d : Decoding) (bytes : List ℕ) (samples : List ℤ) : Ty
   pub before : List ℕ
   pub split : bytes ≡ before ++ d.part
   pub place : d.place ≡ length before
-  pub follows : (more : List ℕ) → file_at d.track (before ++ more)
-      ≡ with_samples samples (at d.track d.notes d.place d.stage more)
+  pub follows : (more : List ℕ) → file_at d.asked (before ++ more)
+      ≡ with_samples samples (at d.asked d.notes d.place d.stage more)
 
 -- ---- what a call answers
 
@@ -66,7 +68,7 @@ pub record Adds (old new : Decoding) (bytes : List ℕ) (count : ℕ) (more : Li
   pub some : 1 ≤ count
   pub within : count ≤ length bytes
   pub taken : bytes_taken new ≡ bytes_taken old + count
-  pub track : new.track ≡ old.track
+  pub asked : new.asked ≡ old.asked
   pub stands : (front : List ℕ) (samples : List ℤ) → StandsFor old front samples
       → StandsFor new (front ++ take count bytes) (samples ++ more)
 
@@ -105,14 +107,14 @@ StopsAt d bytes samples (Nothing count) = ⊤
 StopsAt d bytes samples (Begin count format) = ⊤
 StopsAt d bytes samples (Sample count sample) = ⊤
 StopsAt d bytes samples (Fault f) =
-    (more : List ℕ) → IsTold (reading_of d.track (bytes ++ more)) (format_in_decoding d) samples (refused f)
+    (more : List ℕ) → IsTold (reading_of d.asked (bytes ++ more)) (format_in_decoding d) samples (refused f)
 StopsAt d bytes samples Limit =
-    (more : List ℕ) → IsTold (reading_of d.track (bytes ++ more)) (format_in_decoding d) samples past_limit
+    (more : List ℕ) → IsTold (reading_of d.asked (bytes ++ more)) (format_in_decoding d) samples past_limit
 
 -- the blocks in so many of the bytes were taken, none or more, and these samples given
 pub record AddsBlocks (old new : Decoding) (bytes : List ℕ) (count : ℕ) (more : List ℤ) : Type 0 where
   pub taken : bytes_taken new ≡ bytes_taken old + count
-  pub track : new.track ≡ old.track
+  pub asked : new.asked ≡ old.asked
   pub format : format_in_decoding new ≡ format_in_decoding old
   pub stands : (front : List ℕ) (samples : List ℤ) → StandsFor old front samples
       → StandsFor new (front ++ take count bytes) (samples ++ more)

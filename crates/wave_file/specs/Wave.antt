@@ -13,10 +13,11 @@ use Rattle.wave_file.specs.declared.chunk.Extent.{Extent}
 use Rattle.wave_file.specs.declared.chunk.Extent.TheVariants as extent
 use Rattle.wave_file.specs.declared.chunk.Notes.{Notes}
 use Rattle.wave_file.specs.declared.chunk.TheConstants.{WAVE}
-use Rattle.wave_file.specs.declared.stage.TheConstants.{MAX_BYTES, MAX_SAMPLES}
+use Rattle.wave_file.specs.declared.stage.TheConstants.{MAX_BYTES}
 use Rattle.tc_io.specs.Verdict.{Verdict, good, refused, past_limit}
 use Rattle.wave_file.specs.Format.{format_in, samples_at}
 use Rattle.wave_file.specs.Chunk.{chunk_of, form_of, no_notes}
+use Rattle.wave_file.specs.declared.format.Asked.{Asked}
 
 -- what bytes say of a sound file: its format, where the data begin; the samples of a track, of whole blocks before the
 -- limit; and whether the input may end there
@@ -60,10 +61,10 @@ abbrev pub blocks_inside : WaveFormat → Extent → List ℕ → ℕ
 blocks_inside format extent bytes = bytes_inside extent bytes / format.block
 
 -- the samples of the whole blocks, at most so many
-abbrev pub data_at : ℕ → WaveFormat → Extent → ℕ → List ℕ → Reading
-data_at track format extent room bytes = record {
+abbrev pub data_at : Asked → WaveFormat → Extent → ℕ → List ℕ → Reading
+data_at asked format extent room bytes = record {
   format = Some format;
-  samples = samples_at format track (min room (blocks_inside format extent bytes)) bytes;
+  samples = samples_at format asked (min room (blocks_inside format extent bytes)) bytes;
   verdict = if nat_le (blocks_inside format extent bytes) room then good else past_limit;
   may_end = may_end_at format.block extent bytes;
 }
@@ -75,9 +76,9 @@ abbrev pub judged_width : ℕ → ℕ
 judged_width size = min 26 size
 
 -- `fmt ` of a size whose bytes stand at a place
-abbrev pub format_at : ℕ → Notes → ℕ → ℕ → (Notes → Reading) → List ℕ → Reading
-format_at track notes place size next bytes =
-    piece (judged_width size) (λ body rest. taken (format_in track place body) (λ format. next (record notes { format = Some format }))) bytes
+abbrev pub format_at : Asked → Notes → ℕ → ℕ → (Notes → Reading) → List ℕ → Reading
+format_at asked notes place size next bytes =
+    piece (judged_width size) (λ body rest. taken (format_in asked place body) (λ format. next (record notes { format = Some format }))) bytes
 
 -- `ds64`: the size of the data stands at its byte 8
 abbrev pub sizes_at : Notes → (Notes → Reading) → List ℕ → Reading
@@ -85,39 +86,39 @@ sizes_at notes next bytes =
     piece 16 (λ body rest. next (record notes { data_size = Some (little_number 8 (drop 8 body)) })) bytes
 
 -- a chunk whose bytes stand at a place, and what comes behind its bytes
-abbrev pub chunk_at : ℕ → Notes → ℕ → Chunk → (ℕ → Notes → Reading) → List ℕ → Reading
-chunk_at track notes place (chunk.Format size) next bytes = format_at track notes place size (next size) bytes
-chunk_at track notes place (chunk.Sizes size) next bytes = sizes_at notes (next size) bytes
-chunk_at track notes place (chunk.Data format extent) next bytes = data_at track format extent MAX_SAMPLES bytes
-chunk_at track notes place (chunk.Other size) next bytes = next size notes
+abbrev pub chunk_at : Asked → Notes → ℕ → Chunk → (ℕ → Notes → Reading) → List ℕ → Reading
+chunk_at asked notes place (chunk.Format size) next bytes = format_at asked notes place size (next size) bytes
+chunk_at asked notes place (chunk.Sizes size) next bytes = sizes_at notes (next size) bytes
+chunk_at asked notes place (chunk.Data format extent) next bytes = data_at asked format extent asked.most_samples bytes
+chunk_at asked notes place (chunk.Other size) next bytes = next size notes
 
 -- the bytes of a chunk with the one of padding that makes their number even
 abbrev pub padded : ℕ → ℕ
 padded size = size + size % 2
 
 -- so many bytes that belong to a chunk, and then chunks: four letters, a size, and its bytes
-unfoldable pub chunks_at : ℕ → ℕ → Notes → ℕ → List ℕ → Reading
-chunks_at track (suc skip) notes place (byte ∷ more) = chunks_at track skip notes (place + 1) more
-chunks_at track zero notes place (a ∷ b ∷ c ∷ d ∷ e ∷ f ∷ g ∷ h ∷ more) =
+unfoldable pub chunks_at : Asked → ℕ → Notes → ℕ → List ℕ → Reading
+chunks_at asked (suc skip) notes place (byte ∷ more) = chunks_at asked skip notes (place + 1) more
+chunks_at asked zero notes place (a ∷ b ∷ c ∷ d ∷ e ∷ f ∷ g ∷ h ∷ more) =
     taken (chunk_of notes place (big_number 4 (a ∷ b ∷ c ∷ d ∷ [])) (little_number 4 (e ∷ f ∷ g ∷ h ∷ [])))
-    (λ chunk. chunk_at track notes (place
-    + 8) chunk (λ size notes. chunks_at track (padded size) notes (place + 8) more) more)
-chunks_at track skip notes place bytes = unfinished
+    (λ chunk. chunk_at asked notes (place
+    + 8) chunk (λ size notes. chunks_at asked (padded size) notes (place + 8) more) more)
+chunks_at asked skip notes place bytes = unfinished
 
 -- ---- the file
 
 -- the size of what follows it, the letters WAVE, and the chunks
-abbrev pub wave_at : ℕ → Bool → List ℕ → Reading
-wave_at track is_long bytes =
+abbrev pub wave_at : Asked → Bool → List ℕ → Reading
+wave_at asked is_long bytes =
     piece 8 (λ wave rest. if big_number 4 (drop 4 wave) == WAVE
-    then chunks_at track 0 (no_notes is_long (little_number 4 wave)) 12 rest else bad (fault.Wave 8)) bytes
+    then chunks_at asked 0 (no_notes is_long (little_number 4 wave)) 12 rest else bad (fault.Wave 8)) bytes
 
-abbrev pub behind_form : ℕ → Option Bool → List ℕ → Reading
-behind_form track None bytes = bad (fault.Riff 0)
-behind_form track (Some is_long) bytes = wave_at track is_long bytes
+abbrev pub behind_form : Asked → Option Bool → List ℕ → Reading
+behind_form asked None bytes = bad (fault.Riff 0)
+behind_form asked (Some is_long) bytes = wave_at asked is_long bytes
 
-abbrev pub file_at : ℕ → List ℕ → Reading
-file_at track bytes = piece 4 (λ letters rest. behind_form track (form_of (big_number 4 letters)) rest) bytes
+abbrev pub file_at : Asked → List ℕ → Reading
+file_at asked bytes = piece 4 (λ letters rest. behind_form asked (form_of (big_number 4 letters)) rest) bytes
 
 -- more bytes than are read, where these have no fault and are within the limit
 abbrev pub and_more : Verdict WaveFault → Verdict WaveFault
@@ -126,11 +127,11 @@ and_more (refused f) = refused f
 and_more past_limit = past_limit
 
 -- of bytes behind the greatest number nothing is asked
-abbrev pub reading_of : ℕ → List ℕ → Reading
-reading_of track bytes =
-    if nat_le (length bytes) MAX_BYTES then file_at track bytes
-    else let r = file_at track (take MAX_BYTES bytes) in record r { verdict = and_more r.verdict; may_end = false }
+abbrev pub reading_of : Asked → List ℕ → Reading
+reading_of asked bytes =
+    if nat_le (length bytes) MAX_BYTES then file_at asked bytes
+    else let r = file_at asked (take MAX_BYTES bytes) in record r { verdict = and_more r.verdict; may_end = false }
 
 -- the fault of bytes after which the input may not end
-abbrev pub end_fault_of : ℕ → List ℕ → Option WaveFault
-end_fault_of track bytes = if (reading_of track bytes).may_end then None else Some (fault.Truncated (length bytes))
+abbrev pub end_fault_of : Asked → List ℕ → Option WaveFault
+end_fault_of asked bytes = if (reading_of asked bytes).may_end then None else Some (fault.Truncated (length bytes))

@@ -2,6 +2,7 @@
 ghost use Rattle.std.specs.Prelude.{◌≡◌, ℕ, IfOk};
 ghost use Rattle.wave_file.specs.Chunk.{chunk_of, data_in, extent_of, form_of, is_open, is_open_size};
 ghost use Rattle.wave_file.specs.Chunk.{IsChunkFor, IsNoted};
+ghost use Rattle.wave_file.specs.declared.format.Asked.{Asked};
 
 use crate::fault::WaveFault;
 use crate::format::{MIN_FORMAT_LENGTH, WaveFormat};
@@ -119,7 +120,7 @@ fn extent_of(notes: &Notes, place: u64, size: u32) -> Option<Extent>
 /// Data of this size, behind these chunks.
 fn data_in(notes: &Notes, place: u64, size: u32) -> Result<Chunk, WaveFault>
     ensures value { result ≡ data_in notes.now place size }
-    ensures chunk { (track : ℕ) → IsNoted track notes.now → IfOk result (λ chunk. IsChunkFor track chunk) }
+    ensures chunk { (asked : Asked) → IsNoted asked notes.now → IfOk result (λ chunk. IsChunkFor asked chunk) }
 {
     match extent_of(notes, place, size) {
         None => Err(WaveFault::Ds64(place)),
@@ -138,7 +139,7 @@ pub(crate) fn chunk_of(
     size: u32,
 ) -> Result<Chunk, WaveFault>
     ensures value { result ≡ chunk_of notes.now place letters size }
-    ensures chunk { (track : ℕ) → IsNoted track notes.now → IfOk result (λ chunk. IsChunkFor track chunk) }
+    ensures chunk { (asked : Asked) → IsNoted asked notes.now → IfOk result (λ chunk. IsChunkFor asked chunk) }
 {
     if letters == DATA {
         data_in(notes, place, size)

@@ -1,7 +1,7 @@
 //! The decoder of a sound file.
 ghost use Rattle.std.specs.Prelude.{◌≡◌, ◌≤◌, ◌<◌, ◌*◌, ◌^◌, ◌++◌, ◌+◌, ◌/◌, min, ℕ};
 ghost use Rattle.std.specs.Prelude.{ℤ, List, [], length, take, Some, None, OnOk, IfErr, IfSome};
-ghost use Rattle.wave_file.specs.Format.{samples_at, IsTakenFor};
+ghost use Rattle.wave_file.specs.Format.{samples_at, IsAsked, IsTakenFor};
 ghost use Rattle.wave_file.specs.Chunk.{IsNoted};
 ghost use Rattle.wave_file.specs.Stage.{format_at_stage, width_of, HasBytes, IsStage, IsWaiting};
 ghost use Rattle.wave_file.specs.Step.{IsLeft, IsStep};
@@ -13,7 +13,7 @@ ghost use Rattle.tc_io.specs.Verdict.{good};
 
 use crate::chunk::{Extent, Notes};
 use crate::fault::WaveFault;
-use crate::format::WaveFormat;
+use crate::format::{Asked, WaveFormat};
 use crate::sample::sample_in;
 use crate::stage::{MAX_BYTES, Stage, Step, behind, data_stage, passed, step_over, width_of};
 use arrayvec::ArrayVec;
@@ -44,7 +44,7 @@ pub enum Taken {
 /// Decodes a sound file piece by piece, and keeps less than one piece of it.
 #[derive(Drop)]
 pub struct WaveDecoder {
-    track: u32,
+    asked: Asked,
     notes: Notes,
     place: u64,
     stage: Stage,
@@ -56,21 +56,21 @@ impl Model for WaveDecoder {
 
     ghost Value = { Decoding };
 
-    ghost view = { λ d. decoding_of d.track d.notes d.place d.stage d.part.items };
+    ghost view = { λ d. decoding_of d.asked d.notes d.place d.stage d.part.items };
 
-    ghost invariant = { λ d. IsDecoding (decoding_of d.track d.notes d.place d.stage d.part.items) };
+    ghost invariant = { λ d. IsDecoding (decoding_of d.asked d.notes d.place d.stage d.part.items) };
 }
 
 impl WaveDecoder {
-    /// A decoder of a track, from 1 to 64, that stands before the first byte.
-    pub fn new(track: u32) -> WaveDecoder
-        requires least { 1 ≤ track }
-        requires most { track ≤ 64 }
-        ensures value { result ≡ no_decoding track }
+    /// A decoder of what is asked, that stands before the first byte.
+    pub fn new(asked: Asked) -> WaveDecoder
+        requires asked { IsAsked asked }
+        requires most { asked.track ≤ 64 }
+        ensures value { result ≡ no_decoding asked }
         ensures stands { StandsFor result [] [] }
     {
         WaveDecoder {
-            track,
+            asked,
             notes: Notes {
                 is_long: false,
                 file_size: 0,
@@ -124,7 +124,7 @@ impl WaveDecoder {
         let width = self.part.len() + want;
         let (notes, stage) = (self.notes, self.stage);
         match step_with(
-            self.track,
+            self.asked,
             &notes,
             &stage,
             self.place,
@@ -185,7 +185,7 @@ impl WaveDecoder {
         let count = whole_blocks(inside, block, room.len(), left);
         read_blocks(
             &format,
-            self.track,
+            self.asked,
             &bytes[..count * block],
             &mut room[..count],
         );
@@ -199,10 +199,10 @@ impl WaveDecoder {
     /// those of its bytes.
     pub fn format(&self) -> Option<WaveFormat>
         ensures value { result ≡ format_in_decoding self.now }
-        ensures taken { IfSome result (λ format. IsTakenFor self.now.track format) }
+        ensures taken { IfSome result (λ format. IsTakenFor self.now.asked format) }
         ensures within { bytes_taken self.now ≤ MAX_BYTES }
         ensures told { (bytes : List ℕ) (samples : List ℤ) → StandsFor self.now bytes samples
-            → IsTold (reading_of self.now.track bytes) result samples good }
+            → IsTold (reading_of self.now.asked bytes) result samples good }
     {
         format_at(&self.stage)
     }
@@ -210,9 +210,9 @@ impl WaveDecoder {
     /// The end of the input: the fault where it may not end here.
     pub fn finish(&self) -> Result<(), WaveFault>
         ensures ok { OnOk result ((bytes : List ℕ) (samples : List ℤ) → StandsFor self.now bytes samples
-            → end_fault_of self.now.track bytes ≡ None) }
+            → end_fault_of self.now.asked bytes ≡ None) }
         ensures err { IfErr result (λ fault. (bytes : List ℕ) (samples : List ℤ) → StandsFor self.now bytes samples
-            → end_fault_of self.now.track bytes ≡ Some fault) }
+            → end_fault_of self.now.asked bytes ≡ Some fault) }
     {
         if self.part.is_empty() && may_end(&self.stage) {
             Ok(())
@@ -224,26 +224,26 @@ impl WaveDecoder {
 
 /// What a piece brings, the first bytes of which were kept. Where the reading ends, they are kept on.
 fn step_with(
-    track: u32,
+    asked: Asked,
     notes: &Notes,
     stage: &Stage,
     place: u64,
     part: &mut Part,
     bytes: &[u8],
 ) -> Step
-    requires track { 1 ≤ track }
-    requires notes { IsNoted track notes.now }
-    requires stage { IsStage track place stage.now }
+    requires asked { IsAsked asked }
+    requires notes { IsNoted asked notes.now }
+    requires stage { IsStage asked place stage.now }
     requires waiting { IsWaiting stage.now }
     requires place { place < 2 ^ 62 }
     requires piece { length part.old.items + length bytes.now ≡ width_of stage.now }
     requires room { width_of stage.now ≤ PIECE_ROOM }
-    ensures step { IsStep track notes.now place stage.now (part.old.items ++ bytes.now) result }
+    ensures step { IsStep asked notes.now place stage.now (part.old.items ++ bytes.now) result }
     ensures left { IsLeft result part.old.items part.new.items }
 {
     let before = part.len();
     put_bytes(part, bytes);
-    let step = step_over(track, notes, stage, place, part);
+    let step = step_over(asked, notes, stage, place, part);
     match step {
         Step::Fault(_) | Step::Limit => part.truncate(before),
         _ => part.clear(),
@@ -336,16 +336,16 @@ fn least(blocks: usize, places: usize, left: u64) -> usize
 }
 
 /// Puts the samples of a track in blocks into places, of which there are as many.
-fn read_blocks(format: &WaveFormat, track: u32, blocks: &[u8], places: &mut [i16])
-    requires taken { IsTakenFor track format.now }
+fn read_blocks(format: &WaveFormat, asked: Asked, blocks: &[u8], places: &mut [i16])
+    requires taken { IsTakenFor asked format.now }
     requires blocks { length blocks.now ≡ length places.old * format.now.block }
-    ensures { places.new ≡ samples_at format.now track (length places.old) blocks.now }
+    ensures { places.new ≡ samples_at format.now asked (length places.old) blocks.now }
 {
     let block = usize::from(format.block);
     let mut at = 0;
     'each: for place in 0..places.len() {
         let next = at + block;
-        places[place] = sample_in(format, track, &blocks[at..next]);
+        places[place] = sample_in(format, asked, &blocks[at..next]);
         at = next;
     }
 }

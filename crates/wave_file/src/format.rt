@@ -1,7 +1,7 @@
 //! The format of a sound file: its tracks, its rate, and the size of its samples. Read next: `sample`.
 ghost use Rattle.std.specs.Prelude.{◌≡◌, ◌≤◌, ◌^◌, ◌<◌, ◌+◌, IfOk, length};
 ghost use Rattle.wave_file.specs.Format.{field_fault, format_in, format_of, is_pcm};
-ghost use Rattle.wave_file.specs.Format.{is_sample_size, is_track_count, is_rate, IsTakenFor};
+ghost use Rattle.wave_file.specs.Format.{is_sample_size, is_track_count, is_rate, IsAsked, IsTakenFor};
 
 use crate::fault::WaveFault;
 use byteorder::{ByteOrder, LittleEndian};
@@ -29,17 +29,28 @@ pub struct WaveFormat {
     pub bits: u16,
 }
 
+/// What is asked of a sound file.
+#[derive(Clone, Copy, Debug, PartialEq, Eq)]
+pub struct Asked {
+    /// The track, from 1 to 64.
+    pub track: u32,
+    /// A file of fewer samples a second is refused. From 1 on: of 1 none is.
+    pub least_rate: u32,
+    /// So many samples of the track are read, at most.
+    pub most_samples: u64,
+}
+
 /// The format in the first bytes of a format chunk, which stand at a place; or its first field that is
 /// not taken.
-pub(crate) fn format_in(track: u32, place: u64, body: &[u8]) -> Result<WaveFormat, WaveFault>
-    requires track { 1 ≤ track }
+pub(crate) fn format_in(asked: Asked, place: u64, body: &[u8]) -> Result<WaveFormat, WaveFault>
+    requires asked { IsAsked asked }
     requires length { 16 ≤ length body.now }
     requires place { place < 2 ^ 63 }
-    ensures value { result ≡ format_in track place body.now }
-    ensures taken { IfOk result (λ format. IsTakenFor track format) }
+    ensures value { result ≡ format_in asked place body.now }
+    ensures taken { IfOk result (λ format. IsTakenFor asked format) }
 {
     let format = format_of(body);
-    match field_fault(track, place, is_pcm(body), &format) {
+    match field_fault(asked, place, is_pcm(body), &format) {
         Some(fault) => Err(fault),
         None => Ok(format),
     }
@@ -68,22 +79,22 @@ fn is_pcm(body: &[u8]) -> bool
 }
 
 /// The first field that is not taken.
-fn field_fault(track: u32, place: u64, is_pcm: bool, format: &WaveFormat) -> Option<WaveFault>
+fn field_fault(asked: Asked, place: u64, is_pcm: bool, format: &WaveFormat) -> Option<WaveFault>
     requires { place < 2 ^ 63 }
-    ensures { result ≡ field_fault track place is_pcm format.now }
+    ensures { result ≡ field_fault asked place is_pcm format.now }
 {
     let format = *format;
     if !is_pcm {
         Some(WaveFault::Format(place))
     } else if !is_track_count(format.tracks) {
         Some(WaveFault::Format(place + 2))
-    } else if !is_rate(format.rate) {
+    } else if !is_rate(asked.least_rate, format.rate) {
         Some(WaveFault::Format(place + 4))
     } else if 8 * u32::from(format.block) != u32::from(format.tracks) * u32::from(format.bits) {
         Some(WaveFault::Format(place + 12))
     } else if !is_sample_size(format.bits) {
         Some(WaveFault::Format(place + 14))
-    } else if u32::from(format.tracks) < track {
+    } else if u32::from(format.tracks) < asked.track {
         Some(WaveFault::Track(place + 2))
     } else {
         None
@@ -97,11 +108,11 @@ fn is_track_count(tracks: u16) -> bool
     1 <= tracks && u32::from(tracks) <= MAX_TRACKS
 }
 
-/// Whether a file may have so many samples a second.
-fn is_rate(rate: u32) -> bool
-    ensures { result ≡ is_rate rate }
+/// Whether a file may have so many samples a second, where so many are asked at least.
+fn is_rate(least: u32, rate: u32) -> bool
+    ensures { result ≡ is_rate least rate }
 {
-    1 <= rate && rate <= MAX_RATE
+    least <= rate && rate <= MAX_RATE
 }
 
 /// Whether a sample may have so many bits.

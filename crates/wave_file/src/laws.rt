@@ -4,6 +4,7 @@ ghost use Rattle.std.specs.Prelude.{◌≡◌, ◌≤◌, ◌-◌, ◌^◌, ℕ,
 ghost use Rattle.std.specs.Prelude.{codes, length, Some};
 ghost use Rattle.byteorder.specs.Endian.{big_number};
 ghost use Rattle.wave_file.specs.declared.chunk.TheConstants as chunk;
+ghost use Rattle.wave_file.specs.declared.format.Asked.{Asked};
 ghost use Rattle.wave_file.specs.declared.format.WaveFormat.{WaveFormat};
 ghost use Rattle.wave_file.specs.declared.format.TheConstants.{MAX_RATE};
 ghost use Rattle.wave_file.specs.declared.names.TheConstants as names;
@@ -65,31 +66,31 @@ pub fn each_fault_has_its_name()
 /// Bytes that a decoder took are good; its format is theirs, and the samples that it gave are theirs.
 pub fn a_decoder_tells_the_file()
     ensures { (d : Decoding) (bytes : List ℕ) (samples : List ℤ) → IsDecoding d → StandsFor d bytes samples
-        → IsTold (reading_of d.track bytes) (format_in_decoding d) samples good }
+        → IsTold (reading_of d.asked bytes) (format_in_decoding d) samples good }
 {}
 
 /// What bytes show of a sound file they show whatever follows: its format, a fault and the limit stay, and
 /// their samples come first.
 pub fn what_a_sound_file_shows_stays()
-    ensures { (track : ℕ) (bytes more : List ℕ) → GoesOn (reading_of track bytes) (reading_of track (bytes ++ more)) }
+    ensures { (asked : Asked) (bytes more : List ℕ) → GoesOn (reading_of asked bytes) (reading_of asked (bytes ++ more)) }
 {}
 
-/// Whatever the bytes, no more samples are read than the limit, and before a format there are none, and the
+/// Whatever the bytes, no more samples are read than are asked, and before a format there are none, and the
 /// input may not end.
 pub fn samples_are_few_and_behind_a_format()
-    ensures { (track : ℕ) (bytes : List ℕ) → IsWithin (reading_of track bytes) }
+    ensures { (asked : Asked) (bytes : List ℕ) → IsWithin asked (reading_of asked bytes) }
 {}
 
 /// A file that was made of blocks is read as its format and the samples of a track, whatever stands before its
 /// format and behind its data, and the input may end there: in RIFF where the size of its data stands in it, and
 /// where it tells no length and nothing follows the data; in RF64 and BW64 where the size stands in `ds64`.
 pub fn a_file_is_read_as_it_was_written()
-    ensures { (track : ℕ) (format : WaveFormat) (blocks : List (List Sample)) (bytes : List ℕ)
-        → IsMadeOf track format blocks bytes → reading_of track bytes ≡ read_whole format (track_of track blocks) }
+    ensures { (asked : Asked) (format : WaveFormat) (blocks : List (List Sample)) (bytes : List ℕ)
+        → IsMadeOf asked format blocks bytes → reading_of asked bytes ≡ read_whole format (track_of asked.track blocks) }
 {}
 
-/// A format was judged before its data: its rate is from 1 to 6,250,000.
+/// A format was judged before its data: its rate is from the least that is asked to 6,250,000.
 pub fn the_rate_of_a_format_is_judged()
-    ensures { (track : ℕ) (bytes : List ℕ) (format : WaveFormat) → (reading_of track bytes).format ≡ Some format
-        → (1 ≤ format.rate) × (format.rate ≤ 6_250_000) }
+    ensures { (asked : Asked) (bytes : List ℕ) (format : WaveFormat) → (reading_of asked bytes).format ≡ Some format
+        → (asked.least_rate ≤ format.rate) × (format.rate ≤ 6_250_000) }
 {}

@@ -33,5 +33,5 @@ mod stage;
 
 pub use decoder::{Taken, WaveDecoder};
 pub use fault::WaveFault;
-pub use format::{MAX_RATE, WaveFormat};
+pub use format::{Asked, MAX_RATE, WaveFormat};
 pub use stage::{MAX_BYTES, MAX_SAMPLES};

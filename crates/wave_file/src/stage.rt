@@ -1,6 +1,6 @@
 //! How far a decoder has come, and what a whole piece brings. Read next: `decoder`.
 ghost use Rattle.std.specs.Prelude.{◌≡◌, ℕ, ◌≤◌, ◌<◌, ◌^◌, length, drop, None, IfSome};
-ghost use Rattle.wave_file.specs.Format.{IsTakenFor};
+ghost use Rattle.wave_file.specs.Format.{IsAsked, IsTakenFor};
 ghost use Rattle.wave_file.specs.Stage.{data_stage, extent_behind, width_of, HasBlock};
 ghost use Rattle.wave_file.specs.Stage.{HasBytes, IsPassed, IsStage, IsWaiting};
 ghost use Rattle.wave_file.specs.Step.{IsStep};
@@ -9,17 +9,18 @@ ghost use Rattle.byteorder.specs.Endian.{little_number};
 ghost use Rattle.wave_file.specs.Wave.{judged_width, padded};
 ghost use Rattle.wave_file.specs.Chunk.{no_notes, IsNoted};
 ghost use Rattle.wave_file.specs.declared.chunk.Notes.{Notes};
+ghost use Rattle.wave_file.specs.declared.format.Asked.{Asked};
 
 use crate::chunk::{Chunk, Extent, Notes, SIZES_LENGTH, WAVE, chunk_of, form_of};
 use crate::fault::WaveFault;
-use crate::format::{FORMAT_LENGTH, WaveFormat, format_in};
+use crate::format::{Asked, FORMAT_LENGTH, WaveFormat, format_in};
 use crate::sample::sample_in;
 use byteorder::{BigEndian, ByteOrder, LittleEndian};
 
 /// So many bytes are read, at most: more than any store holds.
 pub const MAX_BYTES: u64 = 4_611_686_018_427_387_904;
 
-/// So many samples of the track are read, at most: 265 days at 48,000 samples a second.
+/// So many samples of the track may be asked, at most: 265 days at 48,000 samples a second.
 pub const MAX_SAMPLES: u64 = 1_099_511_627_776;
 
 /// What the next bytes are.
@@ -148,26 +149,26 @@ pub(crate) fn passed(stage: &Stage, length: usize) -> Option<(usize, Stage)>
 }
 
 /// What a whole piece at a place brings.
-pub(crate) fn step_over(track: u32, notes: &Notes, stage: &Stage, place: u64, piece: &[u8]) -> Step
-    requires track { 1 ≤ track }
-    requires notes { IsNoted track notes.now }
-    requires stage { IsStage track place stage.now }
+pub(crate) fn step_over(asked: Asked, notes: &Notes, stage: &Stage, place: u64, piece: &[u8]) -> Step
+    requires asked { IsAsked asked }
+    requires notes { IsNoted asked notes.now }
+    requires stage { IsStage asked place stage.now }
     requires waiting { IsWaiting stage.now }
     requires place { place < 2 ^ 62 }
     requires piece { length piece.now ≡ width_of stage.now }
-    ensures { IsStep track notes.now place stage.now piece.now result }
+    ensures { IsStep asked notes.now place stage.now piece.now result }
 {
     match *stage {
         Stage::Riff => behind_form(piece),
         Stage::Wave { is_long } => behind_wave(is_long, piece),
-        Stage::Chunk { .. } => behind_head(notes, place, piece),
-        Stage::Format { size } => behind_format(track, notes, place, size, piece),
+        Stage::Chunk { .. } => behind_head(asked, notes, place, piece),
+        Stage::Format { size } => behind_format(asked, notes, place, size, piece),
         Stage::Sizes { size } => behind_sizes(notes, size, piece),
         Stage::Data {
             format,
             extent,
             room,
-        } => behind_block(track, &format, extent, room, piece),
+        } => behind_block(asked, &format, extent, room, piece),
         Stage::Tail { .. } => Step::Limit,
     }
 }
@@ -175,7 +176,7 @@ pub(crate) fn step_over(track: u32, notes: &Notes, stage: &Stage, place: u64, pi
 /// What the first four letters bring.
 fn behind_form(piece: &[u8]) -> Step
     requires { length piece.now ≡ 4 }
-    ensures { (track : ℕ) (notes : Notes) → IsStep track notes 0 stages.Riff piece.now result }
+    ensures { (asked : Asked) (notes : Notes) → IsStep asked notes 0 stages.Riff piece.now result }
 {
     match form_of(BigEndian::read_u32(piece)) {
         None => Step::Fault(WaveFault::Riff(0)),
@@ -189,7 +190,7 @@ fn behind_form(piece: &[u8]) -> Step
 /// What the eight bytes behind them bring.
 fn behind_wave(is_long: bool, piece: &[u8]) -> Step
     requires { length piece.now ≡ 8 }
-    ensures { (track : ℕ) (notes : Notes) → IsStep track notes 4 (stages.Wave is_long) piece.now result }
+    ensures { (asked : Asked) (notes : Notes) → IsStep asked notes 4 (stages.Wave is_long) piece.now result }
 {
     if BigEndian::read_u32(&piece[4..]) == WAVE {
         Step::Next {
@@ -202,16 +203,18 @@ fn behind_wave(is_long: bool, piece: &[u8]) -> Step
 }
 
 /// What the letters and the size of a chunk bring.
-fn behind_head(notes: &Notes, place: u64, piece: &[u8]) -> Step
+fn behind_head(asked: Asked, notes: &Notes, place: u64, piece: &[u8]) -> Step
+    requires asked { IsAsked asked }
+    requires noted { IsNoted asked notes.now }
     requires place { place < 2 ^ 62 }
     requires piece { length piece.now ≡ 8 }
-    ensures { (track : ℕ) → IsNoted track notes.now → IsStep track notes.now place (stages.Chunk 0) piece.now result }
+    ensures { IsStep asked notes.now place (stages.Chunk 0) piece.now result }
 {
     match chunk_of(notes, place, BigEndian::read_u32(piece), size_in(piece)) {
         Err(fault) => Step::Fault(fault),
         Ok(Chunk::Data { format, extent }) => Step::Begin {
             format,
-            stage: data_stage(format, extent, MAX_SAMPLES),
+            stage: data_stage(format, extent, asked.most_samples),
         },
         Ok(Chunk::Format { size }) => Step::Next {
             notes: *notes,
@@ -229,14 +232,14 @@ fn behind_head(notes: &Notes, place: u64, piece: &[u8]) -> Step
 }
 
 /// What the bytes of a format chunk bring.
-fn behind_format(track: u32, notes: &Notes, place: u64, size: u32, piece: &[u8]) -> Step
-    requires track { 1 ≤ track }
+fn behind_format(asked: Asked, notes: &Notes, place: u64, size: u32, piece: &[u8]) -> Step
+    requires asked { IsAsked asked }
     requires place { place < 2 ^ 62 }
     requires least { 16 ≤ size }
     requires piece { length piece.now ≡ judged_width size }
-    ensures { IsStep track notes.now place (stages.Format size) piece.now result }
+    ensures { IsStep asked notes.now place (stages.Format size) piece.now result }
 {
-    match format_in(track, place, piece) {
+    match format_in(asked, place, piece) {
         Err(fault) => Step::Fault(fault),
         Ok(format) => Step::Next {
             notes: Notes {
@@ -256,7 +259,7 @@ fn behind_format(track: u32, notes: &Notes, place: u64, size: u32, piece: &[u8])
 fn behind_sizes(notes: &Notes, size: u32, piece: &[u8]) -> Step
     requires least { 16 ≤ size }
     requires piece { length piece.now ≡ 16 }
-    ensures { (track place : ℕ) → IsStep track notes.now place (stages.Sizes size) piece.now result }
+    ensures { (asked : Asked) (place : ℕ) → IsStep asked notes.now place (stages.Sizes size) piece.now result }
 {
     Step::Next {
         notes: Notes {
@@ -272,19 +275,19 @@ fn behind_sizes(notes: &Notes, size: u32, piece: &[u8]) -> Step
 }
 
 /// What a block brings.
-fn behind_block(track: u32, format: &WaveFormat, extent: Extent, room: u64, block: &[u8]) -> Step
-    requires taken { IsTakenFor track format.now }
+fn behind_block(asked: Asked, format: &WaveFormat, extent: Extent, room: u64, block: &[u8]) -> Step
+    requires taken { IsTakenFor asked format.now }
     requires extent { HasBlock format.now extent }
     requires room { room ≤ MAX_SAMPLES }
     requires block { length block.now ≡ format.now.block }
     ensures { (notes : Notes) (place : ℕ)
-        → IsStep track notes place (stages.Data format.now extent room) block.now result }
+        → IsStep asked notes place (stages.Data format.now extent room) block.now result }
 {
     if room == 0 {
         return Step::Limit;
     }
     Step::Sample {
-        sample: sample_in(format, track, block),
+        sample: sample_in(format, asked, block),
         stage: data_stage(*format, behind(extent, u64::from(format.block)), room - 1),
     }
 }

@@ -8,6 +8,7 @@ use Rattle.wave_file.specs.Wave.{reading_of}
 use Rattle.sound_report.specs.TwoRuns.{report_under}
 use Rattle.sound_report.proofs.OutputOfARun.{is_report, outputs_of}
 use Rattle.sound_report.proofs.laws.the_words_of_a_track_come_out_of_two_runs.Goals as goal
+use Rattle.signal_commands.specs.WavLtc.{asked_by}
 
 pub returns-clause-report : goal.returns-clause-report
 returns-clause-report c = λ profile w format tape words file text is piped.
@@ -26,6 +27,6 @@ returns-clause-one_span c = λ flight w format tape first more file text asked i
     let out = outputs_of (jobs.WavLtc w) (jobs.LtcSpans flight) file text piped in
     c.words_that_count_on_are_one_span.ensures (track_header w format) flight is.margin.delay
     (is.margin.start + duration (take 2 tape)) tape first more
-    (distances_from_start 16 w.threshold (sums w.smooth (reading_of w.track file).samples)) text
+    (distances_from_start 16 w.threshold (sums w.smooth (reading_of (asked_by w) file).samples)) text
     (c.the_spans_of_a_track_are_told.ensures flight w format tape (first ∷ more) file out.between text asked is.is is.margin
     is.late is.fits is.whole is.begins is.spelled out.wrote out.read) on pace

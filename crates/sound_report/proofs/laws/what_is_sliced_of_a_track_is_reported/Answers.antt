@@ -8,14 +8,15 @@ use Rattle.wave_file.specs.Wave.{reading_of}
 use Rattle.sound_report.proofs.FileOfASound.{reported}
 use Rattle.sound_report.proofs.WholeDistances.{written_whole, PaceLaws}
 use Rattle.sound_report.proofs.laws.what_is_sliced_of_a_track_is_reported.Goals as goal
+use Rattle.signal_commands.specs.WavLtc.{asked_by}
 
 pub returns : goal.returns
 returns c = λ profile w format tape words file written text begins margin late fits whole are spelled output read.
-    let samples = (reading_of w.track file).samples in
+    let samples = (reading_of (asked_by w) file).samples in
     let heard = sums w.smooth samples in
     let fit = c.a_silence_before_the_tape_costs_no_word.ensures.fit profile 16 w.threshold tape heard (omega arith)
     margin late fits in
-    let rate = c.the_rate_of_a_format_is_judged.ensures w.track file format begins in
+    let rate = c.the_rate_of_a_format_is_judged.ensures (asked_by w) file format begins in
     let paces : PaceLaws =
     record { ended = c.short_distances_are_whole.ensures.ended; short = c.short_distances_are_whole.ensures.short } in
     reported c.a_file_is_read_as_it_was_written.ensures.read profile (track_header w format) margin.delay

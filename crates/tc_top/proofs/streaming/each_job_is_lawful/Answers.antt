@@ -28,6 +28,8 @@ returns c = lawful
     lawful (jobs.PcmLtc slicing) = c.sliced_sound_is_lawful.ensures slicing
     lawful (jobs.PcmPath path) = c.paths_are_lawful.ensures path
     lawful (jobs.WavLtc slicing) = c.sliced_tracks_are_lawful.ensures slicing
+    lawful (jobs.WavPath path) =
+        meaning_is_lawful _ (c.each_signal_makes_a_command.ensures.track_paths path) (λ input spent. spent)
     lawful jobs.MtcRead = c.midi_is_lawful.ensures
     lawful jobs.VitcRead = c.fields_are_lawful.ensures
     lawful (jobs.VitcMake stripe) = c.line_stripes_are_lawful.ensures stripe

@@ -45,9 +45,9 @@ each-preserved c =
     let less : place < length c.each.places = omega (arith, test, same) in
     let fits : SFits w16 c.sample_in.result = search rules in
     let cut : c.each.at + c.from-block.result - c.each.at ≡ w = omega (arith, block) in
-    let is : c.sample_in.result ≡ sample_in format c.args.track (take w (drop (place * w) blocks)) =
-    c.sample_in.ensures ∙ ap (λ (n : ℕ). sample_in format c.args.track (take n (drop c.each.at blocks))) cut
-    ∙ ap (λ (n : ℕ). sample_in format c.args.track (take w (drop n blocks))) at_is in
+    let is : c.sample_in.result ≡ sample_in format c.args.asked (take w (drop (place * w) blocks)) =
+    c.sample_in.ensures ∙ ap (λ (n : ℕ). sample_in format c.args.asked (take n (drop c.each.at blocks))) cut
+    ∙ ap (λ (n : ℕ). sample_in format c.args.asked (take w (drop n blocks))) at_is in
     let next = suc-mul place w in
     let one : (place + 1) * w ≡ place * w + w = ap (λ (n : ℕ). n * w) (omega arith) ∙ next in
     rw (to_z-of_z w16 c.sample_in.result fits) (record {
@@ -56,8 +56,8 @@ each-preserved c =
       size = length-set c.each.places place c.sample_in.result ∙ c.each.invariant.size;
       reads = take_more_set c.each.places place c.sample_in.result less
           ∙ ap (λ (l : List ℤ). l ++ c.sample_in.result ∷ []) c.each.invariant.reads
-          ∙ ap (λ (z : ℤ). samples_at format c.args.track place blocks ++ z ∷ []) is
-          ∙ sym (samples_more format c.args.track place blocks);
+          ∙ ap (λ (z : ℤ). samples_at format c.args.asked place blocks ++ z ∷ []) is
+          ∙ sym (samples_more format c.args.asked place blocks);
     })
 
 pub returns : goal.returns
@@ -68,4 +68,4 @@ returns c =
     let same : c.each.place ≡ length c.args.places.now = omega (arith, over, within) in
     let all : c.each.place ≡ length c.each.places = omega (arith, same, size) in
     sym (ap (λ (n : ℕ). take n c.each.places) all ∙ take-length c.each.places) ∙ c.each.invariant.reads
-    ∙ ap (λ (n : ℕ). samples_at c.args.format.now c.args.track n c.args.blocks.now) same
+    ∙ ap (λ (n : ℕ). samples_at c.args.format.now c.args.asked n c.args.blocks.now) same

@@ -8,5 +8,5 @@ invariant-each l = record {
   block : l.block ≡ l.format.block;
   at_is : l.at ≡ l.place * l.format.block;
   size : length l.places ≡ length l.fn.places;
-  reads : take l.place l.places ≡ samples_at l.format l.track l.place l.blocks;
+  reads : take l.place l.places ≡ samples_at l.format l.asked l.place l.blocks;
 }

@@ -2,4 +2,4 @@ use Rattle.wave_file.proofs.WhatStays.{few_samples}
 use Rattle.wave_file.proofs.laws.samples_are_few_and_behind_a_format.Goals as goal
 
 pub returns : goal.returns
-returns c = λ track bytes. few_samples track bytes
+returns c = λ asked bytes. few_samples asked bytes

@@ -7,23 +7,23 @@ use Rattle.wave_file.proofs.Pieces.{piece_whole}
 use Rattle.wave_file.proofs.stage.behind_form.Goals as goal
 
 pub returns-in-None : goal.returns-in-None
-returns-in-None c = λ track notes. (
+returns-in-None c = λ asked notes. (
   refl,
-  λ more. piece_whole 4 (λ (letters rest : List ℕ). behind_form track (form_of (big_number 4 letters)) rest)
+  λ more. piece_whole 4 (λ (letters rest : List ℕ). behind_form asked (form_of (big_number 4 letters)) rest)
       c.args.piece.now more c.requires
-      ∙ ap (λ (form : Option Bool). behind_form track form more) (sym (rw c.read_u32.ensures at c.form_of.ensures) ∙
+      ∙ ap (λ (form : Option Bool). behind_form asked form more) (sym (rw c.read_u32.ensures at c.form_of.ensures) ∙
       c.in-None.is),
 )
 
 pub returns-in-Some : goal.returns-in-Some
-returns-in-Some c = λ track notes. (
+returns-in-Some c = λ asked notes. (
   record {
     noted = search rules;
     is = omega (arith, c.requires);
     wait = omega arith;
-    says = λ more. piece_whole 4 (λ (letters rest : List ℕ). behind_form track (form_of (big_number 4 letters)) rest)
+    says = λ more. piece_whole 4 (λ (letters rest : List ℕ). behind_form asked (form_of (big_number 4 letters)) rest)
         c.args.piece.now more c.requires
-        ∙ ap (λ (form : Option Bool). behind_form track form more) (sym (rw c.read_u32.ensures at c.form_of.ensures) ∙
+        ∙ ap (λ (form : Option Bool). behind_form asked form more) (sym (rw c.read_u32.ensures at c.form_of.ensures) ∙
         c.in-Some.is);
   },
   refl,

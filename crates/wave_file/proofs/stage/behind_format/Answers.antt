@@ -5,7 +5,7 @@ use Rattle.wave_file.proofs.stage.behind_format.Goals as goal
 pub returns-in-Err : goal.returns-in-Err
 returns-in-Err c = (
   refl,
-  λ more. format_refuses c.args.track c.args.notes.now c.args.place c.args.size c.args.piece.now more c.in-Err.fault
+  λ more. format_refuses c.args.asked c.args.notes.now c.args.place c.args.size c.args.piece.now more c.in-Err.fault
       c.requires.piece (sym c.format_in.ensures.value ∙ c.in-Err.is),
 )
 
@@ -15,7 +15,7 @@ returns-in-Ok c = rw c.padded.ensures (
     noted = λ _. c.in-Ok.ensures.taken;
     is = tt;
     wait = chunk_wait _;
-    says = λ more. format_brings c.args.track c.args.notes.now c.args.place c.args.size c.args.piece.now more c.in-Ok.format
+    says = λ more. format_brings c.args.asked c.args.notes.now c.args.place c.args.size c.args.piece.now more c.in-Ok.format
         c.requires.piece (sym c.format_in.ensures.value ∙ c.in-Ok.is);
   },
   refl,

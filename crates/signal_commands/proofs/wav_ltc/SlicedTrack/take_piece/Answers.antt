@@ -14,7 +14,7 @@ returns-in-Nothing-clause-works g c = λ front written stands.
     let adds = takes.0 in
     let next = record s { decoder = c.take-taken.new.self } in
     let decodes = decodes_more s next (take c.in-Nothing.count c.args.bytes.now) [] _ refl
-    adds.track adds.stands c.format-told.ensures.within c.format-told.ensures.value c.format-told.ensures.told in
+    adds.asked adds.stands c.format-told.ensures.within c.format-told.ensures.value c.format-told.ensures.told in
     passed_on s next front written (take c.in-Nothing.count c.args.bytes.now) _ stands decodes refl refl takes.1
 
 -- the header
@@ -30,7 +30,7 @@ returns-in_ok-put-in-Begin-clause-works g c = λ front written stands.
     let adds = takes.0 in
     let next = record s { decoder = c.take-taken.new.self; gathered = c.put.new.self } in
     let decodes = decodes_more s next (take c.in-Begin.count c.args.bytes.now) [] _ refl
-    adds.track adds.stands c.format-told.ensures.within c.format-told.ensures.value c.format-told.ensures.told in
+    adds.asked adds.stands c.format-told.ensures.within c.format-told.ensures.value c.format-told.ensures.told in
     begun c.samples_are_few_and_behind_a_format.ensures s next front written (take c.in-Begin.count c.args.bytes.now) c.in-Begin.format _ _ stands decodes
     refl takes.1 takes.2 (rw c.header-header.ensures at c.in_ok-put-in-Begin.ensures.all)
 
@@ -42,7 +42,7 @@ slice-requires-clause-room g c =
     let adds = takes.0 in
     let next = record s { decoder = c.take-taken.new.self } in
     let decodes = decodes_more s next (take c.in-Sample.count c.args.bytes.now) (c.in-Sample.sample ∷ []) _ refl
-    adds.track adds.stands c.format-told.ensures.within c.format-told.ensures.value c.format-told.ensures.told in
+    adds.asked adds.stands c.format-told.ensures.within c.format-told.ensures.value c.format-told.ensures.told in
     ticks_fit c.samples_are_few_and_behind_a_format.ensures s next (take c.in-Sample.count c.args.bytes.now) (c.in-Sample.sample ∷ []) c.requires.going decodes
 
 pub returns-in_err-slice-in-Sample-clause-stops : goal.returns-in_err-slice-in-Sample-clause-stops
@@ -52,7 +52,7 @@ returns-in_err-slice-in-Sample-clause-stops g c =
     let adds = takes.0 in
     let next = record s { decoder = c.take-taken.new.self } in
     let decodes = decodes_more s next (take c.in-Sample.count c.args.bytes.now) (c.in-Sample.sample ∷ []) _ refl
-    adds.track adds.stands c.format-told.ensures.within c.format-told.ensures.value c.format-told.ensures.told in
+    adds.asked adds.stands c.format-told.ensures.within c.format-told.ensures.value c.format-told.ensures.told in
     through c.from_residual-in_err-slice-in-Sample.result c.from_residual-in_err-slice-in-Sample.ensures.1 (λ stop same front written stands.
     let fits : FitsSigned w16 c.in-Sample.sample = search rules in
     let f = (rw (to_z-of_z fits) at c.in_err-slice-in-Sample.ensures.front) stands.samples stands.slicer in
@@ -67,7 +67,7 @@ returns-in_ok-slice-in-Sample-clause-works g c = λ front written stands.
     let more = c.in-Sample.sample ∷ [] in
     let next = record s { decoder = c.take-taken.new.self; slicer = c.slice.new.slicer; gathered = c.slice.new.gathered } in
     let decodes = decodes_more s next (take c.in-Sample.count c.args.bytes.now) more _ refl
-    adds.track adds.stands c.format-told.ensures.within c.format-told.ensures.value c.format-told.ensures.told in
+    adds.asked adds.stands c.format-told.ensures.within c.format-told.ensures.value c.format-told.ensures.told in
     let fits : FitsSigned w16 c.in-Sample.sample = search rules in
     let slices : Slices s next more = record {
       settings = c.in_ok-slice-in-Sample.ensures.settings;

@@ -13,16 +13,16 @@ returns-then-may_end-clause-ok c = λ bytes samples stands.
     let d = c.self.inside in
     let s = subst (λ (x : Decoding). StandsFor x bytes samples) (sym c.self.view_is) stands in
     rw (← c.self.view_is) (ap (λ (b : Bool). if b then None else Some (fault.Truncated (length bytes)))
-    (ends_taken d.track d.notes d.place d.stage d.part.items bytes samples c.self.invariant.stage c.self.invariant.part c.self.invariant.within s
+    (ends_taken d.asked d.notes d.place d.stage d.part.items bytes samples c.self.invariant.stage c.self.invariant.part c.self.invariant.within s
     ∙ and_from _ _ (sym c.is_empty.ensures ∙ c.if-is_empty.true) (sym c.may_end.ensures ∙ c.if-may_end.true)))
 
 pub returns-else-is_empty-clause-err : goal.returns-else-is_empty-clause-err
 returns-else-is_empty-clause-err c = λ bytes samples stands.
     let d = c.self.inside in
     let s = subst (λ (x : Decoding). StandsFor x bytes samples) (sym c.self.view_is) stands in
-    let size = front_length d.track d.notes d.place d.stage d.part.items bytes samples s in
+    let size = front_length d.asked d.notes d.place d.stage d.part.items bytes samples s in
     rw (← c.self.view_is, c.len.ensures.value) (ap (λ (b : Bool). if b then None else Some (fault.Truncated (length bytes)))
-    (ends_taken d.track d.notes d.place d.stage d.part.items bytes samples c.self.invariant.stage c.self.invariant.part c.self.invariant.within s
+    (ends_taken d.asked d.notes d.place d.stage d.part.items bytes samples c.self.invariant.stage c.self.invariant.part c.self.invariant.within s
     ∙ elim c.else-is_empty.branch [
       | else-is_empty-via-then-is_empty+else-may_end w ↦ and_right _ _ (sym w.may_end.ensures ∙ w.if-may_end.false)
       | else-is_empty-via-else-is_empty w ↦ and_left _ _ (sym c.is_empty.ensures ∙ w.if-is_empty.false)

@@ -13,7 +13,7 @@ returns-then-room-eq0-clause-stops c = λ front samples stands more.
     let none = c.if-room-eq0.true in
     let size = c.len.ensures.value in
     let within = c.self.invariant.within in
-    rw (← c.self.view_is) (told_limit d.track d.notes d.place d.stage d.part.items c.args.bytes.now front more samples
+    rw (← c.self.view_is) (told_limit d.asked d.notes d.place d.stage d.part.items c.args.bytes.now front more samples
     c.self.invariant.stage c.self.invariant.part (omega (arith, none, size, within)) c.requires s)
 
 pub invariant_of-self : goal.invariant_of-self
@@ -29,7 +29,7 @@ invariant_of-self c =
       least = c.self.invariant.least;
       most = c.self.invariant.most;
       notes = c.self.invariant.notes;
-      stage = p.stays c.self.inside.track c.self.inside.place c.self.invariant.stage;
+      stage = p.stays c.self.inside.asked c.self.inside.place c.self.invariant.stage;
       part = omega (arith, alone, part, wait);
       within = omega (arith, count, room, size);
     }
@@ -39,7 +39,7 @@ returns-in-Some-clause-takes c =
     let d = c.self.inside in
     let p = c.in-Some.ensures.passed in
     rw (← c.self.view_is) (
-      passed_added d.track d.notes d.place d.stage c.in-Some.stage d.part.items c.args.bytes.now
+      passed_added d.asked d.notes d.place d.stage c.in-Some.stage d.part.items c.args.bytes.now
           c.within-length.result c.in-Some.count p c.within-length.ensures.length c.self.invariant.part,
       p.format,
     )
@@ -48,7 +48,7 @@ pub returns-then-length-want-clause-takes : goal.returns-then-length-want-clause
 returns-then-length-want-clause-takes c =
     let d = c.self.inside in
     rw (← c.self.view_is, c.put_bytes.ensures.items) (
-      part_added d.track d.notes d.place d.stage d.part.items c.args.bytes.now c.within-length.result
+      part_added d.asked d.notes d.place d.stage d.part.items c.args.bytes.now c.within-length.result
           c.within-length.ensures.some c.within-length.ensures.length,
       refl,
     )

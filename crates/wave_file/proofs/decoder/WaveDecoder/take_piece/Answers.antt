@@ -12,7 +12,7 @@ returns-in-Next-clause-takes c =
     let d = c.self.inside in
     let st = c.in-Next.ensures.step in
     rw (← c.self.view_is, c.in-Next.ensures.left) (
-      next_added d.track d.notes c.in-Next.notes d.place d.stage c.in-Next.stage d.part.items c.args.bytes.now
+      next_added d.asked d.notes c.in-Next.notes d.place d.stage c.in-Next.stage d.part.items c.args.bytes.now
           c.args.want _ [] (rw c.len.ensures.value refl) c.requires.some c.requires.there st.0,
       st.2 ∙ sym st.1,
     )
@@ -22,7 +22,7 @@ returns-in-Begin-clause-takes c =
     let d = c.self.inside in
     let st = c.in-Begin.ensures.step in
     rw (← c.self.view_is, c.in-Begin.ensures.left) (
-      next_added d.track d.notes d.notes d.place d.stage c.in-Begin.stage d.part.items c.args.bytes.now c.args.want
+      next_added d.asked d.notes d.notes d.place d.stage c.in-Begin.stage d.part.items c.args.bytes.now c.args.want
           _ [] (rw c.len.ensures.value refl) c.requires.some c.requires.there st.0,
       st.1,
       st.2,
@@ -34,7 +34,7 @@ returns-in-Sample-clause-takes c =
     let st = c.in-Sample.ensures.step in
     let fits : SFits w16 c.in-Sample.sample = search rules in
     rw (← c.self.view_is, c.in-Sample.ensures.left, to_z-of_z w16 c.in-Sample.sample fits) (
-      next_added d.track d.notes d.notes d.place d.stage c.in-Sample.stage d.part.items c.args.bytes.now c.args.want
+      next_added d.asked d.notes d.notes d.place d.stage c.in-Sample.stage d.part.items c.args.bytes.now c.args.want
           _ (c.in-Sample.sample ∷ []) (rw c.len.ensures.value refl) c.requires.some c.requires.there st.0,
       st.1,
     )
@@ -47,9 +47,9 @@ returns-in-Fault-clause-stops c = λ front samples stands more.
     let within = subst (λ (x : Decoding). bytes_taken x + c.args.want ≤ MAX_BYTES)
     (sym c.self.view_is) c.requires.within in
     rw (← c.self.view_is)
-    (told_piece d.track d.notes d.place d.stage d.part.items c.args.bytes.now front more c.args.want
+    (told_piece d.asked d.notes d.place d.stage d.part.items c.args.bytes.now front more c.args.want
     samples (refused c.in-Fault.fault) c.requires.there within refl
-    (told_bad d.track d.notes d.place d.stage (d.part.items
+    (told_bad d.asked d.notes d.place d.stage (d.part.items
     ++ take c.args.want c.args.bytes.now) c.in-Fault.fault st.0 st.1) s)
 
 pub returns-in-Limit-clause-stops : goal.returns-in-Limit-clause-stops
@@ -60,6 +60,6 @@ returns-in-Limit-clause-stops c = λ front samples stands more.
     let within = subst (λ (x : Decoding). bytes_taken x + c.args.want ≤ MAX_BYTES)
     (sym c.self.view_is) c.requires.within in
     rw (← c.self.view_is)
-    (told_piece d.track d.notes d.place d.stage d.part.items c.args.bytes.now front more c.args.want
+    (told_piece d.asked d.notes d.place d.stage d.part.items c.args.bytes.now front more c.args.want
     samples past_limit c.requires.there within refl
-    (told_past d.track d.notes d.place d.stage (d.part.items ++ take c.args.want c.args.bytes.now) st) s)
+    (told_past d.asked d.notes d.place d.stage (d.part.items ++ take c.args.want c.args.bytes.now) st) s)
