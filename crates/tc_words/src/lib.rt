@@ -10,7 +10,7 @@
 //!
 //! Read `words` and `values`, with `specs/Words.antt` and `specs/Values.antt` beside them: `words` and
 //! `Words.antt` have the same rows. Behind them come the files of the commands of many words: `flight`,
-//! `ltc_chase`, `ltc_make`, `vitc_make`, `live`, `pcm_ltc`, `pcm_path` and `wav_ltc`. The tasks themselves stand in
+//! `label_run`, `ltc_chase`, `ltc_make`, `vitc_make`, `live`, `pcm_ltc`, `pcm_path` and `wav_ltc`. The tasks themselves stand in
 //! `tc_job`. `tc_top` stands on this crate, and no command does.
 //!
 //! A later command joins in these places, once it stands in `tc_job`:
@@ -21,6 +21,7 @@
 #![tactic(auto)]
 
 mod flight;
+mod label_run;
 pub mod laws;
 mod live;
 mod ltc_chase;
