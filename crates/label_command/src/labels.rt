@@ -1,6 +1,6 @@
 //! The engine of `labels`: a line for each line of a text. Next: `label_text/src/reader.rt`, and then
 //! `label_lines/src/answer.rt`.
-ghost use Rattle.std.specs.Prelude.{◌≡◌, OnOk, OnErr, IfErr};
+ghost use Rattle.std.specs.Prelude.{◌≡◌, [], OnOk, OnErr, IfErr};
 ghost use Rattle.std.specs.Io.KnownBytes.{Appends};
 ghost use Rattle.label_lines.specs.Answer.{answer_line};
 ghost use Rattle.label_lines.specs.Timebase.{count_of};
