@@ -1,5 +1,5 @@
 //! The values of `labels`, word by word. Next: `tc_job/src/label_run.rt`, which holds them.
-ghost use Rattle.std.specs.Prelude.{◌≡◌, ◌≤◌, ◌+◌, codes, length, map, IfOk, option_and_then};
+ghost use Rattle.std.specs.Prelude.{◌≡◌, ◌≤◌, ◌+◌, false, codes, length, map, IfOk, Ok, Some, option_and_then};
 ghost use Rattle.std.specs.Option.{option_copied};
 ghost use Rattle.std.specs.Str.{bytes_eq};
 ghost use Rattle.label_lines.specs.Timebase.{count_of};
