@@ -141,9 +141,9 @@ def answered(base, way, text):
 # the timebase, the way, and a text: what is shown, and the words that do not fit
 EDGES = "00:00:00{0}00\n00:00:59{0}{1}\n00:10:00{0}00\n12:00:00{0}00\n23:59:59{0}{1}\n"
 WAYS = ["number", "label", "seconds", "plus 0", "plus 1", "plus 4294967295", "minus 1", "minus 4294967295"]
-REFUSED = ["", "\r", "24:00:00{0}00", "00:60:00{0}00", "00:00:60{0}00", "00:00:00{0}{2}", "10:00:00{3}00", "1:00:00{0}00",
-           "10:00:00{0}0", "10:00:00{0}000", "10:00:00{0}00\r", " 10:00:00{0}00", "10:00:00{0}00 ", "+1", "{4}", "12345678",
-           "{5}", "1.00", "1.0000", "123456.000", ".040", "1.", "1,040", "x" * 64, "0" * 64, "0" * 65, "0" * 200]
+REFUSED = ["", "24:00:00{0}00", "00:60:00{0}00", "00:00:60{0}00", "00:00:00{0}{2}", "10:00:00{3}00",
+           "1:00:00{0}00", "10:00:00{0}0", "10:00:00{0}000", " 10:00:00{0}00", "10:00:00{0}00 ", "+1", "{4}",
+           "12345678", "{5}", "1.00", "1.0000", "123456.000", ".040", "1.", "1,040", "x" * 64, "0" * 64, "0" * 65, "0" * 200]
 
 
 def cases():
@@ -154,7 +154,8 @@ def cases():
         past = nearest((length - Fraction(1, 2)) / rate * 1_000)
         past = f"{past // 1_000}.{past % 1_000:03}"
         edges = EDGES.format(mark, frames - 1) + f"0\n{length - 1}\n0000001\n0.000\n00001.001\n3600.000\n"
-        ways = WAYS + [f"since 12:00:00{mark}00", f"since 23:59:59{mark}{frames - 1}"] + [f"to {there}" for there in RATES]
+        ways = WAYS + [f"since 12:00:00{mark}00", f"since 23:59:59{mark}{frames - 1}"]
+        ways += [f"to {there}" for there in RATES]
         for way in ways:
             yield f"each-way-of-{base.replace(' ', '-')}", base, way, edges
         if "ntsc" in base:
@@ -184,10 +185,11 @@ WORDS = [
     ("25 numbr", "value of word 2"), ("25 ntsc number", "value of word 2"), ("30d ntsc number", "value of word 2"),
     ("25 numbr 1 2", "value of word 2"), ("24 ntsc numbr", "value of word 3"), ("24 ntsc ntsc", "value of word 3"),
     ("25 plus -1", "dash in word 3"), ("25 plus 4294967296", "value of word 3"), ("25 plus 1x", "value of word 3"),
-    ("25 minus 01:00", "value of word 3"), ("25 since 25:00:00:00", "value of word 3"), ("25 since 0", "value of word 3"),
-    ("24 ntsc since 10:00:00:24", "value of word 4"), ("24 ntsc plus x", "value of word 4"), ("25 to 31", "value of word 3"),
-    ("25 to 25 ntsc", "value of word 4"), ("25 to 30 ntcs", "value of word 4"), ("30d to 30d ntsc", "value of word 4"),
-    ("24 ntsc to 31", "value of word 4"), ("24 ntsc to 25 ntsc", "value of word 5"), ("25 number number", "count of words"),
+    ("25 minus 01:00", "value of word 3"), ("25 since 25:00:00:00", "value of word 3"),
+    ("25 since 0", "value of word 3"), ("24 ntsc since 10:00:00:24", "value of word 4"),
+    ("24 ntsc plus x", "value of word 4"), ("25 to 31", "value of word 3"), ("25 to 25 ntsc", "value of word 4"),
+    ("25 to 30 ntcs", "value of word 4"), ("30d to 30d ntsc", "value of word 4"), ("24 ntsc to 31", "value of word 4"),
+    ("24 ntsc to 25 ntsc", "value of word 5"), ("25 number number", "count of words"),
 ]
 
 
@@ -208,8 +210,6 @@ def write_cases():
     for words, note in WORDS:
         row("the-first-fault-is-told", f"labels {words}".strip(), "none", 2, f"tc: usage: {note}", "-")
     for case, base, way, text in cases():
-        if "\r" in text:
-            continue
         written, note = answered(base, way, text)
         row(case, f"labels {base} {way}", spelled(text), 3 if note else 0, note or "-", spelled(written))
     carriage = "0\n10:00:00:00\r\n"

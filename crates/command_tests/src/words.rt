@@ -8,8 +8,8 @@ use std::alloc::{AllocError, Global};
 use std::test::Fail;
 use tc_address::text;
 use tc_job::{
-    ChaseRun, Jam, Job, LabelRun, LineStripe, PathSlicing, Slicing, SoundLevel, Task, WaveSlicing, Witness,
-    WordsFault,
+    ChaseRun, Jam, Job, LabelRun, LineStripe, PathSlicing, Slicing, SoundLevel, Task, WaveSlicing,
+    Witness, WordsFault,
 };
 use tc_words::read_words;
 
@@ -452,12 +452,28 @@ fn labels_of_a_text_are_read(rt: HostRuntime) -> Result<(), Fail> {
         ("labels 25 number", Timebase::F25, Way::Number),
         ("labels 30d label", Timebase::Drop30, Way::Label),
         ("labels 24 seconds", Timebase::F24, Way::Seconds),
-        ("labels 24 ntsc seconds", Timebase::PulledDown24, Way::Seconds),
+        (
+            "labels 24 ntsc seconds",
+            Timebase::PulledDown24,
+            Way::Seconds,
+        ),
         ("labels 25 plus 0250", Timebase::F25, Way::Plus(250)),
-        ("labels 30 ntsc minus 4294967295", Timebase::PulledDown30, Way::Minus(u32::MAX)),
+        (
+            "labels 30 ntsc minus 4294967295",
+            Timebase::PulledDown30,
+            Way::Minus(u32::MAX),
+        ),
         ("labels 24 to 30d", Timebase::F24, Way::To(Timebase::Drop30)),
-        ("labels 25 to 30 ntsc", Timebase::F25, Way::To(Timebase::PulledDown30)),
-        ("labels 30 ntsc to 24 ntsc", Timebase::PulledDown30, Way::To(Timebase::PulledDown24)),
+        (
+            "labels 25 to 30 ntsc",
+            Timebase::F25,
+            Way::To(Timebase::PulledDown30),
+        ),
+        (
+            "labels 30 ntsc to 24 ntsc",
+            Timebase::PulledDown30,
+            Way::To(Timebase::PulledDown24),
+        ),
     ] {
         let Some(run) = label_run_of(&job_in(alloc, line)?) else {
             return Err("no labels".into());

@@ -1,6 +1,6 @@
 -- What is answered grows by the line of the label that a byte completes.
-use Rattle.std.proofs.Common.{◌≡◌, ℕ, ◌+◌, ◌<◌, List, [], ◌∷◌, ◌++◌, length, take, drop, get_or, refl, sym, ◌∙◌, ap, arith}
-use Rattle.std.proofs.Common.{append_assoc, append-nil, subst}
+use Rattle.std.proofs.Common.{◌≡◌, ℕ, ◌<◌, List, [], ◌∷◌, ◌++◌, length, refl, sym, ◌∙◌, ap, arith}
+use Rattle.std.proofs.Common.{append_assoc, append-nil}
 use Rattle.std.specs.declared.option.Option.{Option}
 use Rattle.std.specs.Prelude.{None}
 use Rattle.std.specs.Option.{option_map}
@@ -44,7 +44,8 @@ said_so p byte more said is = ap (λ (s : LineRead). then_read p s (reading_from
 pub read_on : GoesOn → (s : LabelAnswers) (front written : List ℕ) → Stands s front written
     → (byte : ℕ) (more : List ℕ) (said : LineRead) → said_by s.reader byte ≡ said
     → reading_of s.run.base (front ++ byte ∷ more)
-    ≡ with_labels (reading_of s.run.base front).labels (then_read s.reader said (reading_from (after said byte s.reader) more))
+    ≡ with_labels (reading_of s.run.base front).labels
+    (then_read s.reader said (reading_from (after said byte s.reader) more))
 read_on law s front written stands byte more said is =
     let labels = (reading_of s.run.base front).labels in
     law s.run.base front (byte ∷ more) stands.is_good
@@ -62,8 +63,8 @@ answers_last run labels label =
     flat_map-append (answer_line run.base run.way) labels (label ∷ [])
     ∙ ap (λ (l : List ℕ). answers run labels ++ l) (append-nil (answer_line run.base run.way label))
 
-same_answers : (run : LabelRunning) (written : List ℕ) (labels : List Address) (r : Reading) → written ≡ answers run labels
-    → r.labels ≡ labels ++ [] → written ++ [] ≡ answers run r.labels
+same_answers : (run : LabelRunning) (written : List ℕ) (labels : List Address) (r : Reading)
+    → written ≡ answers run labels → r.labels ≡ labels ++ [] → written ++ [] ≡ answers run r.labels
 same_answers run written labels r are is =
     append-nil written ∙ are ∙ ap (answers run) (sym (append-nil labels) ∙ sym is)
 
@@ -88,15 +89,18 @@ none_more law s q front written stands byte is next =
 labels_more : GoesOn → (s : LabelAnswers) (front written : List ℕ) → Stands s front written
     → (byte : ℕ) (label : Address) → said_by s.reader byte ≡ Label label
     → reading_of s.run.base (front ++ byte ∷ [])
-    ≡ with_labels (reading_of s.run.base front).labels (with_labels (label ∷ []) (ended_at good (after (Label label) byte s.reader)))
+    ≡ with_labels (reading_of s.run.base front).labels
+    (with_labels (label ∷ []) (ended_at good (after (Label label) byte s.reader)))
 labels_more law s front written stands byte label is =
     let labels = (reading_of s.run.base front).labels in
     read_on law s front written stands byte [] (Label label) is
-    ∙ ap (λ (r : Reading). with_labels labels (with_labels (label ∷ []) r)) (nothing_behind (after (Label label) byte s.reader))
+    ∙ ap (λ (r : Reading). with_labels labels (with_labels (label ∷ []) r))
+    (nothing_behind (after (Label label) byte s.reader))
 
 answered_more : GoesOn → (s : LabelAnswers) (front written : List ℕ) → Stands s front written
     → (byte : ℕ) (label : Address) → said_by s.reader byte ≡ Label label
-    → written ++ answer_line s.run.base s.run.way label ≡ answers s.run (reading_of s.run.base (front ++ byte ∷ [])).labels
+    → written ++ answer_line s.run.base s.run.way label
+    ≡ answers s.run (reading_of s.run.base (front ++ byte ∷ [])).labels
 answered_more law s front written stands byte label is =
     let labels = (reading_of s.run.base front).labels in
     let line = answer_line s.run.base s.run.way label in
@@ -116,8 +120,8 @@ one_more law s q front written stands byte label is next =
 
 -- a front of its line was written
 pub one_more_part : GoesOn → (s : LabelAnswers) (front written : List ℕ) → Stands s front written
-    → (byte : ℕ) (rest bytes : List ℕ) (label : Address) (old new : Option (List ℕ)) → said_by s.reader byte ≡ Label label
-    → byte ∷ rest ≡ bytes → AppendsFront old new (answer_line s.run.base s.run.way label)
+    → (byte : ℕ) (rest bytes : List ℕ) (label : Address) (old new : Option (List ℕ))
+    → said_by s.reader byte ≡ Label label → byte ∷ rest ≡ bytes → AppendsFront old new (answer_line s.run.base s.run.way label)
     → Stops (along_labels s.run) stops.WriteFault old new (front ++ bytes) written
 one_more_part law s front written stands byte rest bytes label old new is all f = (
   f.0,

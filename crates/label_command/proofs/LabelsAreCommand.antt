@@ -1,4 +1,4 @@
--- What is answered to the labels of some bytes comes first, whatever bytes follow, so `labels` is a command as any other.
+-- What is answered to the labels of some bytes comes first, whatever follows, so `labels` is a command as any other.
 use Rattle.std.proofs.Common.{◌≡◌, ℕ, List, [], ◌++◌, refl, sym, ◌∙◌, ap, append_assoc, append-nil}
 use Rattle.std.proofs.lemmas.Bool.{false≢true}
 use Rattle.std.proofs.lemmas.Grind.{flat_map-append}
@@ -31,19 +31,27 @@ labels_first laws base front more = by_verdict (reading_of base front).verdict r
   where
     by_verdict : (v : Verdict LineFault) → (reading_of base front).verdict ≡ v → (rest : List Address)
         × ((reading_of base (front ++ more)).labels ≡ (reading_of base front).labels ++ rest)
-    by_verdict good is =
-        ((reading_from (reading_of base front).place more).labels, ap (λ (r : Reading). r.labels) (laws.goes_on base front more is))
-    by_verdict (refused f) is =
-        ([], ap (λ (r : Reading). r.labels) (laws.fault base front more f is) ∙ sym (append-nil (reading_of base front).labels))
-    by_verdict past_limit is =
-        ([], ap (λ (r : Reading). r.labels) (laws.limit base front more is) ∙ sym (append-nil (reading_of base front).labels))
+    by_verdict good is = (
+      (reading_from (reading_of base front).place more).labels,
+      ap (λ (r : Reading). r.labels) (laws.goes_on base front more is),
+    )
+    by_verdict (refused f) is = (
+      [],
+      ap (λ (r : Reading). r.labels) (laws.fault base front more f is) ∙ sym (append-nil (reading_of base front).labels),
+    )
+    by_verdict past_limit is = (
+      [],
+      ap (λ (r : Reading). r.labels) (laws.limit base front more is) ∙ sym (append-nil (reading_of base front).labels),
+    )
 
 -- and so do their answers, whatever is answered behind them
 answers_first : (run : LabelRunning) (labels rest : List Address) (a b : List ℕ) → a ≡ answers run labels
     → b ≡ answers run (labels ++ rest) → IsFront a b
-answers_first run labels rest a b one all =
-    (answers run rest, all ∙ flat_map-append (answer_line run.base run.way) labels rest
-    ∙ ap (λ (l : List ℕ). l ++ answers run rest) (sym one))
+answers_first run labels rest a b one all = (
+  answers run rest,
+  all ∙ flat_map-append (answer_line run.base run.way) labels rest
+      ∙ ap (λ (l : List ℕ). l ++ answers run rest) (sym one),
+)
 
 pub labels_are_command : TextLaws → (run : LabelRunning) → IsCommand (along_labels run)
 labels_are_command laws run = record {

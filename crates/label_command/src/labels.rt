@@ -78,10 +78,7 @@ impl LabelAnswers {
         ensures why { IfErr result (λ stop. stop ≡ Stop.WriteFault) }
         ensures cause { HasOutCause (K.faults out.old) (K.faults out.new) result }
     {
-        push_line(
-            out,
-            &answer_line(self.run.base(), &self.run.way(), label),
-        )
+        push_line(out, &answer_line(self.run.base(), &self.run.way(), label))
     }
 }
 

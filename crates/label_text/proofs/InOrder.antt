@@ -1,5 +1,5 @@
 -- Bytes are read in their order: what more bytes say follows what some said, and nothing follows a fault or the limit.
-use Rattle.std.proofs.Common.{◌≡◌, ℕ, List, [], ◌∷◌, ◌++◌, refl, sym, ◌∙◌, ap, append_assoc, append-nil}
+use Rattle.std.proofs.Common.{◌≡◌, ℕ, List, [], ◌∷◌, ◌++◌, refl, ap}
 use Rattle.tc_address.specs.Label.{Address}
 use Rattle.tc_io.specs.Verdict.{Verdict, good, past_limit, refused}
 use Rattle.label_text.specs.declared.fault.LineFault.{LineFault}
@@ -19,10 +19,12 @@ pub good_goes_on : (p : Place) (front more : List ℕ) → (reading_from p front
     ≡ with_labels (reading_from p front).labels (reading_from (reading_from p front).place more)
 unfolding reading_from
 good_goes_on p [] more good_so_far = refl
-good_goes_on p (byte ∷ front) more good_so_far = by_said (said_by p byte) (good_goes_on (after (said_by p byte) byte p) front more) good_so_far
+good_goes_on p (byte ∷ front) more good_so_far =
+    by_said (said_by p byte) (good_goes_on (after (said_by p byte) byte p) front more) good_so_far
   where
     next : Place
     next = after (said_by p byte) byte p
+
     by_said : (said : LineRead)
         → ((reading_from next front).verdict ≡ good → reading_from next (front ++ more)
         ≡ with_labels (reading_from next front).labels (reading_from (reading_from next front).place more))
@@ -32,7 +34,8 @@ good_goes_on p (byte ∷ front) more good_so_far = by_said (said_by p byte) (goo
         (reading_from (then_read p said (reading_from next front)).place more)
     by_said Nothing behind is = behind is
     by_said (Label label) behind is =
-        in_front label (reading_from next front) (reading_from (reading_from next front).place more) (reading_from next (front ++ more)) (behind is)
+        let rest = reading_from (reading_from next front).place more in
+        in_front label (reading_from next front) rest (reading_from next (front ++ more)) (behind is)
     by_said (Fault fault) behind is = absurd cc
     by_said Limit behind is = absurd cc
 
@@ -43,10 +46,12 @@ pub stopped_stays : (p : Place) (front more : List ℕ) → ((reading_from p fro
     → reading_from p (front ++ more) ≡ reading_from p front
 unfolding reading_from
 stopped_stays p [] more stopped = absurd (stopped refl)
-stopped_stays p (byte ∷ front) more stopped = by_said (said_by p byte) (stopped_stays (after (said_by p byte) byte p) front more) stopped
+stopped_stays p (byte ∷ front) more stopped =
+    by_said (said_by p byte) (stopped_stays (after (said_by p byte) byte p) front more) stopped
   where
     next : Place
     next = after (said_by p byte) byte p
+
     by_said : (said : LineRead)
         → (((reading_from next front).verdict ≡ good → ⊥) → reading_from next (front ++ more) ≡ reading_from next front)
         → ((then_read p said (reading_from next front)).verdict ≡ good → ⊥)

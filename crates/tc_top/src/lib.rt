@@ -19,8 +19,8 @@
 //!   (`specs/Exit.antt`; `laws::exit_numbers_are_these` has them one by one).
 //!
 //! Read `top_call`, `streaming`, `reading_on` and `exit`; the commands stand in `interval_commands`,
-//! `frame_commands`, `made_commands`, `signal_commands`, `label_command` and `chase_command`, over `tc_command`. `tc` and the
-//! conformance runs stand on this crate.
+//! `frame_commands`, `made_commands`, `signal_commands`, `label_command` and `chase_command`, over `tc_command`.
+//! `tc` and the conformance runs stand on this crate.
 #![tactic(auto)]
 
 mod exit;

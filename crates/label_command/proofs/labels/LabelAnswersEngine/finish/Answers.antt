@@ -35,7 +35,8 @@ returns-in-Label-clause-stops g c =
     let label = c.in-Label.label in
     let line = answer_line s.run.base s.run.way label in
     let is = sym c.finish.ensures.said ∙ c.in-Label.is in
-    if_err c.answer.result (err_both _ _ c.answer.result c.answer.ensures.why c.answer.ensures.front) (λ stop h bytes written stands.
+    let both = err_both _ _ c.answer.result c.answer.ensures.why c.answer.ensures.front in
+    if_err c.answer.result both (λ stop h bytes written stands.
     let f = h.1 in
     rw h.0 (
       f.0,

@@ -12,8 +12,8 @@ use Rattle.lemmas.specs.Results.{through}
 use Rattle.tc_command.specs.declared.stop.Stop.TheVariants as stops
 use Rattle.tc_command.specs.declared.input_fault.InputFault.TheVariants.{Labels}
 use Rattle.tc_command.specs.Stops.{IsStop}
-use Rattle.label_command.proofs.AnswersGrow.{a_fault, a_line_less, fewer_left, going_on, none_more, one_more, one_more_part}
-use Rattle.label_command.proofs.AnswersGrow.{the_limit}
+use Rattle.label_command.proofs.AnswersGrow.{a_fault, a_line_less, fewer_left, going_on, none_more, one_more}
+use Rattle.label_command.proofs.AnswersGrow.{one_more_part, the_limit}
 use Rattle.label_command.proofs.labels.LabelAnswersEngine.take.Goals as goal
 
 -- the line goes on
@@ -32,7 +32,8 @@ returns-in-Nothing-clause-works g c = λ front written stands.
 
 pub returns-in-Nothing-clause-going : goal.returns-in-Nothing-clause-going
 returns-in-Nothing-clause-going g c =
-    going_on c.args.self.now c.take.new.self _ (get_or c.args.bytes.now 0 0) c.requires.going c.take.ensures.valid c.take.ensures.next
+    going_on c.args.self.now c.take.new.self _ (get_or c.args.bytes.now 0 0) c.requires.going c.take.ensures.valid
+    c.take.ensures.next
 
 pub returns-in-Nothing-clause-budget : goal.returns-in-Nothing-clause-budget
 returns-in-Nothing-clause-budget g c =
@@ -59,7 +60,8 @@ returns-in_ok-answer-in-Label-clause-works g c = λ front written stands.
 
 pub returns-in_ok-answer-in-Label-clause-going : goal.returns-in_ok-answer-in-Label-clause-going
 returns-in_ok-answer-in-Label-clause-going g c =
-    going_on c.args.self.now c.take.new.self _ (get_or c.args.bytes.now 0 0) c.requires.going c.take.ensures.valid c.take.ensures.next
+    going_on c.args.self.now c.take.new.self _ (get_or c.args.bytes.now 0 0) c.requires.going c.take.ensures.valid
+    c.take.ensures.next
 
 pub returns-in_ok-answer-in-Label-clause-budget : goal.returns-in_ok-answer-in-Label-clause-budget
 returns-in_ok-answer-in-Label-clause-budget g c =
@@ -77,8 +79,9 @@ returns-in_err-answer-in-Label-clause-stops g c =
     let is = sym c.take.ensures.said ∙ c.in-Label.is in
     let why = c.in_err-answer-in-Label.ensures.why in
     through c.from_residual.result c.from_residual.ensures.1 (λ stop same front written stands.
-    rw (same, why) (one_more_part c.bytes_are_read_in_order.ensures.good s front written stands byte (drop 1 bytes) bytes
-    c.in-Label.label _ _ is (first_and_rest bytes c.requires.some) c.in_err-answer-in-Label.ensures.front))
+    let law = c.bytes_are_read_in_order.ensures.good in
+    rw (same, why) (one_more_part law s front written stands byte (drop 1 bytes) bytes c.in-Label.label _ _ is
+    (first_and_rest bytes c.requires.some) c.in_err-answer-in-Label.ensures.front))
 
 -- the line says no label
 pub returns-in-Fault-clause-stops : goal.returns-in-Fault-clause-stops
@@ -86,12 +89,13 @@ returns-in-Fault-clause-stops g c = λ front written stands.
     let s = c.args.self.now in
     let bytes = c.args.bytes.now in
     let byte = get_or bytes 0 0 in
+    let fault = c.in-Fault.fault in
     let is = sym c.take.ensures.said ∙ c.in-Fault.is in (
       [],
       Appends-nil _,
-      subst (λ (l : List ℕ). IsStop (along_labels s.run) (stops.Refused (Labels c.in-Fault.fault)) (front ++ l) (written ++ []))
+      subst (λ (l : List ℕ). IsStop (along_labels s.run) (stops.Refused (Labels fault)) (front ++ l) (written ++ []))
           (first_and_rest bytes c.requires.some)
-          (a_fault c.bytes_are_read_in_order.ensures.good s front written stands byte (drop 1 bytes) c.in-Fault.fault is),
+          (a_fault c.bytes_are_read_in_order.ensures.good s front written stands byte (drop 1 bytes) fault is),
     )
 
 -- or there is a line too many
