@@ -58,8 +58,10 @@ way_of base place way values =
     else if bytes_eq way (codes "plus") then map_ok ways.Plus (steps_in (place + 1) (slice_get values 0))
     else if bytes_eq way (codes "minus") then map_ok ways.Minus (steps_in (place + 1) (slice_get values 0))
     else if bytes_eq way (codes "since") then
-    value_or (place + 1) (option_and_then (label_in (count_of base)) (slice_get values 0)) (λ label. Ok (ways.Since label))
-    else if bytes_eq way (codes "to") then map_ok ways.To (shown_as (place + 1) (slice_get values 0) (slice_get values 1))
+    value_or (place + 1) (option_and_then (label_in (count_of base)) (slice_get values 0))
+    (λ label. Ok (ways.Since label))
+    else if bytes_eq way (codes "to")
+    then map_ok ways.To (shown_as (place + 1) (slice_get values 0) (slice_get values 1))
     else Err (Value place)
 
 -- so many values may stand behind the word of a way: none, one, or behind `to` one or two. How many stand behind

@@ -92,11 +92,7 @@ fn way_of(base: Timebase, place: usize, way: &str, values: &[&str]) -> Result<Wa
         "plus" => Ok(Way::Plus(steps_in(place + 1, word_at(values, 0))?)),
         "minus" => Ok(Way::Minus(steps_in(place + 1, word_at(values, 0))?)),
         "since" => Ok(Way::Since(from_label(base, place + 1, word_at(values, 0))?)),
-        "to" => Ok(Way::To(shown_as(
-            place + 1,
-            word_at(values, 0),
-            word_at(values, 1),
-        )?)),
+        "to" => Ok(Way::To(shown_as(place + 1, word_at(values, 0), word_at(values, 1))?)),
         _ => Err(WordsFault::Value(place)),
     }
 }
