@@ -2,10 +2,17 @@
 _tc() {
     local word=${COMP_WORDS[COMP_CWORD]} command=${COMP_WORDS[1]} values=
     if [ "$COMP_CWORD" -eq 1 ]; then
-        values="ltc-read ltc-worn ltc-rough ltc-fly ltc-spans ltc-mtc ltc-jam ltc-make ltc-load ltc-convert pcm-ltc wav-ltc ltc-pcm mtc-read vitc-read vitc-make chase ltc-chase number label help version"
+        values="ltc-read ltc-worn ltc-rough ltc-fly ltc-spans ltc-mtc ltc-jam ltc-make ltc-load ltc-convert pcm-ltc wav-ltc ltc-pcm mtc-read vitc-read vitc-make chase ltc-chase number label labels help version"
     else
         case $command:$COMP_CWORD in
-            number:2 | label:2 | ltc-make:2 | chase:2 | ltc-chase:2) values="24 25 30 30d" ;;
+            number:2 | label:2 | labels:2 | ltc-make:2 | chase:2 | ltc-chase:2) values="24 25 30 30d" ;;
+            labels:3) values="number label seconds plus minus since to ntsc" ;;
+            labels:4 | labels:5 | labels:6)
+                case ${COMP_WORDS[COMP_CWORD-1]} in
+                    to) values="24 25 30 30d" ;;
+                    ntsc) values="number label seconds plus minus since to" ;;
+                    24 | 30) values="ntsc" ;;
+                esac ;;
             vitc-make:2) values="25 30 30d" ;;
             ltc-make:3) values="forward backward" ;;
             ltc-convert:2) values="1 2" ;;

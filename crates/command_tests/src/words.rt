@@ -1,14 +1,15 @@
 //! Words as they are typed, and what they say.
 use biphase::Profile;
 use interval_file::FileVersion;
+use label_lines::{Timebase, Way};
 use path_front::Grid;
 use pcm_front::{Pace, Threshold};
 use std::alloc::{AllocError, Global};
 use std::test::Fail;
 use tc_address::text;
 use tc_job::{
-    ChaseRun, Jam, Job, LineStripe, PathSlicing, Slicing, SoundLevel, Task, WaveSlicing, Witness,
-    WordsFault,
+    ChaseRun, Jam, Job, LabelRun, LineStripe, PathSlicing, Slicing, SoundLevel, Task, WaveSlicing,
+    Witness, WordsFault,
 };
 use tc_words::read_words;
 
@@ -55,6 +56,13 @@ fn label_text_of(job: &Job) -> Option<[u8; 11]> {
         Job::VitcMake { stripe } => Some(text(&stripe.label())),
         Job::Number { label } => Some(text(label)),
         Job::LabelOf { label } => Some(text(label)),
+        _ => None,
+    }
+}
+
+fn label_run_of(job: &Job) -> Option<LabelRun> {
+    match job {
+        Job::Labels { run } => Some(*run),
         _ => None,
     }
 }
@@ -434,5 +442,51 @@ fn labels_are_read(rt: HostRuntime) -> Result<(), Fail> {
         };
         assert_eq!(rt; label_text(&task), Some(wanted), "at {line}");
     }
+    Ok(())
+}
+
+#[test]
+fn labels_of_a_text_are_read(rt: HostRuntime) -> Result<(), Fail> {
+    let alloc = rt.alloc();
+    for (line, base, way) in [
+        ("labels 25 number", Timebase::F25, Way::Number),
+        ("labels 30d label", Timebase::Drop30, Way::Label),
+        ("labels 24 seconds", Timebase::F24, Way::Seconds),
+        (
+            "labels 24 ntsc seconds",
+            Timebase::PulledDown24,
+            Way::Seconds,
+        ),
+        ("labels 25 plus 0250", Timebase::F25, Way::Plus(250)),
+        (
+            "labels 30 ntsc minus 4294967295",
+            Timebase::PulledDown30,
+            Way::Minus(u32::MAX),
+        ),
+        ("labels 24 to 30d", Timebase::F24, Way::To(Timebase::Drop30)),
+        (
+            "labels 25 to 30 ntsc",
+            Timebase::F25,
+            Way::To(Timebase::PulledDown30),
+        ),
+        (
+            "labels 30 ntsc to 24 ntsc",
+            Timebase::PulledDown30,
+            Way::To(Timebase::PulledDown24),
+        ),
+    ] {
+        let Some(run) = label_run_of(&job_in(alloc, line)?) else {
+            return Err("no labels".into());
+        };
+        assert_eq!(rt; run.base(), base, "at {line}");
+        assert_eq!(rt; run.way(), way, "at {line}");
+    }
+    let Some(run) = label_run_of(&job_in(alloc, "labels 25 since 10:00:00:00")?) else {
+        return Err("no labels".into());
+    };
+    let Way::Since(label) = run.way() else {
+        return Err("another way".into());
+    };
+    assert_eq!(rt; text(&label), *b"10:00:00:00");
     Ok(())
 }

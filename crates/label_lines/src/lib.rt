@@ -24,6 +24,6 @@ mod way;
 
 pub use answer::answer_line;
 pub use forms::{DROP_FORM, FORMS, LABEL_FORM};
-pub use line::read_line;
+pub use line::{read_line, wrong_column};
 pub use timebase::Timebase;
 pub use way::Way;

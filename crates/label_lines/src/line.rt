@@ -97,8 +97,8 @@ fn value_of(digits: &[u8]) -> u32
     value
 }
 
-/// The column of the first byte that does not fit, from 1.
-fn wrong_column(count: Count, line: &[u8]) -> usize
+/// The column of the first byte that does not fit, from 1, in a line that says no label.
+pub fn wrong_column(count: Count, line: &[u8]) -> usize
     ensures { result ≡ wrong_column count line.now }
 {
     if is_number(line) {

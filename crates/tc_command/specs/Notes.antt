@@ -1,16 +1,15 @@
 -- The note of each status but Done: one line.
 use Rattle.std.specs.Prelude.{ℕ, List, ◌++◌, codes, decimal}
 use Rattle.tc_command.specs.declared.input_fault.InputFault.{InputFault}
-use Rattle.tc_command.specs.InputFault.{name_of, place_of}
+use Rattle.tc_command.specs.InputFault.{fault_text}
 use Rattle.tc_job.specs.declared.fault.WordsFault.{WordsFault}
 use Rattle.tc_job.specs.declared.fault.WordsFault.TheVariants as words
 use Rattle.tc_command.specs.declared.stop.Stop.{Stop}
 use Rattle.tc_command.specs.declared.stop.Stop.TheVariants.{Refused, ReadFault, WriteFault, Limit}
 
--- why a job stopped: the fault of the file and its byte place, or the cause alone
+-- why a job stopped: the fault of the input and where it stands, or the cause alone
 abbrev pub stop_note : Stop → List ℕ
-stop_note (Refused fault) =
-    codes "tc: refused: " ++ name_of fault ++ codes " at byte " ++ decimal (place_of fault) ++ codes "\n"
+stop_note (Refused fault) = codes "tc: refused: " ++ fault_text fault ++ codes "\n"
 stop_note ReadFault = codes "tc: read fault\n"
 stop_note WriteFault = codes "tc: write fault\n"
 stop_note Limit = codes "tc: limit\n"

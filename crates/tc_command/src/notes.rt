@@ -3,6 +3,7 @@ ghost use Rattle.std.specs.Prelude.{◌≡◌, ◌++◌, ◌+◌, ◌≤◌, ◌
 ghost use Rattle.std.specs.Io.KnownBytes.{Appends};
 ghost use Rattle.tc_io.specs.Source.{Rose};
 ghost use Rattle.tc_io.specs.Sink.{AppendsFront};
+ghost use Rattle.tc_command.specs.InputFault.{at_byte, at_column};
 ghost use Rattle.tc_command.specs.Notes.{usage_note, stop_note};
 
 use crate::input_fault::InputFault;
@@ -48,10 +49,34 @@ pub fn usage_note(fault: WordsFault) -> Text
 fn refused_note(fault: InputFault) -> Text
     ensures { result.items ≡ stop_note (Stop.Refused fault) }
 {
+    match fault {
+        InputFault::Intervals(fault) => byte_note(fault.name(), fault.place()),
+        InputFault::Lines(fault) => byte_note(fault.name(), fault.place()),
+        InputFault::Sound(fault) => byte_note(fault.name(), fault.place()),
+        InputFault::HalfSample(place) => byte_note("truncated", place),
+        InputFault::Labels(fault) => column_note(fault.line, fault.column),
+    }
+}
+
+fn byte_note(name: &str, place: u64) -> Text
+    requires { length name.now ≤ 40 }
+    ensures { result.items ≡ codes "tc: refused: " ++ at_byte name.now place ++ codes "\n" }
+{
     let mut line = line_of(b"tc: refused: ");
-    push_bytes(&mut line, fault.name().as_bytes());
+    push_bytes(&mut line, name.as_bytes());
     push_bytes(&mut line, b" at byte ");
-    push_any_number(&mut line, fault.place());
+    push_any_number(&mut line, place);
+    push_bytes(&mut line, b"\n");
+    line
+}
+
+fn column_note(number: u64, column: u64) -> Text
+    ensures { result.items ≡ codes "tc: refused: " ++ at_column number column ++ codes "\n" }
+{
+    let mut line = line_of(b"tc: refused: line ");
+    push_any_number(&mut line, number);
+    push_bytes(&mut line, b" column ");
+    push_any_number(&mut line, column);
     push_bytes(&mut line, b"\n");
     line
 }

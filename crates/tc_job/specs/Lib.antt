@@ -1,6 +1,7 @@
 pub mod Stripe
 pub mod Jam
 pub mod ChaseRun
+pub mod LabelRun
 pub mod LineStripe
 pub mod LoadRun
 pub mod Pace

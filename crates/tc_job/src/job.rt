@@ -2,6 +2,7 @@
 use crate::chase_run::ChaseRun;
 use crate::flight::Flight;
 use crate::jam::Jam;
+use crate::label_run::LabelRun;
 use crate::line_stripe::LineStripe;
 use crate::load_run::LoadRun;
 use crate::path_slicing::PathSlicing;
@@ -78,6 +79,10 @@ pub enum Job {
     Number { label: Label },
     /// `label COUNT NUMBER`: writes the label of that number of the day.
     LabelOf { label: Label },
+    /// `labels COUNT [ntsc] WAY`: reads lines that say labels, and writes a line for each: its number, its text, the
+    /// label further on or back, the way since a label, its seconds, or the label that is shown then under another
+    /// count.
+    Labels { run: LabelRun },
     /// `help`: writes how each command is typed, and where the manual is.
     Help,
     /// `version`: writes which version of the program this is.

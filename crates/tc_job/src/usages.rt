@@ -3,7 +3,7 @@
 /// The word of each command and what stands behind it in its line of `help`, a row a command. A word in capitals is a
 /// value, what stands in brackets may be left out, and of words with a bar between them one is given, and so of ways
 /// with a bar between them.
-pub const USAGES: [(&str, &str); 22] = [
+pub const USAGES: [(&str, &str); 23] = [
     ("ltc-read", ""),
     ("ltc-worn", ""),
     ("ltc-rough", " [firm]"),
@@ -36,6 +36,7 @@ pub const USAGES: [(&str, &str); 22] = [
     ("vitc-make", " COUNT LABEL FRAMES LENGTH"),
     ("number", " COUNT LABEL"),
     ("label", " COUNT NUMBER"),
+    ("labels", " COUNT [ntsc] WAY"),
     ("help", ""),
     ("version", ""),
 ];

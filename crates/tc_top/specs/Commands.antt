@@ -15,6 +15,7 @@ use Rattle.frame_commands.specs.LtcFly.{told_ltc_fly}
 use Rattle.frame_commands.specs.LtcJam.{told_ltc_jam}
 use Rattle.frame_commands.specs.LtcMtc.{told_ltc_mtc}
 use Rattle.frame_commands.specs.LtcSpans.{told_ltc_spans}
+use Rattle.label_command.specs.Labels.{told_labels}
 use Rattle.made_commands.specs.About.{told_help, told_version}
 use Rattle.made_commands.specs.Labels.{told_label, told_number}
 use Rattle.made_commands.specs.Load.{told_ltc_load}
@@ -50,6 +51,7 @@ told_of jobs.VitcRead = told_vitc_read
 told_of (jobs.VitcMake stripe) = told_vitc_make stripe
 told_of (jobs.Number label) = told_number label
 told_of (jobs.LabelOf label) = told_label label
+told_of (jobs.Labels run) = told_labels run
 told_of jobs.Help = told_help
 told_of jobs.Version = told_version
 

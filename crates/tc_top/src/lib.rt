@@ -19,7 +19,7 @@
 //!   (`specs/Exit.antt`; `laws::exit_numbers_are_these` has them one by one).
 //!
 //! Read `top_call`, `streaming`, `reading_on` and `exit`; the commands stand in `interval_commands`,
-//! `frame_commands`, `made_commands`, `signal_commands` and `chase_command`, over `tc_command`.
+//! `frame_commands`, `made_commands`, `signal_commands`, `label_command` and `chase_command`, over `tc_command`.
 #![tactic(auto)]
 
 mod exit;

@@ -22,6 +22,7 @@ use interval_commands::{
     conversions_are_lawful, convert_recording, firm_reports_are_lawful, made_sound_is_lawful,
     read_firmly, read_recording, reports_are_lawful, sound_recording,
 };
+use label_command::{answer_labels, labels_are_lawful};
 use made_commands::{
     line_stripes_are_lawful, loads_are_lawful, make_lines, make_recording, names_are_lawful,
     numbers_are_lawful, stripes_are_lawful, tell_help, tell_label, tell_load, tell_number,
@@ -105,6 +106,7 @@ pub(crate) fn each_job_is_lawful()
     line_stripes_are_lawful();
     numbers_are_lawful();
     names_are_lawful();
+    labels_are_lawful();
 }
 
 /// Works a job to its end, or to where it stops.
@@ -139,6 +141,7 @@ fn work_on<S: Source, K: Sink>(job: &Job, source: &mut S, out: &mut K) -> Result
         Job::VitcMake { stripe } => make_lines(stripe, source, out),
         Job::Number { label } => tell_number(label, source, out),
         Job::LabelOf { label } => tell_label(label, source, out),
+        Job::Labels { run } => answer_labels(run, source, out),
         Job::Help => tell_help(source, out),
         Job::Version => tell_version(source, out),
     }

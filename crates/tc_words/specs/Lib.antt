@@ -1,5 +1,6 @@
 pub mod Flight
 pub mod Forms
+pub mod LabelRun
 pub mod Live
 pub mod LtcChase
 pub mod LtcMake

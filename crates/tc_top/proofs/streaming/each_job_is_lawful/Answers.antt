@@ -35,5 +35,6 @@ returns c = lawful
     lawful (jobs.VitcMake stripe) = c.line_stripes_are_lawful.ensures stripe
     lawful (jobs.Number label) = c.numbers_are_lawful.ensures label
     lawful (jobs.LabelOf label) = c.names_are_lawful.ensures label
+    lawful (jobs.Labels run) = c.labels_are_lawful.ensures run
     lawful jobs.Help = text_is_lawful _
     lawful jobs.Version = text_is_lawful _

@@ -1,0 +1,2 @@
+pub mod AnswersGrow
+pub mod LabelsAreCommand

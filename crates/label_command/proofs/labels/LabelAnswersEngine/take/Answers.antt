@@ -1,0 +1,113 @@
+use Rattle.std.proofs.Common.{◌≡◌, ◌∷◌, ◌++◌, [], List, ℕ, ap, subst, inl, sym, ◌∙◌, drop, get_or, take}
+use Rattle.std.proofs.KnownBytes.{Appends-nil}
+use Rattle.label_command.specs.KeptLabels.{Stands}
+use Rattle.label_command.specs.declared.labels.LabelAnswers.{LabelAnswers}
+use Rattle.label_command.specs.Labels.{along_labels}
+use Rattle.label_lines.specs.Answer.{answer_line}
+use Rattle.label_text.specs.declared.reader.LineRead.{LineRead}
+use Rattle.label_text.specs.declared.reader.LineRead.TheVariants as said
+use Rattle.label_text.specs.LabelText.{after}
+use Rattle.lemmas.specs.Lists.{first_and_rest, first_only}
+use Rattle.lemmas.specs.Results.{through}
+use Rattle.tc_command.specs.declared.stop.Stop.TheVariants as stops
+use Rattle.tc_command.specs.declared.input_fault.InputFault.TheVariants.{Labels}
+use Rattle.tc_command.specs.Stops.{IsStop}
+use Rattle.label_command.proofs.AnswersGrow.{a_fault, a_line_less, fewer_left, going_on, none_more, one_more}
+use Rattle.label_command.proofs.AnswersGrow.{one_more_part, the_limit}
+use Rattle.label_command.proofs.labels.LabelAnswersEngine.take.Goals as goal
+
+-- the line goes on
+pub returns-in-Nothing-clause-works : goal.returns-in-Nothing-clause-works
+returns-in-Nothing-clause-works g c = λ front written stands.
+    let s = c.args.self.now in
+    let byte = get_or c.args.bytes.now 0 0 in
+    let is = sym c.take.ensures.said ∙ c.in-Nothing.is in (
+      [],
+      Appends-nil _,
+      subst (λ (l : List ℕ). Stands (record s { reader = c.take.new.self }) (front ++ l) (written ++ []))
+          (first_only c.args.bytes.now c.requires.some)
+          (none_more c.bytes_are_read_in_order.ensures.good s c.take.new.self front written stands byte is
+          (c.take.ensures.next ∙ ap (λ (r : LineRead). after r byte s.reader) is)),
+    )
+
+pub returns-in-Nothing-clause-going : goal.returns-in-Nothing-clause-going
+returns-in-Nothing-clause-going g c =
+    going_on c.args.self.now c.take.new.self _ (get_or c.args.bytes.now 0 0) c.requires.going c.take.ensures.valid
+    c.take.ensures.next
+
+pub returns-in-Nothing-clause-budget : goal.returns-in-Nothing-clause-budget
+returns-in-Nothing-clause-budget g c =
+    let byte = get_or c.args.bytes.now 0 0 in
+    let is = sym c.take.ensures.said ∙ c.in-Nothing.is in
+    fewer_left c.args.self.now.reader c.take.new.self byte c.take.ensures.valid
+    (c.take.ensures.next ∙ ap (λ (r : LineRead). after r byte c.args.self.now.reader) is)
+
+-- the line of a label was written
+pub returns-in_ok-answer-in-Label-clause-works : goal.returns-in_ok-answer-in-Label-clause-works
+returns-in_ok-answer-in-Label-clause-works g c = λ front written stands.
+    let s = c.args.self.now in
+    let byte = get_or c.args.bytes.now 0 0 in
+    let label = c.in-Label.label in
+    let is = sym c.take.ensures.said ∙ c.in-Label.is in
+    let line = answer_line s.run.base s.run.way label in (
+      line,
+      c.in_ok-answer-in-Label.ensures.all,
+      subst (λ (l : List ℕ). Stands (record s { reader = c.take.new.self }) (front ++ l) (written ++ line))
+          (first_only c.args.bytes.now c.requires.some)
+          (one_more c.bytes_are_read_in_order.ensures.good s c.take.new.self front written stands byte label is
+          (c.take.ensures.next ∙ ap (λ (r : LineRead). after r byte s.reader) is)),
+    )
+
+pub returns-in_ok-answer-in-Label-clause-going : goal.returns-in_ok-answer-in-Label-clause-going
+returns-in_ok-answer-in-Label-clause-going g c =
+    going_on c.args.self.now c.take.new.self _ (get_or c.args.bytes.now 0 0) c.requires.going c.take.ensures.valid
+    c.take.ensures.next
+
+pub returns-in_ok-answer-in-Label-clause-budget : goal.returns-in_ok-answer-in-Label-clause-budget
+returns-in_ok-answer-in-Label-clause-budget g c =
+    let byte = get_or c.args.bytes.now 0 0 in
+    let is = sym c.take.ensures.said ∙ c.in-Label.is in
+    a_line_less c.args.self.now.reader c.take.new.self byte c.in-Label.label c.requires.going.place c.take.ensures.valid
+    (c.take.ensures.next ∙ ap (λ (r : LineRead). after r byte c.args.self.now.reader) is)
+
+-- its line was not taken
+pub returns-in_err-answer-in-Label-clause-stops : goal.returns-in_err-answer-in-Label-clause-stops
+returns-in_err-answer-in-Label-clause-stops g c =
+    let s = c.args.self.now in
+    let bytes = c.args.bytes.now in
+    let byte = get_or bytes 0 0 in
+    let is = sym c.take.ensures.said ∙ c.in-Label.is in
+    let why = c.in_err-answer-in-Label.ensures.why in
+    through c.from_residual.result c.from_residual.ensures.1 (λ stop same front written stands.
+    let law = c.bytes_are_read_in_order.ensures.good in
+    rw (same, why) (one_more_part law s front written stands byte (drop 1 bytes) bytes c.in-Label.label _ _ is
+    (first_and_rest bytes c.requires.some) c.in_err-answer-in-Label.ensures.front))
+
+-- the line says no label
+pub returns-in-Fault-clause-stops : goal.returns-in-Fault-clause-stops
+returns-in-Fault-clause-stops g c = λ front written stands.
+    let s = c.args.self.now in
+    let bytes = c.args.bytes.now in
+    let byte = get_or bytes 0 0 in
+    let fault = c.in-Fault.fault in
+    let is = sym c.take.ensures.said ∙ c.in-Fault.is in (
+      [],
+      Appends-nil _,
+      subst (λ (l : List ℕ). IsStop (along_labels s.run) (stops.Refused (Labels fault)) (front ++ l) (written ++ []))
+          (first_and_rest bytes c.requires.some)
+          (a_fault c.bytes_are_read_in_order.ensures.good s front written stands byte (drop 1 bytes) fault is),
+    )
+
+-- or there is a line too many
+pub returns-in-Limit-clause-stops : goal.returns-in-Limit-clause-stops
+returns-in-Limit-clause-stops g c = λ front written stands.
+    let s = c.args.self.now in
+    let bytes = c.args.bytes.now in
+    let byte = get_or bytes 0 0 in
+    let is = sym c.take.ensures.said ∙ c.in-Limit.is in (
+      [],
+      Appends-nil _,
+      subst (λ (l : List ℕ). IsStop (along_labels s.run) stops.Limit (front ++ l) (written ++ []))
+          (first_and_rest bytes c.requires.some)
+          (inl (the_limit c.bytes_are_read_in_order.ensures.good s front written stands byte (drop 1 bytes) is)),
+    )

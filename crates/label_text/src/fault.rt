@@ -1,0 +1,10 @@
+//! Where a line says no label. Next: `tc_command/src/input_fault.rt`.
+
+/// The first line that says no label, and its first column that does not fit.
+#[derive(Clone, Copy, Debug, PartialEq, Eq)]
+pub struct LineFault {
+    /// Lines are counted from 1.
+    pub line: u64,
+    /// So are the bytes of a line.
+    pub column: u64,
+}
