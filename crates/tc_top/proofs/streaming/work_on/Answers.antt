@@ -1,6 +1,6 @@
 use Rattle.tc_top.proofs.streaming.work_on.Goals as goal
 
--- a search does not see these three: what is told of what is made unfolds too far
+-- a search does not see these four: what is told of them unfolds too far
 pub returns-in-LtcMake : goal.returns-in-LtcMake
 returns-in-LtcMake g c = rw c.in-LtcMake.is c.make_recording.ensures
 
@@ -9,3 +9,6 @@ returns-in-VitcMake g c = rw c.in-VitcMake.is c.make_lines.ensures
 
 pub returns-in-LabelOf : goal.returns-in-LabelOf
 returns-in-LabelOf g c = rw c.in-LabelOf.is c.tell_label.ensures
+
+pub returns-in-Labels : goal.returns-in-Labels
+returns-in-Labels g c = rw c.in-Labels.is c.answer_labels.ensures
