@@ -1,13 +1,16 @@
 #!/usr/bin/env python3
 """A second reading of `wav-ltc`, from docs/reference/formats.md and docs/reference/sound.md alone, on whole lists and without tc.
 
-    bench/wave_by_hand.py SYSTEM TRACK THRESHOLD [SMOOTH [deep]] [live] < FILE > INTERVALS
+    bench/wave_by_hand.py SYSTEM TRACK THRESHOLD [path | [SMOOTH [deep]] [live]] < FILE > INTERVALS
 
-Writes the interval file, and on standard error what tc says of a file that is refused.
+Writes the interval file, and on standard error what tc says of a file that is refused. The best path is that of
+`bench/path_by_hand.py`.
 """
 
 import struct
 import sys
+
+import path_by_hand
 
 MOST_SAMPLES = 2**40
 UNKNOWN = 0xFFFFFFFF
@@ -22,7 +25,7 @@ def little(data):
     return int.from_bytes(data, "little")
 
 
-def judged_format(body, place, track):
+def judged_format(body, place, track, least_rate):
     """The format in the first bytes of the chunk, or its first field that is not taken."""
     code = little(body[0:2])
     pcm = code == 1 or (code == 65534 and len(body) >= 26 and little(body[24:26]) == 1)
@@ -31,7 +34,7 @@ def judged_format(body, place, track):
     tests = [
         (pcm, "format", 0),
         (1 <= tracks <= 64, "format", 2),
-        (1 <= rate <= 6_250_000, "format", 4),
+        (least_rate <= rate <= 6_250_000, "format", 4),
         (8 * block == tracks * bits, "format", 12),
         (bits in (8, 16, 24, 32), "format", 14),
         (track <= tracks, "track", 2),
@@ -42,7 +45,7 @@ def judged_format(body, place, track):
     return rate, block, bits
 
 
-def read_wave(data, track):
+def read_wave(data, track, least_rate):
     """The format, the samples of the track, and the fault of the end; or a fault alone."""
     end = Refused("truncated", len(data))
     if len(data) < 4:
@@ -80,7 +83,7 @@ def read_wave(data, track):
             width = min(26, size)
             if len(data) < body + width:
                 return None, [], end
-            found = judged_format(data[body : body + width], body, track)
+            found = judged_format(data[body : body + width], body, track, least_rate)
         elif letters == b"ds64" and is_long:
             if size < 16:
                 raise Refused("ds64", at)
@@ -142,23 +145,29 @@ def intervals(samples, least, smooth, deep, piece):
         before = y
 
 
-def main():
-    words = sys.argv[1:]
-    live = words[-1] == "live"
+def found_intervals(words, system, least, rate, samples, ended):
+    """The intervals of a track, by the words behind THRESHOLD."""
+    if words == ["path"]:
+        return path_by_hand.intervals(samples, system, rate, least, 16, ended)
+    live = words[-1:] == ["live"]
     words = words[:-1] if live else words
-    system, track, least = (int(word) for word in words[:3])
-    smooth = int(words[3]) if len(words) > 3 else 1
-    deep = len(words) > 4
+    smooth = int(words[0]) if words else 1
+    piece = min(max(16 * rate // (4 * system), 1), GREATEST) if live else None
+    return intervals(samples, least, smooth, len(words) > 1, piece)
+
+
+def main():
+    system, track, least = (int(word) for word in sys.argv[1:4])
+    words = sys.argv[4:]
     data = sys.stdin.buffer.read()
     try:
-        rate, samples, fault = read_wave(data, track)
+        rate, samples, fault = read_wave(data, track, 140 * system if words == ["path"] else 1)
     except Refused as refused:
         rate, samples, fault = None, [], refused
     out = bytearray()
     if rate is not None:
         out += b"LTCI" + bytes([1, system, 0, 0]) + struct.pack(">I", 16 * rate)
-        piece = min(max(16 * rate // (4 * system), 1), GREATEST) if live else None
-        for interval in intervals(samples, least, smooth, deep, piece):
+        for interval in found_intervals(words, system, least, rate, samples, fault is None):
             out += struct.pack(">I", interval)
     sys.stdout.buffer.write(out)
     if fault is not None:

@@ -23,7 +23,8 @@ _tc() {
             ltc-fly:3 | ltc-spans:3 | ltc-mtc:3 | ltc-jam:5 | ltc-chase:7) values="worn rough" ;;
             ltc-fly:4 | ltc-spans:4 | ltc-mtc:4 | ltc-jam:6 | ltc-chase:8) values="firm" ;;
             wav-ltc:2) values="24 25 30" ;;
-            wav-ltc:5 | wav-ltc:7) values="live" ;;
+            wav-ltc:5) values="path live" ;;
+            wav-ltc:7) values="live" ;;
             wav-ltc:6) values="deep live" ;;
         esac
     fi

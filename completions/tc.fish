@@ -35,6 +35,7 @@ complete -c tc -n '__fish_seen_subcommand_from pcm-ltc; and test (count (command
 complete -c tc -n '__fish_seen_subcommand_from pcm-ltc; and test (count (commandline -opc)) -eq 6' -a 'path follow deep'
 complete -c tc -n '__fish_seen_subcommand_from pcm-ltc; and test (count (commandline -opc)) -ge 5' -a live
 complete -c tc -n '__fish_seen_subcommand_from wav-ltc; and test (count (commandline -opc)) -eq 2' -a '24 25 30'
+complete -c tc -n '__fish_seen_subcommand_from wav-ltc; and test (count (commandline -opc)) -eq 5' -a path
 complete -c tc -n '__fish_seen_subcommand_from wav-ltc; and test (count (commandline -opc)) -eq 6' -a deep
 complete -c tc -n '__fish_seen_subcommand_from wav-ltc; and test (count (commandline -opc)) -ge 5' -a live
 complete -c tc -n '__fish_seen_subcommand_from ltc-rough; and test (count (commandline -opc)) -eq 2' -a firm
