@@ -1,4 +1,4 @@
-//! The engine of `labels`: a line for each line of a text. Next: `label_text/src/reader.rt`, and then
+//! The engine of `labels`: a line for each line of a text. Read next: `label_text/src/reader.rt`, and then
 //! `label_lines/src/answer.rt`.
 ghost use Rattle.std.specs.Prelude.{◌≡◌, [], OnOk, OnErr, IfErr};
 ghost use Rattle.std.specs.Io.KnownBytes.{Appends};

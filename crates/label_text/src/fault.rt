@@ -1,4 +1,4 @@
-//! Where a line says no label. Next: `tc_command/src/input_fault.rt`.
+//! Where a line says no label.
 
 /// The first line that says no label, and its first column that does not fit.
 #[derive(Clone, Copy, Debug, PartialEq, Eq)]

@@ -1,4 +1,4 @@
-//! From bytes to the labels of their lines. Next: `label_lines/src/line.rt`, which reads a line.
+//! From bytes to the labels of their lines. Read next: `label_lines/src/line.rt`, which reads a line.
 ghost use Rattle.std.specs.Prelude.{◌≡◌, ◌≤◌};
 ghost use Rattle.tc_address.specs.Label.{Address};
 ghost use Rattle.label_lines.specs.Timebase.{count_of};

@@ -1,4 +1,4 @@
-//! A sound on its way into the cells of its best path, as an interval file has them. Next:
+//! A sound on its way into the cells of its best path, as an interval file has them. Read next:
 //! `path_front/src/front.rt`, and then `tc_command/src/gathered.rt`.
 ghost use Rattle.std.specs.Prelude.{◌≡◌, ◌≤◌, ◌<◌, ◌+◌, ◌^◌, ◌++◌, ◌∷◌, [], length, OnErr, OnOk, IfErr, List, ℕ, ℤ};
 ghost use Rattle.std.specs.Io.KnownBytes.{Appends};

@@ -1,5 +1,5 @@
 //! The engine of `wav-ltc .. path`: an interval file of the cells of the best path through a track of a sound file.
-//! Next: `wave_file/src/decoder.rt`, and then `path_sound`.
+//! Read next: `wave_file/src/decoder.rt`, and then `path_sound`.
 ghost use Rattle.std.specs.Prelude.{◌≡◌, ◌+◌, ◌≤◌, ◌<◌, ◌^◌, ◌++◌, ℕ, ℤ, List, [], length, take, Some, None, Option};
 ghost use Rattle.std.specs.Prelude.{OnOk, OnErr, IfOk, IfErr, Err};
 ghost use Rattle.std.specs.Io.KnownBytes.{Appends};

@@ -1,5 +1,4 @@
-//! What `labels` is told: how labels are counted and how fast they run, and what is answered to each. Next:
-//! `label_command/src/labels.rt`, which answers.
+//! What `labels` is told: how labels are counted and how fast they run, and what is answered to each.
 ghost use Rattle.std.specs.Prelude.{◌≡◌};
 ghost use Rattle.label_lines.specs.Timebase.{count_of};
 ghost use Rattle.label_lines.specs.Way.{IsWayOf};

@@ -1,5 +1,4 @@
-//! What `wav-ltc .. path` is told: a sound file of whose track the best path is written. Next:
-//! `signal_commands/src/wav_path.rt`, which looks for it.
+//! What `wav-ltc .. path` is told: a sound file of whose track the best path is written.
 ghost use Rattle.std.specs.Prelude.{◌≡◌, ◌≤◌};
 ghost use Rattle.tc_job.specs.TrackPath.{least_rate_of, sound_of, track_path_of, IsTrackPath};
 

@@ -1,4 +1,4 @@
-//! The values of `labels`, word by word. Next: `tc_job/src/label_run.rt`, which holds them.
+//! The values of `labels`, word by word. Read next: `tc_job/src/label_run.rt`, which holds them.
 ghost use Rattle.std.specs.Prelude.{◌≡◌, ◌≤◌, ◌+◌, false, codes, length, map, IfOk, Ok, Some, option_and_then};
 ghost use Rattle.std.specs.Option.{option_copied};
 ghost use Rattle.std.specs.Str.{bytes_eq};

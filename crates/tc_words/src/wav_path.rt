@@ -1,4 +1,4 @@
-//! The values of `wav-ltc` with `path`, word by word. Next: `tc_job/src/track_path.rt`, which holds them.
+//! The values of `wav-ltc` with `path`, word by word. Read next: `tc_job/src/track_path.rt`, which holds them.
 ghost use Rattle.std.specs.Prelude.{◌≡◌, map};
 ghost use Rattle.tc_words.specs.WavPath.{is_track_path, path_of_track};
 
