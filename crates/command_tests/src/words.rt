@@ -8,7 +8,8 @@ use std::alloc::{AllocError, Global};
 use std::test::Fail;
 use tc_address::text;
 use tc_job::{
-    ChaseRun, Jam, Job, LabelRun, LineStripe, PathSlicing, Slicing, SoundLevel, Task, WaveSlicing,
+    ChaseRun, Jam, Job, LabelRun, LineStripe, PathSlicing, Slicing, SoundLevel, Task, TrackPath,
+    WaveSlicing,
     Witness, WordsFault,
 };
 use tc_words::read_words;
@@ -77,6 +78,13 @@ fn slicing_of(job: &Job) -> Option<Slicing> {
 fn path_of(job: &Job) -> Option<PathSlicing> {
     match job {
         Job::PcmPath { path } => Some(*path),
+        _ => None,
+    }
+}
+
+fn track_path_of(job: &Job) -> Option<TrackPath> {
+    match job {
+        Job::WavPath { path } => Some(*path),
         _ => None,
     }
 }
@@ -264,6 +272,41 @@ fn best_paths_are_read(rt: HostRuntime) -> Result<(), Fail> {
         assert_eq!(rt; path.tick_rate(), tick_rate, "at {line}");
         assert_eq!(rt; path.grid(), grid, "at {line}");
         assert_eq!(rt; path.ticks(), ticks, "at {line}");
+    }
+    Ok(())
+}
+
+#[test]
+fn best_paths_of_tracks_are_read(rt: HostRuntime) -> Result<(), Fail> {
+    let alloc = rt.alloc();
+    for (line, track, least_rate, rate, grid) in [
+        ("wav-ltc 24 1 250 path", 1, 3_360, 3_360, Grid::Repeat(8)),
+        (
+            "wav-ltc 25 64 1 path",
+            64,
+            3_500,
+            48_000,
+            Grid::Repeat(1),
+        ),
+        (
+            "wav-ltc 30 2 32767 path",
+            2,
+            4_200,
+            6_250_000,
+            Grid::Sum(128),
+        ),
+    ] {
+        let Some(path) = track_path_of(&job_in(alloc, line)?) else {
+            return Err("no path".into());
+        };
+        assert_eq!(rt; path.track(), track, "at {line}");
+        assert_eq!(rt; path.least_rate(), least_rate, "at {line}");
+        assert!(rt; path.sound(least_rate - 1).is_none(), "below the least rate of {line}");
+        let Some(sound) = path.sound(rate) else {
+            return Err("no sound".into());
+        };
+        assert_eq!(rt; sound.grid(), grid, "at {line}");
+        assert_eq!(rt; sound.tick_rate(), 16 * rate, "at {line}");
     }
     Ok(())
 }
