@@ -1,10 +1,12 @@
-//! MIDI Time Code, sound files and rows of pixels from outside.
+//! MIDI Time Code, sound files, rows and fields of pixels from outside.
 //!
 //! What no clause says of a crate, or what was known before it: values from standards, from other
 //! software, and worked out by hand, a module for each crate. They stand here since a crate with tests
 //! in it is proved twice.
 #![tactic(auto)]
 
+#[cfg(test)]
+mod fields;
 #[cfg(test)]
 mod messages;
 #[cfg(test)]
