@@ -79,8 +79,8 @@ one_long_interval = (refl, refl)
 cut_inside_a_cell : cells_from (Zero 24 ∷ One 12 12 ∷ Zero 24 ∷ One 12 12 ∷ []) 2 (12 ∷ 24 ∷ 12 ∷ []) 0 ≡ Zero 24 ∷ []
 cut_inside_a_cell = refl
 
--- two unequal pairs alone do not find a tape under the rough tolerance: behind 18 and four intervals of 36, a tape of 24
--- ticks a cell with the bits 0 1 0, twice, is taken for ones of 36
+-- two unequal pairs alone do not find a tape under the rough tolerance: behind 18 and four intervals of 36, a tape of
+-- 24 ticks a cell with the bits 0 1 0, twice, is taken for ones of 36
 two_pairs_are_too_few : AreStretches Rough (18 ∷ 36 ∷ 36 ∷ 36 ∷ 36 ∷ 24 ∷ 12 ∷ 12 ∷ 24 ∷ 24 ∷ 12 ∷ 12 ∷ 24 ∷ [])
     (record {
       lock = 1;

@@ -156,11 +156,17 @@ pub fn rough_recordings_have_these_stretches()
     ensures short { AreStretches Rough (100 ∷ 50 ∷ 50 ∷ 75 ∷ [])
         (with_cell (Zero 75) (with_cell (One 50 50) (begun 0 100)) ∷ []) }
     ensures long { AreStretches Rough (100 ∷ 50 ∷ 50 ∷ 125 ∷ 125 ∷ 125 ∷ 125 ∷ 156 ∷ [])
-        (record { lock = 0; cells = Zero 100 ∷ One 50 50 ∷ Zero 125 ∷ Zero 125 ∷ Zero 125 ∷ Zero 125 ∷ Zero 156 ∷ [];
-            broken_at = None } ∷ []) }
+        (record {
+          lock = 0;
+          cells = Zero 100 ∷ One 50 50 ∷ Zero 125 ∷ Zero 125 ∷ Zero 125 ∷ Zero 125 ∷ Zero 156 ∷ [];
+          broken_at = None;
+        } ∷ []) }
     ensures longer { AreStretches Rough (100 ∷ 50 ∷ 50 ∷ 125 ∷ 125 ∷ 125 ∷ 125 ∷ 157 ∷ [])
-        (record { lock = 0; cells = Zero 100 ∷ One 50 50 ∷ Zero 125 ∷ Zero 125 ∷ Zero 125 ∷ Zero 125 ∷ [];
-            broken_at = Some 7 } ∷ []) }
+        (record {
+          lock = 0;
+          cells = Zero 100 ∷ One 50 50 ∷ Zero 125 ∷ Zero 125 ∷ Zero 125 ∷ Zero 125 ∷ [];
+          broken_at = Some 7;
+        } ∷ []) }
     ensures third { AreStretches Rough (99 ∷ 33 ∷ []) (begun 0 99 ∷ []) }
     ensures less { AreStretches Rough (100 ∷ 33 ∷ []) [] }
 {}

@@ -34,9 +34,13 @@ pub stretch_more : (system : System) (l : List ℕ) (ss : List Stretch) (s : Str
     → AreEventsOfStretches system l ss es
     → AreEventsOfStretch system l s own → AreEventsOfStretches system l (ss ++ s ∷ []) (es ++ own)
 stretch_more system l [] s es own are is = (own, [], is, refl, ap (λ e. e ++ own) are ∙ sym (append-nil own))
-stretch_more system l (t ∷ ss) s es own (first, rest, is_first, others, join) is =
-    (first, rest ++ own, is_first, stretch_more system l ss s rest own others is,
-    ap (λ e. e ++ own) join ∙ append_assoc first rest own)
+stretch_more system l (t ∷ ss) s es own (first, rest, is_first, others, join) is = (
+  first,
+  rest ++ own,
+  is_first,
+  stretch_more system l ss s rest own others is,
+  ap (λ e. e ++ own) join ∙ append_assoc first rest own,
+)
 
 -- a stretch begins where it began
 pub begin_stays : (l more : List ℕ) (s : Stretch) → s.lock ≤ length l → begin_of (l ++ more) s ≡ begin_of l s
@@ -61,9 +65,13 @@ stretch_stays system l more s es inside (own, are, join) = (
 pub stretches_stay : (system : System) (l more : List ℕ) (ss : List Stretch) (es : List Event) → AreInside (length l) ss
     → AreEventsOfStretches system l ss es → AreEventsOfStretches system (l ++ more) ss es
 stretches_stay system l more [] es inside are = are
-stretches_stay system l more (s ∷ ss) es inside (own, rest, is, others, join) =
-    (own, rest, stretch_stays system l more s own inside.0 is,
-    stretches_stay system l more ss rest inside.1 others, join)
+stretches_stay system l more (s ∷ ss) es inside (own, rest, is, others, join) = (
+  own,
+  rest,
+  stretch_stays system l more s own inside.0 is,
+  stretches_stay system l more ss rest inside.1 others,
+  join,
+)
 
 -- a place before so many is before more
 some_more : (n m : ℕ) (place : Option ℕ) → n ≤ m → IfSome place (λ p. p < n) → IfSome place (λ p. p < m)

@@ -637,7 +637,7 @@ more_behind laws system profile front more told later until now (ss, stretches, 
       rest = tail.0;
       are = tail.1;
       later = front_from tail.0 own.rest until (subst (λ (es : List FirmEvent). All (IsFrom until) es) rest
-      behind.later);
+          behind.later);
       before = until_later told tail.0 own.rest behind.rest until now (sum front) (sum (front ++ more)) behind.before
           rest behind.later own.next;
     }

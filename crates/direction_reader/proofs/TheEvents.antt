@@ -27,15 +27,21 @@ the_events : (r : ReaderState) (t : Tracking) (l : List ℕ) (es past latest : L
 the_events r (AtCell a) l es past latest earlier None is past_are latest_are all = absurd is
 the_events r (AtCell a) l es past latest earlier (Some s) is past_are latest_are all =
     let own = open_events r l s latest is.open_yet latest_are in
-    let are = stretch_more r.system l earlier s past latest past_are own in
-    (earlier ++ s ∷ [], is.stretches_are, subst (λ e. AreEventsOfStretches r.system l (earlier ++ s ∷ []) e) (sym all)
-    are)
+    let are = stretch_more r.system l earlier s past latest past_are own in (
+      earlier ++ s ∷ [],
+      is.stretches_are,
+      subst (λ e. AreEventsOfStretches r.system l (earlier ++ s ∷ []) e) (sym all)
+          are,
+    )
 the_events r (MidCell m) l es past latest earlier None is past_are latest_are all = absurd is
 the_events r (MidCell m) l es past latest earlier (Some s) is past_are latest_are all =
     let own = open_events r l s latest is.open_yet latest_are in
-    let are = stretch_more r.system l earlier s past latest past_are own in
-    (earlier ++ s ∷ [], is.stretches_are, subst (λ e. AreEventsOfStretches r.system l (earlier ++ s ∷ []) e) (sym all)
-    are)
+    let are = stretch_more r.system l earlier s past latest past_are own in (
+      earlier ++ s ∷ [],
+      is.stretches_are,
+      subst (λ e. AreEventsOfStretches r.system l (earlier ++ s ∷ []) e) (sym all)
+          are,
+    )
 the_events r (Hunting h) l es past latest earlier None is past_are latest_are all =
     let same : past ≡ es = sym (append-nil past) ∙ ap (λ e. past ++ e) (sym latest_are) ∙ sym all in
     (earlier, is.stretches_are, subst (λ e. AreEventsOfStretches r.system l earlier e) same past_are)

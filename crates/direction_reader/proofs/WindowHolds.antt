@@ -30,7 +30,7 @@ full_holds window bits bit holds =
     record {
       enough = omega arith;
       value = rw place (ap (λ n. slid_by n bit) holds.value ∙ oldest_goes (drop start bits) bit eighty ∙ ap number_of
-      (sym latest));
+          (sym latest));
     }
 
 -- the register of a window that is filling

@@ -183,17 +183,17 @@ first_of_row first row more one number is are =
           ∙ ap (λ (es : List MtcEvent). begun_at (first ∷ row) (one ∷ more) ++ es)
           (sym (short_end row number one.place are.1 (omega (arith, short)))))
       | inr six ↦ elim (cases_lt (length row) 7) [
-          | inl seven ↦ ap₂ (λ (a b : List MtcEvent). a ++ b)
-              (sym (whole_end (first ∷ row) more one number is are (omega (arith, six, seven))))
-              (none_ended ((first ∷ row) ++ one ∷ []) more (omega (arith, long, six))
-              ∙ sym (short_end row number one.place are.1 seven))
-          | inr many ↦ ap₂ (λ (a b : List MtcEvent). a ++ b)
-              (long_end first.message row number one.place are.0 are.1 many)
-              (none_ended ((first ∷ row) ++ one ∷ []) more (omega (arith, long, many)))
-              ∙ append-nil (ended_at row number one.place)
-              ∙ ap (λ (es : List MtcEvent). es ++ ended_at row number one.place)
-              (sym (none_ended (first ∷ row) (one ∷ more) (omega (arith, many))))
-        ]
+        | inl seven ↦ ap₂ (λ (a b : List MtcEvent). a ++ b)
+            (sym (whole_end (first ∷ row) more one number is are (omega (arith, six, seven))))
+            (none_ended ((first ∷ row) ++ one ∷ []) more (omega (arith, long, six))
+            ∙ sym (short_end row number one.place are.1 seven))
+        | inr many ↦ ap₂ (λ (a b : List MtcEvent). a ++ b)
+            (long_end first.message row number one.place are.0 are.1 many)
+            (none_ended ((first ∷ row) ++ one ∷ []) more (omega (arith, long, many)))
+            ∙ append-nil (ended_at row number one.place)
+            ∙ ap (λ (es : List MtcEvent). es ++ ended_at row number one.place)
+            (sym (none_ended (first ∷ row) (one ∷ more) (omega (arith, many))))
+      ]
     ]
 
 -- of all of a row

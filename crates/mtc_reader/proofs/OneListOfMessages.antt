@@ -96,8 +96,15 @@ full_begun status (a ∷ b ∷ c ∷ d ∷ e ∷ f ∷ g ∷ h ∷ i ∷ rest) i
       spelled = 0xf0 ∷ 0x7f ∷ b ∷ 0x01 ∷ 0x01 ∷ e ∷ f ∷ g ∷ h ∷ 0xf7 ∷ [];
       message = FullMessage e f g h;
       rest = rest;
-      spells = (b, ltb-true b 0x80 from_b.0, ltb-true e 0x80 from_e.0, ltb-true f 0x80 from_f.0,
-          ltb-true g 0x80 from_g.0, ltb-true h 0x80 from_h.0, refl);
+      spells = (
+        b,
+        ltb-true b 0x80 from_b.0,
+        ltb-true e 0x80 from_e.0,
+        ltb-true f 0x80 from_f.0,
+        ltb-true g 0x80 from_g.0,
+        ltb-true h 0x80 from_h.0,
+        refl,
+      );
       are = rw (is, first, third, fourth, last) refl;
     }
 
@@ -214,9 +221,25 @@ shaped (FullMessage hours minutes seconds frames) spelled spells = record {
   later = 0x7f ∷ spells.0 ∷ 0x01 ∷ 0x01 ∷ hours ∷ minutes ∷ seconds ∷ frames ∷ 0xf7 ∷ [];
   are = spells.6;
   is_first = inl refl;
-  are_later = (data_later 0x7f (omega arith), (data_later spells.0 spells.1, (data_later 0x01 (omega arith),
-      (data_later 0x01 (omega arith), (data_later hours spells.2, (data_later minutes spells.3,
-      (data_later seconds spells.4, (data_later frames spells.5, (end_later, tt)))))))));
+  are_later = (
+    data_later 0x7f (omega arith),
+    (
+      data_later spells.0 spells.1,
+      (
+        data_later 0x01 (omega arith),
+        (
+          data_later 0x01 (omega arith),
+          (
+            data_later hours spells.2,
+            (
+              data_later minutes spells.3,
+              (data_later seconds spells.4, (data_later frames spells.5, (end_later, tt))),
+            ),
+          ),
+        ),
+      ),
+    ),
+  );
 }
 
 -- what begins no message reaches no byte that begins one

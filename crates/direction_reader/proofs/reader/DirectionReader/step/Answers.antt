@@ -14,7 +14,7 @@ invariant_of-self c =
       count = omega arith;
       sum = omega arith;
       fits = cell_fits _ _ _ _ _ _ _ _ c.self.invariant.fits c.requires.least c.requires.most steps (omega arith)
-      c.add.ensures.boundaries;
+          c.add.ensures.boundaries;
     }
 
 -- and a zero
