@@ -28,7 +28,9 @@ use made_commands::{
     numbers_are_lawful, stripes_are_lawful, tell_help, tell_label, tell_load, tell_number,
     tell_version,
 };
-use signal_commands::laws::{paths_are_lawful, sliced_sound_is_lawful};
+use signal_commands::laws::{
+    each_signal_makes_a_command, paths_are_lawful, sliced_sound_is_lawful,
+};
 use signal_commands::{
     fields_are_lawful, hear_path, hear_track, midi_is_lawful, read_fields, read_midi, slice_sound, slice_track,
     sliced_tracks_are_lawful,
@@ -103,6 +105,7 @@ pub(crate) fn each_job_is_lawful()
     sliced_sound_is_lawful();
     fields_are_lawful();
     paths_are_lawful();
+    each_signal_makes_a_command();
     line_stripes_are_lawful();
     numbers_are_lawful();
     names_are_lawful();

@@ -2,7 +2,7 @@ use Rattle.biphase.specs.declared.profile.Profile.TheVariants.{Normal, Worn, Rou
 use Rattle.tc_job.specs.declared.job.Job.{Job}
 use Rattle.tc_job.specs.declared.job.Job.TheVariants as jobs
 use Rattle.tc_job.specs.declared.witness.Witness.TheVariants.{NotAsked, Asked}
-use Rattle.tc_command.specs.ToldLemmas.{text_is_lawful}
+use Rattle.tc_command.specs.ToldLemmas.{meaning_is_lawful, text_is_lawful}
 use Rattle.tc_command.specs.Told.{IsLawful}
 use Rattle.tc_top.specs.Commands.{told_of}
 use Rattle.tc_top.proofs.streaming.each_job_is_lawful.Goals as goal
