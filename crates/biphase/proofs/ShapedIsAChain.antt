@@ -1,5 +1,7 @@
--- Cells that move by a step towards a length are a chain: no step is more than an eighth of a cell, and halves differ by one tick at most.
-use Rattle.std.proofs.Common.{◌≡◌, ℕ, suc, ◌+◌, ◌-◌, ◌*◌, ◌/◌, ◌≤◌, List, [], ◌∷◌, Bool, true, false, refl, sym, subst, arith}
+-- Cells that move by a step towards a length are a chain: no step is more than an eighth of a cell, and halves differ
+-- by one tick at most.
+use Rattle.std.proofs.Common.{◌≡◌, ℕ, suc, ◌+◌, ◌-◌, ◌*◌, ◌/◌, ◌≤◌, List, [], ◌∷◌, Bool, true, false, refl, sym, subst}
+use Rattle.std.proofs.Common.{arith}
 use Rattle.std.specs.List.{All}
 use Rattle.std.proofs.lemmas.List.Elements.{All-append, All-cons, All-nil}
 use Rattle.limits.specs.declared.recording.TheConstants.{MAX_INTERVAL}
@@ -23,7 +25,8 @@ moved_twice p step from to = omega arith
 length_behind : (shape : Shape) (k : ℕ) → length_at shape (suc k) ≡ length_at (behind shape) k
 length_behind shape k = rw (step_more k shape.step) (moved_twice (k * shape.step) shape.step shape.from shape.to)
 
-pub from_behind : (shape : Shape) (k : ℕ) (list : List Bool) → shaped_from shape (suc k) list ≡ shaped_from (behind shape) k list
+pub from_behind : (shape : Shape) (k : ℕ) (list : List Bool)
+    → shaped_from shape (suc k) list ≡ shaped_from (behind shape) k list
 unfolding shaped_from
 from_behind shape k [] = refl
 from_behind shape k (bit ∷ list) = rw (length_behind shape k, from_behind shape (suc k) list) refl
@@ -32,7 +35,8 @@ length_first : (shape : Shape) → length_at shape 0 ≡ shape.from
 length_first shape = let e : 0 * shape.step ≡ 0 = omega arith in rw e (omega arith)
 
 -- the first cell, and the cells of the shape that goes on there
-pub shaped_cons : (shape : Shape) (bit : Bool) (list : List Bool) → shaped shape (bit ∷ list) ≡ cell_with shape.from bit ∷ shaped (behind shape) list
+pub shaped_cons : (shape : Shape) (bit : Bool) (list : List Bool) → shaped shape (bit ∷ list) ≡ cell_with shape.from bit
+    ∷ shaped (behind shape) list
 unfolding shaped_from
 shaped_cons shape bit list = rw (length_first shape, from_behind shape 0 list) refl
 
@@ -69,7 +73,8 @@ unfolding shaped_from
 chain_behind shape c [] is near = tt
 chain_behind shape c (bit ∷ list) is near =
     let next = behind shape in
-    let rest : IsChainAfter Normal shape.from (shaped next list) = chain_behind next shape.from list (behind_is shape is) (is_near shape is) in
+    let rest : IsChainAfter Normal shape.from (shaped next list) =
+    chain_behind next shape.from list (behind_is shape is) (is_near shape is) in
     let whole : IsChainAfter Normal c (cell_with shape.from bit ∷ shaped next list) =
     (is_cell shape.from bit is.from.0, rw (length_with shape.from bit) near, rw (length_with shape.from bit) rest) in
     let P : List Cell → Type 0 = λ cells. IsChainAfter Normal c cells in
@@ -80,7 +85,8 @@ unfolding shaped_from
 shaped_is_a_chain shape [] is = tt
 shaped_is_a_chain shape (bit ∷ list) is =
     let next = behind shape in
-    let rest : IsChainAfter Normal shape.from (shaped next list) = chain_behind next shape.from list (behind_is shape is) (is_near shape is) in
+    let rest : IsChainAfter Normal shape.from (shaped next list) =
+    chain_behind next shape.from list (behind_is shape is) (is_near shape is) in
     let whole : IsChain Normal (cell_with shape.from bit ∷ shaped next list) =
     (is_cell shape.from bit is.from.0, rw (length_with shape.from bit) rest) in
     let P : List Cell → Type 0 = λ cells. IsChain Normal cells in
@@ -103,7 +109,8 @@ lasts c true is =
     let low = is.0 in let high = is.1 in
     All-cons IsInterval (c / 2) ((c - c / 2) ∷ []) (omega arith, omega arith)
     (All-cons IsInterval (c - c / 2) [] (omega arith, omega arith) (All-nil IsInterval))
-lasts c false is = let low = is.0 in let high = is.1 in All-cons IsInterval c [] (omega arith, omega arith) (All-nil IsInterval)
+lasts c false is = let low = is.0 in let high = is.1 in All-cons IsInterval c [] (omega arith, omega arith)
+    (All-nil IsInterval)
 
 pub shaped_intervals : (shape : Shape) (list : List Bool) → IsShape shape → All IsInterval (flat (shaped shape list))
 unfolding shaped_from
@@ -111,6 +118,7 @@ shaped_intervals shape [] is = All-nil IsInterval
 shaped_intervals shape (bit ∷ list) is =
     let next = behind shape in
     let rest : All IsInterval (flat (shaped next list)) = shaped_intervals next list (behind_is shape is) in
-    let whole = All-append IsInterval (intervals_of (cell_with shape.from bit)) (flat (shaped next list)) (lasts shape.from bit is.from) rest in
+    let whole = All-append IsInterval (intervals_of (cell_with shape.from bit)) (flat (shaped next list))
+    (lasts shape.from bit is.from) rest in
     let P : List Cell → Type 0 = λ cells. All IsInterval (flat cells) in
     subst P (sym (shaped_cons shape bit list)) whole

@@ -1,4 +1,5 @@
--- The halves of a one of a worn recording are so near to half of it that, where the one is near the mean of the latest four cells, each of
+-- The halves of a one of a worn recording are so near to half of it that, where the one is near the mean of the
+-- latest four cells, each of
 -- them is a half by the rough tolerance too. Its pairs are of the same kinds under both.
 use Rattle.std.proofs.Common.{ℕ, ◌+◌, List, [], ◌∷◌, arith}
 use Rattle.biphase.specs.declared.cell.Cell.{Cell}
@@ -27,13 +28,19 @@ meets_too (One a b) (One c d) meets = meets
 kinds_too : (cells : List Cell) → Kinds Worn cells → Kinds Rough cells
 kinds_too [] kinds = tt
 kinds_too (cell ∷ []) kinds = inner_too cell kinds
-kinds_too (cell ∷ next ∷ cells) kinds = (inner_too cell kinds.0, meets_too cell next kinds.1, kinds_too (next ∷ cells) kinds.2)
+kinds_too (cell ∷ next ∷ cells) kinds =
+    (inner_too cell kinds.0, meets_too cell next kinds.1, kinds_too (next ∷ cells) kinds.2)
 
-follow_too : (worn rough : Latest) (cells : List Cell) → Follow Worn worn cells → StayNearTheMean rough cells → Follow Rough rough cells
+follow_too : (worn rough : Latest) (cells : List Cell) → Follow Worn worn cells → StayNearTheMean rough cells
+    → Follow Rough rough cells
 follow_too worn rough [] follow stay = tt
 follow_too worn rough (Zero x ∷ cells) follow stay =
-    let near = stay.0 in
-    (follow.0, (omega arith, omega arith), follow_too (kept_next Worn worn x) (kept_next Rough rough x) cells follow.2 stay.1)
+    let near = stay.0 in (
+      follow.0,
+      (omega arith, omega arith),
+      follow_too (kept_next Worn worn x) (kept_next Rough rough x) cells follow.2
+          stay.1,
+    )
 follow_too worn rough (One a b ∷ cells) follow stay =
     let near = stay.0 in
     let halves = follow.0.2 in (
@@ -42,7 +49,8 @@ follow_too worn rough (One a b ∷ cells) follow stay =
       follow_too (kept_next Worn worn (a + b)) (kept_next Rough rough (a + b)) cells follow.2 stay.1,
     )
 
-each_zero : (worn : Latest) (cells : List Cell) → Follow Worn worn cells → StayFromEachZero cells → FollowEachZero Rough cells
+each_zero : (worn : Latest) (cells : List Cell) → Follow Worn worn cells → StayFromEachZero cells
+    → FollowEachZero Rough cells
 each_zero worn [] follow stay = tt
 each_zero worn (Zero x ∷ cells) follow stay = (
   follow.0,

@@ -50,7 +50,8 @@ of_way lengths steps place sign way number best other others is begins =
     let P : Way → Type 0 = λ w. Begins lengths steps 0 place sign w others
     → WinsBy number (rank_of_way way) best.before (score_before lengths steps 0 place w others)
     (rank_of_way w) others in
-    let here : P way = λ b. with_rank number (rank_of_way way) best.before (score_before lengths steps 0 place way others) others (best.wins others b) in
+    let here : P way = λ b. with_rank number (rank_of_way way) best.before
+    (score_before lengths steps 0 place way others) others (best.wins others b) in
     subst P is here begins
 
 low_or_here : (way other : Way) → rank_of_way other < rank_of_way way + 1
@@ -94,7 +95,8 @@ way_comes lengths steps place sign number way more new best comes above =
       number_is = comes.number_is;
       wins = λ other others low begins. elim (low_or_here more other low) [
         | inl less ↦ wins_by-along new (rank_of_way more) comes.before number (rank_of_way way) best.before
-            (score_before lengths steps 0 place other others) (rank_of_way other) others over (best.wins other others less begins)
+            (score_before lengths steps 0 place other others) (rank_of_way other) others over
+            (best.wins other others less begins)
         | inr here ↦ of_way lengths steps place sign more new comes other others here begins
       ];
     }
@@ -122,7 +124,8 @@ costs : (lengths : List ℕ) (steps : List Step) (place : ℕ) (way : Way) (from
     → EndsIn from sign path
     → cost lengths steps 0 place way path ≡ pos (times_for lengths way place from * level_at steps)
 costs lengths steps place way from sign [] ends = absurd ends
-costs lengths steps place way from sign (cell ∷ path) ends = ap (λ n. pos (times_for lengths way place n * level_at steps)) ends.0
+costs lengths steps place way from sign (cell ∷ path) ends =
+    ap (λ n. pos (times_for lengths way place n * level_at steps)) ends.0
 
 -- the best path that ends so, less the same costs, wins over each other that ends so
 pub behind_end : (lengths : List ℕ) (steps : List Step) (place from : ℕ) (sign : Sign) (way : Way) (e : ℤ) (bit : Bit)
@@ -187,7 +190,8 @@ longer_behind lengths steps place from sign (cell ∷ path) next some is follows
 pub same_best : (lengths : List ℕ) (steps : List Step) (place : ℕ) (sign : Sign) (e : ℤ) (bit : Bit) → 0 < length steps
     → IsEnd lengths steps place sign e bit → IsBestBefore lengths steps 1 place sign e Same
 same_best lengths steps place sign e bit some end =
-    let best = behind_end lengths steps place place sign Same e bit end (behind_same place sign end.path end.is_best.ends)
+    let best = behind_end lengths steps place place sign Same e bit end
+    (behind_same place sign end.path end.is_best.ends)
     (λ others begins. same_behind lengths steps place sign others some begins.is_path begins.follows) in
     let free : e -ℤ pos (times_for lengths Same place place * level_at steps) ≡ e = omega (arith, ints) in
     record {
@@ -195,27 +199,34 @@ same_best lengths steps place sign e bit some end =
       begins = best.begins;
       low = omega arith;
       number_is = sym free ∙ best.number_is;
-      wins = λ other others low begins. subst (λ n. WinsBy n 0 best.before (score_before lengths steps 0 place other others) (rank_of_way other) others) free
+      wins = λ other others low begins. subst
+          (λ n. WinsBy n 0 best.before (score_before lengths steps 0 place other others) (rank_of_way other) others)
+          free
           (elim (low_or_here Same other low) [
             | inl none ↦ absurd (omega arith)
-            | inr here ↦ of_way lengths steps place sign Same (e -ℤ pos (times_for lengths Same place place * level_at steps)) best other others here begins
+            | inr here ↦ of_way lengths steps place sign Same
+                (e -ℤ pos (times_for lengths Same place place * level_at steps)) best other others here begins
           ]);
     }
 
 pub shorter_best : (lengths : List ℕ) (steps : List Step) (place from : ℕ) (sign : Sign) (e : ℤ) (bit : Bit)
     → from + 1 ≡ place → 0 < length steps
     → IsEnd lengths steps from sign e bit
-    → IsBestOfWay lengths steps place sign Shorter (e -ℤ pos ((length_in lengths place - length_in lengths from) * level_at steps))
+    → IsBestOfWay lengths steps place sign Shorter
+    (e -ℤ pos ((length_in lengths place - length_in lengths from) * level_at steps))
 shorter_best lengths steps place from sign e bit next some end =
-    behind_end lengths steps place from sign Shorter e bit end (behind_shorter place from sign end.path next end.is_best.ends)
+    behind_end lengths steps place from sign Shorter e bit end
+    (behind_shorter place from sign end.path next end.is_best.ends)
     (λ others begins. shorter_behind lengths steps place from sign others next some begins.is_path begins.follows)
 
 pub longer_best : (lengths : List ℕ) (steps : List Step) (place from : ℕ) (sign : Sign) (e : ℤ) (bit : Bit)
     → from ≡ place + 1 → 0 < length steps
     → IsEnd lengths steps from sign e bit
-    → IsBestOfWay lengths steps place sign Longer (e -ℤ pos ((length_in lengths from - length_in lengths place) * level_at steps))
+    → IsBestOfWay lengths steps place sign Longer
+    (e -ℤ pos ((length_in lengths from - length_in lengths place) * level_at steps))
 longer_best lengths steps place from sign e bit next some end =
-    behind_end lengths steps place from sign Longer e bit end (behind_longer place from sign end.path next end.is_best.ends)
+    behind_end lengths steps place from sign Longer e bit end
+    (behind_longer place from sign end.path next end.is_best.ends)
     (λ others begins. longer_behind lengths steps place from sign others next some begins.is_path begins.follows)
 
 jump_costs : (lengths : List ℕ) (steps : List Step) (place : ℕ) (path : List Cell) → 0 < length steps
@@ -259,7 +270,8 @@ pub none_longer : (lengths : List ℕ) (steps : List Step) (place : ℕ) (sign :
     → (others : List Cell) → Begins lengths steps 0 place sign Longer others → ⊥
 none_longer lengths steps place sign some last [] begins = let is = begins.is_path in omega arith
 none_longer lengths steps place sign some last (cell ∷ others) begins =
-    let follows = begins.follows in let within = in_list lengths steps cell others begins.is_path in omega (arith, follows.0)
+    let follows = begins.follows in let within = in_list lengths steps cell others begins.is_path in
+    omega (arith, follows.0)
 
 pub way_is_low : (way : Way) → rank_of_way way < 4
 way_is_low Same = omega arith

@@ -40,7 +40,8 @@ beats_bit lengths steps place bit sign number way b (cell ∷ others) is ends ha
     → Wins (sound_of lengths steps place bit sign +ℤ number) (cell_of place bit sign way ∷ b.before)
     (score lengths steps (c ∷ others)) (c ∷ others) in
     let here : P (cell_of place bit sign cell.way) = λ path.
-    wins_by-more (sound_of lengths steps place bit sign) number (16 * place + 8 * rank_of_sign sign + 4 * rank_of_bit bit)
+    wins_by-more (sound_of lengths steps place bit sign) number
+    (16 * place + 8 * rank_of_sign sign + 4 * rank_of_bit bit)
     (rank_of_way way) b.before (score_before lengths steps (length_in lengths place) place cell.way others)
     (rank_of_way cell.way) others
     (b.wins cell.way others (record { follows = path.2; is_path = path.3 })) in
@@ -73,10 +74,12 @@ either_wins : (lengths : List ℕ) (steps : List Step) (place : ℕ) (sign : Sig
     → (other : List Cell) → IsPath lengths steps other → EndsIn place sign other → (bit : Bit) → HasBit bit other
     → Wins s path (score lengths steps other) other
 either_wins lengths steps place sign low high way other_way s path zero one over_zero over_one other is ends Zero has =
-    wins-along s path (sound_of lengths steps place Zero sign +ℤ low) (cell_of place Zero sign way ∷ zero.before) (score lengths steps other) other
+    wins-along s path (sound_of lengths steps place Zero sign +ℤ low) (cell_of place Zero sign way ∷ zero.before)
+    (score lengths steps other) other
     over_zero (beats_bit lengths steps place Zero sign low way zero other is ends has)
 either_wins lengths steps place sign low high way other_way s path zero one over_zero over_one other is ends One has =
-    wins-along s path (sound_of lengths steps place One sign +ℤ high) (cell_of place One sign other_way ∷ one.before) (score lengths steps other) other
+    wins-along s path (sound_of lengths steps place One sign +ℤ high) (cell_of place One sign other_way ∷ one.before)
+    (score lengths steps other) other
     over_one (beats_bit lengths steps place One sign high other_way one other is ends has)
 
 bit_at : List Cell → Bit
@@ -106,7 +109,8 @@ zero_ends lengths steps place sign low high way other_way zero one some within b
     let way_low = way_is_low way in
     let over : Wins x path y one_path = wins_by-rank x (rank (cell_of place Zero sign way)) zero.before y
     (rank (cell_of place One sign other_way)) one.before below (omega arith) in
-    let W : (other : List Cell) → IsPath lengths steps other → EndsIn place sign other → Wins x path (score lengths steps other) other =
+    let W : (other : List Cell) → IsPath lengths steps other → EndsIn place sign other
+    → Wins x path (score lengths steps other) other =
     λ other is ends. either_wins lengths steps place sign low high way other_way x path zero one (wins-same x path) over
     other is ends (bit_at other) (has_bit_at place sign other ends) in
     record {
@@ -131,8 +135,10 @@ pub one_ends : (lengths : List ℕ) (steps : List Step) (place : ℕ) (sign : Si
 one_ends lengths steps place sign low high way other_way zero one some within above =
     let path = cell_of place One sign other_way ∷ one.before in
     let x = sound_of lengths steps place One sign +ℤ high in
-    let over : Wins x path (sound_of lengths steps place Zero sign +ℤ low) (cell_of place Zero sign way ∷ zero.before) = inl above in
-    let W : (other : List Cell) → IsPath lengths steps other → EndsIn place sign other → Wins x path (score lengths steps other) other =
+    let over : Wins x path (sound_of lengths steps place Zero sign +ℤ low) (cell_of place Zero sign way ∷ zero.before) =
+    inl above in
+    let W : (other : List Cell) → IsPath lengths steps other → EndsIn place sign other
+    → Wins x path (score lengths steps other) other =
     λ other is ends. either_wins lengths steps place sign low high way other_way x path zero one over (wins-same x path)
     other is ends (bit_at other) (has_bit_at place sign other ends) in
     record {

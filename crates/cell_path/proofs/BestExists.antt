@@ -123,7 +123,8 @@ best_of_ends steps some ends =
 
 -- ---- the best beginning
 
-more_way : (steps : List Step) (place : ℕ) (sign : Sign) (more : Way) (new : ℤ) → SomeWay steps (rank_of_way more) place sign
+more_way : (steps : List Step) (place : ℕ) (sign : Sign) (more : Way) (new : ℤ)
+    → SomeWay steps (rank_of_way more) place sign
     → IsBestOfWay LENGTHS steps place sign more new → SomeWay steps (rank_of_way more + 1) place sign
 more_way steps place sign more new best comes = elim (below_or_above best.number new) [
   | inl below ↦ record {
@@ -178,7 +179,8 @@ here steps place sign some within ends best =
       is = same_best LENGTHS steps place sign same.number same.bit some same.is;
     } in
     let third = with_longer steps place sign some within ends (with_shorter steps place sign some within ends first) in
-    let all = more_way steps place sign Jump (best.number -ℤ pos (JUMP * length_in LENGTHS place * level_at steps)) third
+    let all = more_way steps place sign Jump (best.number -ℤ pos (JUMP * length_in LENGTHS place * level_at steps))
+    third
     (jump_best LENGTHS steps place best.place sign best.sign best.number some best.is) in
     record {
       number = all.number;
@@ -275,5 +277,7 @@ pub some_in_all : (steps : List Step) → (all : List Placed) × AreDecidedInAll
 some_in_all [] = ([], refl)
 some_in_all (step ∷ steps) =
     let before = some_decided (step ∷ steps) in
-    let best = best_exists step steps in
-    (newly 0 (length (step ∷ steps)) (end_behind 0 before.0) best.0 ++ before.0, (before.0, before.1, best.0, best.1, refl))
+    let best = best_exists step steps in (
+      newly 0 (length (step ∷ steps)) (end_behind 0 before.0) best.0 ++ before.0,
+      (before.0, before.1, best.0, best.1, refl),
+    )

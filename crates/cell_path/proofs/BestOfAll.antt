@@ -49,7 +49,8 @@ ends_in_number place sign [] below = absurd below
 ends_in_number place sign (cell ∷ before) below =
     let a = sign_is_low sign in
     let b = sign_is_low cell.sign in
-    let cases : (end_number cell.place cell.sign < end_number place sign) ⊎ (end_number cell.place cell.sign ≡ end_number place sign) = grind arith in
+    let cases : (end_number cell.place cell.sign < end_number place sign)
+    ⊎ (end_number cell.place cell.sign ≡ end_number place sign) = grind arith in
     elim cases [
       | inl less ↦ inl less
       | inr same ↦ let p : cell.place ≡ place = omega arith in
@@ -90,7 +91,8 @@ best_stays lengths steps place sign number more end new bit best comes above =
       number_is = best.number_is;
       wins = λ other is ends. elim (ends_in_number more end other ends) [
         | inl before ↦ best.wins other is before
-        | inr here ↦ wins-along s best.path t comes.path (score lengths steps other) other over (comes.is_best.wins other is here)
+        | inr here ↦ wins-along s best.path t comes.path (score lengths steps other) other over
+            (comes.is_best.wins other is here)
       ];
     }
 
@@ -111,7 +113,8 @@ best_comes lengths steps place sign number more end new bit best comes above =
       below = omega arith;
       number_is = comes.number_is;
       wins = λ other is ends. elim (ends_in_number more end other ends) [
-        | inl before ↦ wins-along t comes.path s best.path (score lengths steps other) other over (best.wins other is before)
+        | inl before ↦ wins-along t comes.path s best.path (score lengths steps other) other over
+            (best.wins other is before)
         | inr here ↦ comes.is_best.wins other is here
       ];
     }
@@ -121,7 +124,8 @@ none_below [] ends = ends
 none_below (cell ∷ before) ends = omega arith
 
 below_first : (path : List Cell) → EndsBelow 1 path → EndsIn 0 Plus path
-below_first path ends = elim (ends_in_number 0 Plus path ends) [ inl none ↦ absurd (none_below path none) | inr here ↦ here ]
+below_first path ends =
+    elim (ends_in_number 0 Plus path ends) [ inl none ↦ absurd (none_below path none) | inr here ↦ here ]
 
 -- the first end alone
 pub first_is_best : (lengths : List ℕ) (steps : List Step) (number : ℤ) (bit : Bit)
@@ -148,12 +152,17 @@ best_of_all lengths steps place sign number some best = record {
   path = best.path;
   ends = best.ends;
   number_is = best.number_is;
-  is_best = record { is_path = best.is_path; wins = λ other is. best.wins other is (ends_below lengths steps other some is) };
+  is_best = record {
+    is_path = best.is_path;
+    wins =
+        λ other is. best.wins other is (ends_below lengths steps other some is);
+  };
 }
 
 -- the best of the first so many ends, whatever steps they stand for
 pub record BestSoFar (ends : Numbers) (most : ℕ) (so_far : Best) : Type 0 where
-  pub best : (steps : List Step) → NumbersEnd ends steps → IsBestBelow LENGTHS steps most so_far.place so_far.sign so_far.number
+  pub best : (steps : List Step) → NumbersEnd ends steps → IsBestBelow LENGTHS steps most so_far.place so_far.sign
+      so_far.number
   pub size : (bound : ℕ) → AreWithin bound ends → IsWithin bound so_far.number
   pub end : so_far.place < 45
 
@@ -172,11 +181,14 @@ pub or_end : (ends : Numbers) (steps : List Step) (so_far : Best) (place : ℕ) 
     → IsBestBelow LENGTHS steps (end_number place sign + 1) result.place result.sign result.number
 or_end ends steps so_far place sign new result within new_is stays comes ends_are best =
     let end = ends_are place sign within in
-    let is : IsEnd LENGTHS steps place sign new end.bit = subst (λ n. IsEnd LENGTHS steps place sign n end.bit) (sym new_is) end.is in
+    let is : IsEnd LENGTHS steps place sign new end.bit = subst (λ n. IsEnd LENGTHS steps place sign n end.bit)
+    (sym new_is) end.is in
     let P : Best → Type 0 = λ b. IsBestBelow LENGTHS steps (end_number place sign + 1) b.place b.sign b.number in
     elim (below_or_above so_far.number new) [
-      | inl below ↦ subst P (sym (stays below)) (best_stays LENGTHS steps so_far.place so_far.sign so_far.number place sign new end.bit best is below)
-      | inr above ↦ subst P (sym (comes above)) (best_comes LENGTHS steps so_far.place so_far.sign so_far.number place sign new end.bit best is above)
+      | inl below ↦ subst P (sym (stays below))
+          (best_stays LENGTHS steps so_far.place so_far.sign so_far.number place sign new end.bit best is below)
+      | inr above ↦ subst P (sym (comes above))
+          (best_comes LENGTHS steps so_far.place so_far.sign so_far.number place sign new end.bit best is above)
     ]
 
 -- so many ends are tried, by another way to count them
@@ -191,4 +203,5 @@ pub first_best : (ends : Numbers) (steps : List Step) (number : ℤ) → number 
     → IsBestBelow LENGTHS steps 1 0 Plus number
 first_best ends steps number is ends_are =
     let end = ends_are 0 Plus (omega arith) in
-    subst (λ n. IsBestBelow LENGTHS steps 1 0 Plus n) (sym is) (first_is_best LENGTHS steps (number_at ends 0 Plus) end.bit end.is)
+    subst (λ n. IsBestBelow LENGTHS steps 1 0 Plus n) (sym is)
+    (first_is_best LENGTHS steps (number_at ends 0 Plus) end.bit end.is)

@@ -1,4 +1,5 @@
--- The cells that are decided in all end apart, and the last of them where the sound does, or a quarter of a cell before.
+-- The cells that are decided in all end apart, and the last of them where the sound does, or a quarter of a cell
+-- before.
 use Rattle.std.proofs.Common.{◌≡◌, ℕ, ◌+◌, ◌-◌, ◌/◌, ◌<◌, ◌≤◌, max, List, [], ◌∷◌, ◌++◌, Bool, true, false, cond}
 use Rattle.std.proofs.Common.{leb, ltb, length, drop, refl, ap, subst, sym, ◌∙◌, arith}
 use Rattle.std.specs.List.{filter}
@@ -100,8 +101,10 @@ newly_apart : (delay count : ℕ) (steps : List Step) (path : List Cell) (before
 newly_apart delay count steps path before all is_path so_far is =
     let done = end_behind 0 before in
     let last = last_decided delay count done count path before (omega arith) in
-    subst (ApartWithin count) (sym is)
-    (apart_decided delay count done count steps path before is_path (omega arith) so_far.0, omega (arith, last, so_far.1))
+    subst (ApartWithin count) (sym is) (
+      apart_decided delay count done count steps path before is_path (omega arith) so_far.0,
+      omega (arith, last, so_far.1),
+    )
 
 adds_apart : (steps : List Step) (before all : List Placed) (due : Bool) → is_due (length steps) ≡ due
     → Adds steps before all → ApartWithin (length steps) before → ApartWithin (length steps) all

@@ -38,7 +38,8 @@ same_cost lengths step steps ago place way (cell ∷ before) =
 same_score : (lengths : List ℕ) (step : Step) (steps : List Step) (ago place : ℕ) (way : Way) (before : List Cell)
     → score_before lengths (step ∷ steps) (ago + 1) place way before ≡ score_before lengths steps ago place way before
 same_score lengths step steps ago place way before =
-    ap₂ ◌-ℤ◌ (ap (λ l. score lengths l before) (drop-step step steps ago)) (same_cost lengths step steps ago place way before)
+    ap₂ ◌-ℤ◌ (ap (λ l. score lengths l before) (drop-step step steps ago))
+    (same_cost lengths step steps ago place way before)
 
 -- a beginning is a step further back, and nothing else changes
 pub older : (lengths : List ℕ) (step : Step) (steps : List Step) (ago place : ℕ) (sign : Sign) (number : ℤ) (way : Way)
@@ -52,7 +53,8 @@ older lengths step steps ago place sign number way is = record {
   };
   number_is = is.number_is ∙ sym (same_score lengths step steps ago place way is.before);
   wins = λ other others begins.
-      subst (λ s. WinsBy number (rank_of_way way) is.before s (rank_of_way other) others) (sym (same_score lengths step steps ago place other others))
+      subst (λ s. WinsBy number (rank_of_way way) is.before s (rank_of_way other) others)
+      (sym (same_score lengths step steps ago place other others))
       (is.wins other others (record {
         follows = begins.follows;
         is_path = subst (λ l. IsPath lengths l others) (drop-step step steps ago) begins.is_path;
@@ -96,4 +98,5 @@ pub better_within : (most : ℕ) (x y : ℤ) (result : End) → IsWithin most x 
     → (y ≤ℤ x → result ≡ end_of x Zero) → (x <ℤ y → result ≡ end_of y One) → IsWithin most result.number
 better_within most x y result x_in y_in picks_zero picks_one =
     let P : End → Type 0 = λ e. IsWithin most e.number in
-    elim (below_or_above x y) [ inl below ↦ subst P (sym (picks_zero below)) x_in | inr above ↦ subst P (sym (picks_one above)) y_in ]
+    elim (below_or_above x y)
+    [ inl below ↦ subst P (sym (picks_zero below)) x_in | inr above ↦ subst P (sym (picks_one above)) y_in ]

@@ -26,7 +26,8 @@ two bit sign way first first_sign =
     record { place = 0; bit = bit; sign = sign; way = way }
     ∷ record { place = 0; bit = first; sign = first_sign; way = Jump } ∷ []
 
--- all of them: a zero is worth 10 or -10 on the first two steps, 6 or -6 on the others, and a one nothing; a jump costs 6
+-- all of them: a zero is worth 10 or -10 on the first two steps, 6 or -6 on the others, and a one nothing; a jump
+-- costs 6
 abbrev all_paths : List (List Cell)
 all_paths =
     two Zero Plus Same Zero Minus

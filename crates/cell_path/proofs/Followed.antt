@@ -41,7 +41,8 @@ IsHere delay count many (Some point) =
 
 -- what is gathered and what is left are all that is decided
 abbrev pub IsGathered : ℕ → ℕ → ℕ → PathsState → ℕ → Sign → Option Point → List Placed → Type 0
-IsGathered delay count done paths place sign at waiting = (steps : List Step) (path : List Cell) → PathsStandFor paths steps
+IsGathered delay count done paths place sign at waiting = (steps : List Step) (path : List Cell)
+    → PathsStandFor paths steps
     → IsBestOfAll LENGTHS steps path → EndsIn place sign path
     → (rest : List Cell) × LeadsTo steps rest at
     × (waiting ++ left delay count done (ago_of count at) rest ≡ newly delay count done path)
@@ -56,10 +57,12 @@ IsBefore count point before = IfSome before (λ b.
 abbrev pub EndsThere : ℕ → Point → Option Point → Type 0
 EndsThere count point before = before ≡ None → count ≤ point.ago + length_in LENGTHS point.place
 
-pub here_skipped : (delay count many n : ℕ) (point : Point) (before : Option Point) → (0 < delay → 2_048 ≤ count) → delay ≤ 800
+pub here_skipped : (delay count many n : ℕ) (point : Point) (before : Option Point) → (0 < delay → 2_048 ≤ count)
+    → delay ≤ 800
     → n ≡ length_in LENGTHS point.place → n ≤ 96 → point.ago < delay → IsHere delay count many (Some point)
     → IsBefore count point before → EndsThere count point before → IsHere delay count many before
-here_skipped delay count many n point None first low n_is most near here is ends = let e = ends refl in let f = first (omega arith) in omega (arith, e, f)
+here_skipped delay count many n point None first low n_is most near here is ends = let e = ends refl in let f =
+    first (omega arith) in omega (arith, e, f)
 here_skipped delay count many n point (Some b) first low n_is most near here is ends =
     (is.0, is.2, λ none. omega (arith, is.1), omega (arith, is.1, here.3))
 

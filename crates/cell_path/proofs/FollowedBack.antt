@@ -46,7 +46,10 @@ wins_by-less : (x s : ℤ) (base m : ℕ) (p : List Cell) (t : ℤ) (n : ℕ) (q
     → WinsBy (x +ℤ s) (base + m) p (x +ℤ t) (base + n) q → WinsBy s m p t n q
 wins_by-less x s base m p t n q (inl less) = inl (omega (arith, ints))
 wins_by-less x s base m p t n q (inr same) =
-    inr (omega (arith, ints, same.0), elim same.1 [ inl first ↦ inl (omega arith) | inr like ↦ inr (omega (arith, like.0), like.1) ])
+    inr (
+      omega (arith, ints, same.0),
+      elim same.1 [ inl first ↦ inl (omega arith) | inr like ↦ inr (omega (arith, like.0), like.1) ],
+    )
 
 -- behind steps, a beginning at the latest of them is one at the end of what is dropped
 dropped_score : (lengths : List ℕ) (steps : List Step) (ago place : ℕ) (way : Way) (before : List Cell)
@@ -60,7 +63,8 @@ dropped_score lengths steps ago place way (cell ∷ before) some is = refl
 pub way_of_best : (lengths : List ℕ) (steps : List Step) (place : ℕ) (sign : Sign) (cell : Cell) (rest : List Cell)
     (number : ℤ) (way : Way)
     → IsBest lengths steps place sign (cell ∷ rest) → 0 < length (drop (length_in lengths cell.place) steps)
-    → (b : IsBeginning lengths (drop (length_in lengths cell.place) steps) 0 cell.place (sign_before cell.bit cell.sign) number way)
+    → (b : IsBeginning lengths (drop (length_in lengths cell.place) steps) 0 cell.place (sign_before cell.bit cell.sign)
+    number way)
     → (way ≡ cell.way) × (b.before ≡ rest)
 way_of_best lengths steps place sign cell rest number way best some b =
     let n = length_in lengths cell.place in
@@ -76,11 +80,13 @@ way_of_best lengths steps place sign cell rest number way best some b =
     let over : WinsBy number (rank_of_way way) b.before t (rank_of_way cell.way) rest =
     subst (λ s. WinsBy number (rank_of_way way) b.before s (rank_of_way cell.way) rest) mine
     (b.wins cell.way rest (record { follows = is.2; is_path = is.3 })) in
-    let above : WinsBy (x +ℤ t) (base + rank_of_way cell.way) rest (x +ℤ score_before lengths steps n cell.place way b.before) (base + rank_of_way way) b.before =
+    let above : WinsBy (x +ℤ t) (base + rank_of_way cell.way) rest
+    (x +ℤ score_before lengths steps n cell.place way b.before) (base + rank_of_way way) b.before =
     best.wins (other ∷ b.before) path best.ends in
     let under : WinsBy t (rank_of_way cell.way) rest number (rank_of_way way) b.before =
     subst (λ s. WinsBy t (rank_of_way cell.way) rest s (rank_of_way way) b.before) (sym theirs)
-    (wins_by-less x t base (rank_of_way cell.way) rest (score_before lengths steps n cell.place way b.before) (rank_of_way way) b.before above) in
+    (wins_by-less x t base (rank_of_way cell.way) rest (score_before lengths steps n cell.place way b.before)
+    (rank_of_way way) b.before above) in
     let same = same_beginning number t (rank_of_way way) (rank_of_way cell.way) b.before rest over under in
     (same_way way cell.way same.0, same.1)
 
@@ -125,14 +131,17 @@ jumped_from lengths steps place sign cell rest from end number best jump some e 
     let all : IsBestOfAll lengths (drop n steps) rest = record {
       is_path = is.3;
       wins = λ other path.
-          let follows = subst (λ w. Follows w cell.place (sign_before cell.bit cell.sign) other) (sym jump) (behind_jump cell.place (sign_before cell.bit cell.sign) other) in
+          let follows = subst (λ w. Follows w cell.place (sign_before cell.bit cell.sign) other) (sym jump)
+          (behind_jump cell.place (sign_before cell.bit cell.sign) other) in
           let over = best.wins (cell ∷ other) (is.0, is.1, follows, path) best.ends in
           let t = score lengths (drop n steps) other in
           let same : k ≡ cost lengths steps n cell.place cell.way other =
-          ap (λ w. cost lengths steps n cell.place w rest) jump ∙ jump_cost lengths steps n cell.place rest other some is.3 path
+          ap (λ w. cost lengths steps n cell.place w rest) jump ∙ jump_cost lengths steps n cell.place rest other some
+          is.3 path
           ∙ ap (λ w. cost lengths steps n cell.place w other) (sym jump) in
           front_wins x (score lengths (drop n steps) rest) t k cell rest other
-          (subst (λ c. Wins (x +ℤ (score lengths (drop n steps) rest -ℤ k)) (cell ∷ rest) (x +ℤ (t -ℤ c)) (cell ∷ other)) (sym same) over);
+          (subst (λ c. Wins (x +ℤ (score lengths (drop n steps) rest -ℤ k)) (cell ∷ rest) (x +ℤ (t -ℤ c))
+          (cell ∷ other)) (sym same) over);
     } in
     best_ends_there lengths (drop n steps) from end number e rest all
 
@@ -140,5 +149,7 @@ jumped_from lengths steps place sign cell rest from end number best jump some e 
 pub first_cell : (lengths : List ℕ) (steps : List Step) (place : ℕ) (sign : Sign) (cell : Cell) (rest : List Cell)
     → IsBest lengths steps place sign (cell ∷ rest) → length (drop (length_in lengths cell.place) steps) ≡ 0
     → (cell.way ≡ Jump) × (rest ≡ [])
-first_cell lengths steps place sign cell [] best none = (only_jump cell.way cell.place (sign_before cell.bit cell.sign) (best.is_path).2, refl)
-first_cell lengths steps place sign cell (d ∷ rest) best none = let some = (best.is_path).3.0 in absurd (omega (arith, some))
+first_cell lengths steps place sign cell [] best none =
+    (only_jump cell.way cell.place (sign_before cell.bit cell.sign) (best.is_path).2, refl)
+first_cell lengths steps place sign cell (d ∷ rest) best none = let some = (best.is_path).3.0 in
+    absurd (omega (arith, some))

@@ -33,7 +33,8 @@ parts place sign bit [] ends has = absurd ends
 parts place sign bit (cell ∷ rest) ends has = (
   cell.way,
   rest,
-  ap (λ c. c ∷ rest) (ap (λ n. cell_of n cell.bit cell.sign cell.way) ends.0 ∙ ap (λ x. cell_of place x cell.sign cell.way) has
+  ap (λ c. c ∷ rest) (ap (λ n. cell_of n cell.bit cell.sign cell.way) ends.0
+      ∙ ap (λ x. cell_of place x cell.sign cell.way) has
       ∙ ap (λ x. cell_of place bit x cell.way) ends.1),
 )
 
@@ -45,8 +46,10 @@ ends_before : (steps : List Step) (ago place : ℕ) (sign : Sign) (way : Way) (t
     → EndsIn (point_before way ago place sign there).place (point_before way ago place sign there).sign rest
 ends_before steps ago place sign way there [] some is follows jumps = absurd (omega arith)
 ends_before steps ago place sign Same there (cell ∷ rest) some is follows jumps = follows
-ends_before steps ago place sign Shorter there (cell ∷ rest) some is follows jumps = (omega (arith, follows.0), follows.1)
-ends_before steps ago place sign Longer there (cell ∷ rest) some is follows jumps = let within = is.1 in (omega (arith, follows.0, within), follows.1)
+ends_before steps ago place sign Shorter there (cell ∷ rest) some is follows jumps =
+    (omega (arith, follows.0), follows.1)
+ends_before steps ago place sign Longer there (cell ∷ rest) some is follows jumps = let within = is.1 in
+    (omega (arith, follows.0, within), follows.1)
 ends_before steps ago place sign Jump there (cell ∷ rest) some is follows jumps = jumps refl
 
 point_ago : (way : Way) (ago place : ℕ) (sign : Sign) (there : StepMarks)
@@ -65,9 +68,11 @@ goes_to_first steps ago place sign bit path here marked within bit_is best none 
     let S = drop ago steps in
     let n = length_in LENGTHS place in
     let end = marked.ends place sign within in
-    let has = subst (λ b. HasBit b path) (sym bit_is) (bit_of_best LENGTHS S place sign end.0 (marked_bit (get_or here.marks place 0) sign) path end.1 best) in
+    let has = subst (λ b. HasBit b path) (sym bit_is)
+    (bit_of_best LENGTHS S place sign end.0 (marked_bit (get_or here.marks place 0) sign) path end.1 best) in
     let p = parts place sign bit path best.ends has in
-    let now : IsBest LENGTHS S place sign (cell_of place bit sign p.0 ∷ p.1) = subst (IsBest LENGTHS S place sign) p.2 best in
+    let now : IsBest LENGTHS S place sign (cell_of place bit sign p.0 ∷ p.1) =
+    subst (IsBest LENGTHS S place sign) p.2 best in
     let empty : length (drop n S) ≡ 0 = ap length (drop-drop n ago steps) ∙ length-drop (ago + n) steps ∙ omega arith in
     let first = first_cell LENGTHS S place sign (cell_of place bit sign p.0) p.1 now empty in
     record { rest = []; path_is = p.2 ∙ ap₂ (λ w r. cell_of place bit sign w ∷ r) first.0 first.1; leads = refl }
@@ -88,7 +93,8 @@ goes_to_point steps ago place sign bit way path here there marked marked_there w
     let n = length_in LENGTHS place in
     let q = sign_before bit sign in
     let end = marked.ends place sign within in
-    let has = subst (λ b. HasBit b path) (sym bit_is) (bit_of_best LENGTHS S place sign end.0 (marked_bit (get_or here.marks place 0) sign) path end.1 best) in
+    let has = subst (λ b. HasBit b path) (sym bit_is)
+    (bit_of_best LENGTHS S place sign end.0 (marked_bit (get_or here.marks place 0) sign) path end.1 best) in
     let p = parts place sign bit path best.ends has in
     let cell = cell_of place bit sign p.0 in
     let now : IsBest LENGTHS S place sign (cell ∷ p.1) = subst (IsBest LENGTHS S place sign) p.2 best in
@@ -97,12 +103,15 @@ goes_to_point steps ago place sign bit way path here there marked marked_there w
     let start = marked_there.starts place q within in
     let begins : IsBeginning LENGTHS (drop n S) 0 place q start.0 way =
     subst (λ w. IsBeginning LENGTHS (drop n S) 0 place q start.0 w) (sym way_is)
-    (subst (λ l. IsBeginning LENGTHS l 0 place q start.0 (marked_way (get_or there.marks place 0) q)) (sym same) start.1) in
+    (subst (λ l. IsBeginning LENGTHS l 0 place q start.0 (marked_way (get_or there.marks place 0) q)) (sym same)
+    start.1) in
     let w = way_of_best LENGTHS S place sign cell p.1 start.0 way now left begins in
     let all : IsBestEnd LENGTHS (drop n S) there.best_place there.best_sign marked_there.best.0 =
-    subst (λ l. IsBestEnd LENGTHS l there.best_place there.best_sign marked_there.best.0) (sym same) marked_there.best.1 in
+    subst (λ l. IsBestEnd LENGTHS l there.best_place there.best_sign marked_there.best.0) (sym same) marked_there.best.1
+    in
     let jumps : way ≡ Jump → EndsIn there.best_place there.best_sign p.1 = λ j.
-    jumped_from LENGTHS S place sign cell p.1 there.best_place there.best_sign marked_there.best.0 now (sym w.0 ∙ j) left all in
+    jumped_from LENGTHS S place sign cell p.1 there.best_place there.best_sign marked_there.best.0 now (sym w.0 ∙ j)
+    left all in
     let is = now.is_path in
     let follows : Follows way place q p.1 = subst (λ v. Follows v place q p.1) (sym w.0) is.2 in
     let point = point_before way (ago + n) place q there in
@@ -140,11 +149,13 @@ mark_others marks new ago near =
 
 places-by : (marks : MarksState) (new : StepMarks) (ago : ℕ) → AreMarks marks → new.best_place < 45 → ago < 4_096
     → (marks_ago (pushed marks new) ago).best_place < 45
-places-by marks new zero are comes near = subst (λ (m : StepMarks). m.best_place < 45) (sym (mark_latest marks new are.long)) comes
+places-by marks new zero are comes near = subst (λ (m : StepMarks). m.best_place < 45)
+    (sym (mark_latest marks new are.long)) comes
 places-by marks new (suc ago) are comes near =
     let next : ago + 1 ≡ suc ago = omega arith in
     subst (λ n. (marks_ago (pushed marks new) n).best_place < 45) next
-    (subst (λ (m : StepMarks). m.best_place < 45) (sym (mark_others marks new ago (omega arith))) (are.places ago (omega arith)))
+    (subst (λ (m : StepMarks). m.best_place < 45) (sym (mark_others marks new ago (omega arith)))
+    (are.places ago (omega arith)))
 
 pub still_marks : (marks : MarksState) (new : StepMarks) → AreMarks marks → new.best_place < 45 → marks.count < 2 ^ 40
     → AreMarks (pushed marks new)
@@ -163,7 +174,8 @@ marked-by marks new step steps zero long stand comes near within =
 marked-by marks new step steps (suc ago) long stand comes near within =
     let next : ago + 1 ≡ suc ago = omega arith in
     subst (λ n. IsMarked (marks_ago (pushed marks new) n) (drop ago steps)) next
-    (subst (λ m. IsMarked m (drop ago steps)) (sym (mark_others marks new ago (omega arith))) (stand.marked ago (omega arith) (omega arith)))
+    (subst (λ m. IsMarked m (drop ago steps)) (sym (mark_others marks new ago (omega arith)))
+    (stand.marked ago (omega arith) (omega arith)))
 
 pub marks_fed : (marks : MarksState) (new : StepMarks) (step : Step) (steps : List Step) → length marks.ring ≡ 4_096
     → MarksStandFor marks steps → IsMarked new (step ∷ steps) → MarksStandFor (pushed marks new) (step ∷ steps)

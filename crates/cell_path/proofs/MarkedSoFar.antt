@@ -16,8 +16,10 @@ use Rattle.cell_path.proofs.OneMoreLength.{one_more_length}
 
 pub record AreMarked (heard : Heard) (most : ℕ) (marks : List ℕ) : Type 0 where
   pub long : length marks ≡ 45
-  pub bits : (place : ℕ) (sign : Sign) → place < most → marked_bit (get_or marks place 0) sign ≡ bit_at heard.ends.bits place sign
-  pub ways : (place : ℕ) (sign : Sign) → place < most → marked_way (get_or marks place 0) sign ≡ way_at heard.starts.ways place sign
+  pub bits : (place : ℕ) (sign : Sign) → place < most → marked_bit (get_or marks place 0) sign ≡ bit_at heard.ends.bits
+      place sign
+  pub ways : (place : ℕ) (sign : Sign) → place < most
+      → marked_way (get_or marks place 0) sign ≡ way_at heard.starts.ways place sign
 
 pub all_marked : (heard : Heard) (marks : StepMarks) (steps : List Step) → AreMarked heard 45 marks.marks
     → marks.best_place ≡ heard.best.place → marks.best_sign ≡ heard.best.sign
@@ -26,11 +28,13 @@ pub all_marked : (heard : Heard) (marks : StepMarks) (steps : List Step) → Are
 all_marked heard marks steps are place_is sign_is ends starts best = record {
   ends = λ place sign within. (
     number_at heard.ends.numbers place sign,
-    subst (λ b. IsEnd LENGTHS steps place sign (number_at heard.ends.numbers place sign) b) (sym (are.bits place sign within)) (ends place sign within),
+    subst (λ b. IsEnd LENGTHS steps place sign (number_at heard.ends.numbers place sign) b)
+        (sym (are.bits place sign within)) (ends place sign within),
   );
   starts = λ place sign within. (
     number_at heard.starts.numbers place sign,
-    subst (λ w. IsBeginning LENGTHS steps 0 place sign (number_at heard.starts.numbers place sign) w) (sym (are.ways place sign within)) (starts place sign within),
+    subst (λ w. IsBeginning LENGTHS steps 0 place sign (number_at heard.starts.numbers place sign) w)
+        (sym (are.ways place sign within)) (starts place sign within),
   );
   best = (
     heard.best.number,
@@ -48,11 +52,13 @@ one_more_mark heard n mark marks are within p m pw mw =
     let here : get_or (set marks n mark) n 0 ≡ mark = get_or-set_same marks n mark 0 (omega (arith, are.long)) in
     record {
       long = length-set marks n mark ∙ are.long;
-      bits = one_more_length (λ place sign. marked_bit (get_or (set marks n mark) place 0) sign ≡ bit_at heard.ends.bits place sign) n
+      bits = one_more_length (λ place sign. marked_bit (get_or (set marks n mark) place 0) sign ≡ bit_at heard.ends.bits
+          place sign) n
           (λ place sign low. let apart : place ≢ n = λ e. omega arith in
           ap (λ x. marked_bit x sign) (get_or-set_other marks n place mark 0 apart) ∙ are.bits place sign low)
           (ap (λ x. marked_bit x Plus) here ∙ p) (ap (λ x. marked_bit x Minus) here ∙ m);
-      ways = one_more_length (λ place sign. marked_way (get_or (set marks n mark) place 0) sign ≡ way_at heard.starts.ways place sign) n
+      ways = one_more_length
+          (λ place sign. marked_way (get_or (set marks n mark) place 0) sign ≡ way_at heard.starts.ways place sign) n
           (λ place sign low. let apart : place ≢ n = λ e. omega arith in
           ap (λ x. marked_way x sign) (get_or-set_other marks n place mark 0 apart) ∙ are.ways place sign low)
           (ap (λ x. marked_way x Plus) here ∙ pw) (ap (λ x. marked_way x Minus) here ∙ mw);

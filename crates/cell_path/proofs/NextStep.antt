@@ -37,7 +37,8 @@ pub rows_fed : (old new : RowsState) (starts : Starts) (step : Step) (steps : Li
     → RowsStandFor new (step ∷ steps)
 rows_fed old new starts step steps stand are latest others zero place sign near within = record {
   way = way_at starts.ways place sign;
-  is = subst (λ n. IsBeginning LENGTHS (step ∷ steps) 0 place sign n (way_at starts.ways place sign)) (sym (latest place sign)) (are place sign within);
+  is = subst (λ n. IsBeginning LENGTHS (step ∷ steps) 0 place sign n (way_at starts.ways place sign))
+      (sym (latest place sign)) (are place sign within);
 }
 rows_fed old new starts step steps stand are latest others (suc ago) place sign near within =
     let next : ago + 1 ≡ suc ago = omega arith in
@@ -45,14 +46,16 @@ rows_fed old new starts step steps stand are latest others (suc ago) place sign 
     let P : ℕ → Type 0 = λ k. HasBeginning LENGTHS (step ∷ steps) k place sign (number_ago new k place sign) in
     let now : P (ago + 1) = record {
       way = was.way;
-      is = subst (λ n. IsBeginning LENGTHS (step ∷ steps) (ago + 1) place sign n was.way) (sym (others ago place sign (omega arith)))
+      is = subst (λ n. IsBeginning LENGTHS (step ∷ steps) (ago + 1) place sign n was.way)
+          (sym (others ago place sign (omega arith)))
           (older LENGTHS step steps ago place sign (number_ago old ago place sign) was.way was.is);
     } in
     subst P next now
 
 -- the numbers of ends are ends
 pub numbers_end : (ends : Ends) (steps : List Step) → AreEnds 45 ends steps → NumbersEnd ends.numbers steps
-numbers_end ends steps are = λ place sign within. record { bit = bit_at ends.bits place sign; is = are place sign within }
+numbers_end ends steps are =
+    λ place sign within. record { bit = bit_at ends.bits place sign; is = are place sign within }
 
 -- ---- before the first step
 
@@ -75,7 +78,8 @@ empty_wins : (ago place : ℕ) (sign : Sign) (number : ℤ) (other : Way) (other
     → WinsBy number 3 [] (score_before LENGTHS [] ago place other others) (rank_of_way other) others
 empty_wins ago place sign number other [] is follows path =
     let jump = only_jump other place sign follows in
-    subst (λ w. WinsBy number 3 [] (score_before LENGTHS [] ago place w []) (rank_of_way w) []) (sym jump) (inr (sym is, inr (refl, tt)))
+    subst (λ w. WinsBy number 3 [] (score_before LENGTHS [] ago place w []) (rank_of_way w) []) (sym jump)
+    (inr (sym is, inr (refl, tt)))
 empty_wins ago place sign number other (cell ∷ others) is follows path =
     let some = path.0 in let none = ap length (nothing ago) in absurd (omega (arith, some, none))
 
@@ -95,12 +99,15 @@ empty_beginning ago place sign number is = record {
 pub no_rows_stand : (rows : RowsState) → ((place : ℕ) (sign : Sign) → place < 45 → number_ago rows 0 place sign ≡ pos 0)
     → ((ago place : ℕ) (sign : Sign) → 0 < ago → ago ≤ 96 → place < 45 → number_ago rows ago place sign ≡ neg_ℤ EARLY)
     → RowsStandFor rows []
-no_rows_stand rows here early zero place sign near within = empty_beginning 0 place sign (number_ago rows 0 place sign) (here place sign within)
+no_rows_stand rows here early zero place sign near within = empty_beginning 0 place sign (number_ago rows 0 place sign)
+    (here place sign within)
 no_rows_stand rows here early (suc ago) place sign near within =
     let apart : (0 == suc ago) ≡ false = grind (arith, nat_tests) in
     empty_beginning (suc ago) place sign (number_ago rows (suc ago) place sign)
-    (early (suc ago) place sign (omega arith) near within ∙ ap (λ (b : Bool). pos 0 -ℤ cond b (pos 0) EARLY) (sym apart))
+    (early (suc ago) place sign (omega arith) near within ∙ ap (λ (b : Bool). pos 0 -ℤ cond b (pos 0) EARLY)
+    (sym apart))
 
 -- what is within a bound is within a wider one
 pub wider : (most more : ℕ) (number : ℤ) → most ≤ more → IsWithin most number → IsWithin more number
-wider most more number order is = record { above = omega (arith, ints, is.above); below = omega (arith, ints, is.below) }
+wider most more number order is =
+    record { above = omega (arith, ints, is.above); below = omega (arith, ints, is.below) }

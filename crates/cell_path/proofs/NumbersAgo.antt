@@ -33,14 +33,16 @@ size-by : (rows : RowsState) (numbers : Numbers) (ago place : ℕ) (sign : Sign)
     → ((place : ℕ) (sign : Sign) → place < 45 → IsWithin (limit (rows.count + 1) 0) (number_at numbers place sign))
     → ago ≤ 96 → place < 45 → IsWithin (limit (rows.count + 1) ago) (number_ago (pushed rows numbers) ago place sign)
 size-by rows numbers zero place sign are comes near within =
-    subst (IsWithin (limit (rows.count + 1) 0)) (sym (number_latest rows numbers place sign are.long)) (comes place sign within)
+    subst (IsWithin (limit (rows.count + 1) 0)) (sym (number_latest rows numbers place sign are.long))
+    (comes place sign within)
 size-by rows numbers (suc ago) place sign are comes near within =
     let e = number_others rows numbers ago place sign (omega arith) in
     let next : suc ago ≡ ago + 1 = omega arith in
     let same : limit (rows.count + 1) (ago + 1) ≡ limit rows.count ago = omega arith in
     subst (λ n. IsWithin (limit (rows.count + 1) n) (number_ago (pushed rows numbers) n place sign)) (sym next)
     (subst (IsWithin (limit (rows.count + 1) (ago + 1))) (sym e)
-    (subst (λ n. IsWithin n (number_ago rows ago place sign)) (sym same) (are.size ago place sign (omega arith) within)))
+    (subst (λ n. IsWithin n (number_ago rows ago place sign)) (sym same)
+    (are.size ago place sign (omega arith) within)))
 
 pub still_rows : (rows : RowsState) (numbers : Numbers) → AreRows rows
     → ((place : ℕ) (sign : Sign) → place < 45 → IsWithin (limit (rows.count + 1) 0) (number_at numbers place sign))
@@ -81,7 +83,8 @@ fresh_size (suc ago) place sign near within = let e = fresh_early (suc ago) plac
 
 pub no_rows : AreRows fresh
 no_rows = record {
-  long = length-set (replicate 128 (same_numbers (neg_ℤ EARLY))) 0 (same_numbers (pos 0)) ∙ length-replicate 128 (same_numbers (neg_ℤ EARLY));
+  long = length-set (replicate 128 (same_numbers (neg_ℤ EARLY))) 0 (same_numbers (pos 0))
+      ∙ length-replicate 128 (same_numbers (neg_ℤ EARLY));
   count = omega arith;
   size = λ ago place sign near within. fresh_size ago place sign near within;
 }

@@ -36,7 +36,8 @@ same_cell c d is =
     let bits : rank_of_bit c.bit ≡ rank_of_bit d.bit = omega arith in
     let ways : rank_of_way c.way ≡ rank_of_way d.way = omega arith in
     ap (λ n. cell_of n c.bit c.sign c.way) places ∙ ap (λ x. cell_of d.place x c.sign c.way) (same_bit c.bit d.bit bits)
-    ∙ ap (λ x. cell_of d.place d.bit x c.way) (same_rank c.sign d.sign signs) ∙ ap (cell_of d.place d.bit d.sign) (same_way c.way d.way ways)
+    ∙ ap (λ x. cell_of d.place d.bit x c.way) (same_rank c.sign d.sign signs)
+    ∙ ap (cell_of d.place d.bit d.sign) (same_way c.way d.way ways)
 
 pub same_path : (p q : List Cell) → StandsFirst p q → StandsFirst q p → p ≡ q
 same_path [] [] one two = refl
@@ -56,7 +57,8 @@ same_winner s t p q (inr a) (inr b) = same_path p q a.1 b.1
 pub one_best : (lengths : List ℕ) (steps : List Step) (place : ℕ) (sign : Sign) (path other : List Cell)
     → IsBest lengths steps place sign path → IsBest lengths steps place sign other → path ≡ other
 one_best lengths steps place sign path other a b =
-    same_winner (score lengths steps path) (score lengths steps other) path other (a.wins other b.is_path b.ends) (b.wins path a.is_path a.ends)
+    same_winner (score lengths steps path) (score lengths steps other) path other (a.wins other b.is_path b.ends)
+    (b.wins path a.is_path a.ends)
 
 -- ---- fronts
 
@@ -102,10 +104,12 @@ before_is_best lengths steps place from sign end cell before best ends =
       is_path = is.3;
       ends = ends;
       wins = λ other path like.
-          let follows = follows_like cell.way cell.place (sign_before cell.bit cell.sign) from end before other is.2 ends like in
+          let follows = follows_like cell.way cell.place (sign_before cell.bit cell.sign) from end before other is.2
+          ends like in
           let same = cost_like lengths steps n cell.place cell.way from end before other ends like in
           let over = best.wins (cell ∷ other) (is.0, is.1, follows, path) best.ends in
           let t = score lengths (drop n steps) other in
           front_wins x (score lengths (drop n steps) before) t k cell before other
-          (subst (λ c. Wins (x +ℤ (score lengths (drop n steps) before -ℤ k)) (cell ∷ before) (x +ℤ (t -ℤ c)) (cell ∷ other)) (sym same) over);
+          (subst (λ c. Wins (x +ℤ (score lengths (drop n steps) before -ℤ k)) (cell ∷ before) (x +ℤ (t -ℤ c))
+          (cell ∷ other)) (sym same) over);
     }

@@ -37,7 +37,8 @@ pub record StartsSoFar (ends : Numbers) (best : ℤ) (level most : ℕ) (so_far 
   pub starts : (step : Step) (before : List Step) (place_of_best : ℕ) (sign_of_best : Sign) → step.level ≡ level
       → NumbersEnd ends (step ∷ before) → IsBestEnd LENGTHS (step ∷ before) place_of_best sign_of_best best
       → AreStarts most so_far (step ∷ before)
-  pub size : (bound : ℕ) → AreWithin bound ends → IsWithin bound best → AreWithinTo most (bound + 3 * 2 ^ 22) so_far.numbers
+  pub size : (bound : ℕ) → AreWithin bound ends → IsWithin bound best
+      → AreWithinTo most (bound + 3 * 2 ^ 22) so_far.numbers
 
 -- what is known of one best end
 pub record IsBestOfEnds (sums : SumsState) (rows : RowsState) (place : ℕ) (sign : Sign) (end : End) : Type 0 where
@@ -57,13 +58,16 @@ pub one_more_end : (sums : SumsState) (rows : RowsState) (n : ℕ) (old new : En
 one_more_end sums rows n old new plus minus so_far p pb m mb others other_bits a b =
     record {
       ends = λ step before sums_stand rows_stand.
-          let P : ℕ → Sign → Type 0 = λ place sign. IsEnd LENGTHS (step ∷ before) place sign (number_at new.numbers place sign) (bit_at new.bits place sign) in
+          let P : ℕ → Sign → Type 0 = λ place sign. IsEnd LENGTHS (step ∷ before) place sign
+          (number_at new.numbers place sign) (bit_at new.bits place sign) in
           one_more_length P n
           (λ place sign within.
           let apart : place ≢ n = λ e. omega arith in
           let N : ℤ → Type 0 = λ x. IsEnd LENGTHS (step ∷ before) place sign x (bit_at new.bits place sign) in
           let B : Bit → Type 0 = λ x. IsEnd LENGTHS (step ∷ before) place sign (number_at old.numbers place sign) x in
-          subst N (sym (others place sign apart)) (subst B (sym (other_bits place sign apart)) (so_far.ends step before sums_stand rows_stand place sign within)))
+          subst N (sym (others place sign apart))
+          (subst B (sym (other_bits place sign apart))
+          (so_far.ends step before sums_stand rows_stand place sign within)))
           (let N : ℤ → Type 0 = λ x. IsEnd LENGTHS (step ∷ before) n Plus x (bit_at new.bits n Plus) in
           let B : Bit → Type 0 = λ x. IsEnd LENGTHS (step ∷ before) n Plus plus.number x in
           subst N (sym p) (subst B (sym pb) (a.ends step before sums_stand rows_stand)))
@@ -96,13 +100,17 @@ pub one_more_start : (ends : Numbers) (best : ℤ) (level n : ℕ) (old new : St
     → StartsSoFar ends best level (n + 1) new
 one_more_start ends best level n old new plus minus so_far p pw m mw others other_ways a b = record {
   starts = λ step before pb sb level_is ends_are best_is.
-      let P : ℕ → Sign → Type 0 = λ place sign. IsBeginning LENGTHS (step ∷ before) 0 place sign (number_at new.numbers place sign) (way_at new.ways place sign) in
+      let P : ℕ → Sign → Type 0 = λ place sign. IsBeginning LENGTHS (step ∷ before) 0 place sign
+      (number_at new.numbers place sign) (way_at new.ways place sign) in
       one_more_length P n
       (λ place sign within.
       let apart : place ≢ n = λ e. omega arith in
       let N : ℤ → Type 0 = λ x. IsBeginning LENGTHS (step ∷ before) 0 place sign x (way_at new.ways place sign) in
-      let W : Way → Type 0 = λ x. IsBeginning LENGTHS (step ∷ before) 0 place sign (number_at old.numbers place sign) x in
-      subst N (sym (others place sign apart)) (subst W (sym (other_ways place sign apart)) (so_far.starts step before pb sb level_is ends_are best_is place sign within)))
+      let W : Way → Type 0 = λ x. IsBeginning LENGTHS (step ∷ before) 0 place sign (number_at old.numbers place sign) x
+      in
+      subst N (sym (others place sign apart))
+      (subst W (sym (other_ways place sign apart))
+      (so_far.starts step before pb sb level_is ends_are best_is place sign within)))
       (let N : ℤ → Type 0 = λ x. IsBeginning LENGTHS (step ∷ before) 0 n Plus x (way_at new.ways n Plus) in
       let W : Way → Type 0 = λ x. IsBeginning LENGTHS (step ∷ before) 0 n Plus plus.number x in
       subst N (sym p) (subst W (sym pw) (a.begins step before pb sb level_is ends_are best_is)))
@@ -113,7 +121,8 @@ one_more_start ends best level n old new plus minus so_far p pw m mw others othe
       let P : ℕ → Sign → Type 0 = λ place sign. IsWithin (bound + 3 * 2 ^ 22) (number_at new.numbers place sign) in
       one_more_length P n
       (λ place sign within. let apart : place ≢ n = λ e. omega arith in
-      subst (IsWithin (bound + 3 * 2 ^ 22)) (sym (others place sign apart)) (so_far.size bound ends_in best_in place sign within))
+      subst (IsWithin (bound + 3 * 2 ^ 22)) (sym (others place sign apart))
+      (so_far.size bound ends_in best_in place sign within))
       (subst (IsWithin (bound + 3 * 2 ^ 22)) (sym p) (a.size bound ends_in best_in))
       (subst (IsWithin (bound + 3 * 2 ^ 22)) (sym m) (b.size bound ends_in best_in));
 }

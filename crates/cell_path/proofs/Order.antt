@@ -57,4 +57,7 @@ pub wins_by-more : (x s : ℤ) (base m : ℕ) (p : List Cell) (t : ℤ) (n : ℕ
 wins_by-more x s base m p t n q (inl less) = inl (omega (arith, ints))
 wins_by-more x s base m p t n q (inr same) =
     let less : t ≡ s = same.0 in
-    inr (omega (arith, ints), elim same.1 [ inl first ↦ inl (omega arith) | inr like ↦ inr (omega (arith, like.0), like.1) ])
+    inr (
+      omega (arith, ints),
+      elim same.1 [ inl first ↦ inl (omega arith) | inr like ↦ inr (omega (arith, like.0), like.1) ],
+    )

@@ -12,14 +12,16 @@ pub ring_latest : {X : Type 0} (ring : List X) (count : ℕ) (x d : X) → lengt
     → get_or (set ring ((count + 1) % 128) x) (place_ago (count + 1) 0) d ≡ x
 ring_latest ring count x d long =
     let same : place_ago (count + 1) 0 ≡ (count + 1) % 128 = omega arith in
-    ap (λ n. get_or (set ring ((count + 1) % 128) x) n d) same ∙ get_or-set_same ring ((count + 1) % 128) x d (omega arith)
+    ap (λ n. get_or (set ring ((count + 1) % 128) x) n d) same
+    ∙ get_or-set_same ring ((count + 1) % 128) x d (omega arith)
 
 pub ring_others : {X : Type 0} (ring : List X) (count ago : ℕ) (x d : X) → ago < 127
     → get_or (set ring ((count + 1) % 128) x) (place_ago (count + 1) (ago + 1)) d ≡ get_or ring (place_ago count ago) d
 ring_others ring count ago x d near =
     let same : place_ago (count + 1) (ago + 1) ≡ place_ago count ago = omega arith in
     let other : place_ago count ago ≡ (count + 1) % 128 → ⊥ = λ e. omega arith in
-    ap (λ n. get_or (set ring ((count + 1) % 128) x) n d) same ∙ get_or-set_other ring ((count + 1) % 128) (place_ago count ago) x d other
+    ap (λ n. get_or (set ring ((count + 1) % 128) x) n d) same
+    ∙ get_or-set_other ring ((count + 1) % 128) (place_ago count ago) x d other
 
 -- what is within less than 2^63 fits 64 bits
 pub fits : (most : ℕ) (number : ℤ) → IsWithin most number → most < 2 ^ 63 → FitsSigned w64 number
@@ -41,7 +43,11 @@ size-by : (sums : SumsState) (sound : ℤ) (ago : ℕ) → AreSums sums → IsWi
     → IsWithin ((sums.count + 1) * 2 ^ 16) (sum_ago (pushed sums (sum_ago sums 0 +ℤ sound)) ago)
 size-by sums sound zero are sounds near =
     let e = sum_latest sums (sum_ago sums 0 +ℤ sound) are in let s = are.size 0 (omega arith) in
-    record { above = omega (arith, ints, e, s.above, sounds.above); below = omega (arith, ints, e, s.below, sounds.below) }
+    record {
+      above = omega (arith, ints, e, s.above, sounds.above);
+      below =
+          omega (arith, ints, e, s.below, sounds.below);
+    }
 size-by sums sound (suc ago) are sounds near =
     let e = sum_others sums (sum_ago sums 0 +ℤ sound) ago (omega arith) in let s = are.size ago (omega arith) in
     let next : suc ago ≡ ago + 1 = omega arith in
@@ -52,19 +58,26 @@ spread-by : (sums : SumsState) (sound : ℤ) (later ago : ℕ) → AreSums sums 
     → ago ≤ 96
     → IsWithin ((ago - later) * 2 ^ 16)
     (sum_ago (pushed sums (sum_ago sums 0 +ℤ sound)) later -ℤ sum_ago (pushed sums (sum_ago sums 0 +ℤ sound)) ago)
-spread-by sums sound zero zero are sounds order near = record { above = omega (arith, ints); below = omega (arith, ints) }
+spread-by sums sound zero zero are sounds order near =
+    record { above = omega (arith, ints); below = omega (arith, ints) }
 spread-by sums sound zero (suc ago) are sounds order near =
     let now = pushed sums (sum_ago sums 0 +ℤ sound) in
     let e = sum_latest sums (sum_ago sums 0 +ℤ sound) are in
-    let f = sum_others sums (sum_ago sums 0 +ℤ sound) ago (omega arith) in let s = are.spread 0 ago (omega arith) (omega arith) in
+    let f = sum_others sums (sum_ago sums 0 +ℤ sound) ago (omega arith) in let s =
+    are.spread 0 ago (omega arith) (omega arith) in
     let next : suc ago ≡ ago + 1 = omega arith in
     subst (λ n. IsWithin ((n - 0) * 2 ^ 16) (sum_ago now 0 -ℤ sum_ago now n)) (sym next)
-    (record { above = omega (arith, ints, e, f, s.above, sounds.above); below = omega (arith, ints, e, f, s.below, sounds.below) })
+    (record {
+      above = omega (arith, ints, e, f, s.above, sounds.above);
+      below =
+          omega (arith, ints, e, f, s.below, sounds.below);
+    })
 spread-by sums sound (suc later) zero are sounds order near = absurd (omega arith)
 spread-by sums sound (suc later) (suc ago) are sounds order near =
     let now = pushed sums (sum_ago sums 0 +ℤ sound) in
     let e = sum_others sums (sum_ago sums 0 +ℤ sound) later (omega arith) in
-    let f = sum_others sums (sum_ago sums 0 +ℤ sound) ago (omega arith) in let s = are.spread later ago (omega arith) (omega arith) in
+    let f = sum_others sums (sum_ago sums 0 +ℤ sound) ago (omega arith) in let s =
+    are.spread later ago (omega arith) (omega arith) in
     let next : suc ago ≡ ago + 1 = omega arith in
     let then : suc later ≡ later + 1 = omega arith in
     subst (λ m. IsWithin ((suc ago - m) * 2 ^ 16) (sum_ago now m -ℤ sum_ago now (suc ago))) (sym then)
@@ -83,12 +96,14 @@ still_sums sums sound are sounds room = record {
 pub difference_fits : (count : ℕ) (a b : ℤ) → count ≤ 2 ^ 40 → IsWithin (count * 2 ^ 16) a → IsWithin (count * 2 ^ 16) b
     → FitsSigned w64 (a -ℤ b)
 difference_fits count a b few x y = fits (2 ^ 57) (a -ℤ b)
-    (record { above = omega (arith, ints, x.above, y.below); below = omega (arith, ints, x.below, y.above) }) (omega arith)
+    (record { above = omega (arith, ints, x.above, y.below); below = omega (arith, ints, x.below, y.above) })
+    (omega arith)
 
 pub sum_fits : (count : ℕ) (a b : ℤ) → count ≤ 2 ^ 40 → IsWithin (count * 2 ^ 16) a → IsWithin (2 ^ 16) b
     → FitsSigned w64 (a +ℤ b)
 sum_fits count a b few x y = fits (2 ^ 57) (a +ℤ b)
-    (record { above = omega (arith, ints, x.above, y.above); below = omega (arith, ints, x.below, y.below) }) (omega arith)
+    (record { above = omega (arith, ints, x.above, y.above); below = omega (arith, ints, x.below, y.below) })
+    (omega arith)
 
 -- before the first step
 pub zeros_ago : (ago : ℕ) → sum_ago (record { ring = replicate 128 (pos 0); count = 0 }) ago ≡ pos 0

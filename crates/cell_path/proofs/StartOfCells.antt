@@ -26,8 +26,10 @@ pub or_way : (lengths : List ℕ) (steps : List Step) (place : ℕ) (sign : Sign
 or_way lengths steps place sign so_far new more result stays comes best way =
     let P : Start → Type 0 = λ s. IsBestBefore lengths steps (rank_of_way more + 1) place sign s.number s.way in
     elim (below_or_above so_far.number new) [
-      | inl below ↦ subst P (sym (stays below)) (way_stays lengths steps place sign so_far.number so_far.way more new best way below)
-      | inr above ↦ subst P (sym (comes above)) (way_comes lengths steps place sign so_far.number so_far.way more new best way above)
+      | inl below ↦ subst P (sym (stays below))
+          (way_stays lengths steps place sign so_far.number so_far.way more new best way below)
+      | inr above ↦ subst P (sym (comes above))
+          (way_comes lengths steps place sign so_far.number so_far.way more new best way above)
     ]
 
 pub or_within : (most : ℕ) (so_far : Start) (new : ℤ) (more : Way) (result : Start)
@@ -35,11 +37,16 @@ pub or_within : (most : ℕ) (so_far : Start) (new : ℤ) (more : Way) (result :
     → IsWithin most so_far.number → IsWithin most new → IsWithin most result.number
 or_within most so_far new more result stays comes x y =
     let P : Start → Type 0 = λ s. IsWithin most s.number in
-    elim (below_or_above so_far.number new) [ inl below ↦ subst P (sym (stays below)) x | inr above ↦ subst P (sym (comes above)) y ]
+    elim (below_or_above so_far.number new)
+    [ inl below ↦ subst P (sym (stays below)) x | inr above ↦ subst P (sym (comes above)) y ]
 
 -- what is lost is within 3 * 2^22
 pub less_within : (most : ℕ) (number : ℤ) (times level : ℕ) → IsWithin most number → times ≤ 288 → level ≤ 2 ^ 15
     → IsWithin (most + 3 * 2 ^ 22) (number -ℤ pos (times * level))
 less_within most number times level is few low =
     let product : times * level ≤ 288 * 2 ^ 15 = mul-le-mul few low in
-    record { above = omega (arith, ints, is.above, is.below, product); below = omega (arith, ints, is.above, is.below, product) }
+    record {
+      above = omega (arith, ints, is.above, is.below, product);
+      below =
+          omega (arith, ints, is.above, is.below, product);
+    }

@@ -28,7 +28,8 @@ abbrev pub end_behind : ℕ → List Placed → ℕ
 end_behind done [] = done
 end_behind done (latest ∷ before) = latest.end
 
--- after so many steps it ended as long ago as this, and more than a quarter of its length behind what was decided before
+-- after so many steps it ended as long ago as this, and more than a quarter of its length behind what was decided
+-- before
 abbrev pub is_decided : ℕ → ℕ → ℕ → Placed → Bool
 is_decided delay count done cell =
     leb (cell.end + delay) count && ltb (done + length_in LENGTHS cell.cell.place / 4) cell.end

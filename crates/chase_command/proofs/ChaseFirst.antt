@@ -25,7 +25,8 @@ abbrev text_of_script : Address → Script → List ℕ
 text_of_script label script = elim script [ Ok rows ↦ chase_text label rows | Err fault ↦ [] ]
 
 -- at the end of an input that is no longer than a script may be
-output_is : (label : Address) (left : Option (List ℕ)) (all pulled : List ℕ) → Consumes (Some all) left pulled → IsWhole left pulled
+output_is : (label : Address) (left : Option (List ℕ)) (all pulled : List ℕ) → Consumes (Some all) left pulled
+    → IsWhole left pulled
     → chase_output label all ≡ text_of_script label (script_in label.count pulled)
 output_is label left all pulled consumed whole =
     let same : all ≡ pulled = all_at_end all pulled left consumed whole.end in
@@ -34,23 +35,28 @@ output_is label left all pulled consumed whole =
     ∙ ap (λ (bytes : List ℕ). text_of_script label (script_in label.count bytes)) same
 
 -- of a script it is the trace
-trace_is : (label : Address) (left : Option (List ℕ)) (all pulled : List ℕ) (rows : List ScriptRow) → Consumes (Some all) left pulled
+trace_is : (label : Address) (left : Option (List ℕ)) (all pulled : List ℕ) (rows : List ScriptRow)
+    → Consumes (Some all) left pulled
     → IsScript label left pulled rows → chase_output label all ≡ chase_text label rows
-trace_is label left all pulled rows consumed is = output_is label left all pulled consumed is.whole ∙ ap (text_of_script label) is.are
+trace_is label left all pulled rows consumed is = output_is label left all pulled consumed is.whole
+    ∙ ap (text_of_script label) is.are
 
 nothing_first : (written whole : List ℕ) → written ≡ [] → IsFront written whole
 nothing_first written whole none = (whole, ap (λ (l : List ℕ). l ++ whole) (sym none))
 
-pub trace_first : (label : Address) (e : Exchange) (rows : List ScriptRow) → IsTraced label e.left e.pulled e.written rows
+pub trace_first : (label : Address) (e : Exchange) (rows : List ScriptRow)
+    → IsTraced label e.left e.pulled e.written rows
     → WritesAFront (IsChaseOutput label) e
 trace_first label e rows is = λ rest whole left output.
     let consumed = whole_input e.pulled rest e.left left in
     let trace = trace_is label e.left (e.pulled ++ rest) e.pulled rows consumed is.script in
     ([], output ∙ trace ∙ sym is.text ∙ sym (append-nil e.written))
 
-stop_first : (label : Address) (stop : ChaseStop) (left : Option (List ℕ)) (all pulled written : List ℕ) → Consumes (Some all) left pulled
+stop_first : (label : Address) (stop : ChaseStop) (left : Option (List ℕ)) (all pulled written : List ℕ)
+    → Consumes (Some all) left pulled
     → IsChaseStop label stop left pulled written → IsFront written (chase_output label all)
-stop_first label (Refused fault) left all pulled written consumed is = nothing_first written (chase_output label all) is.2
+stop_first label (Refused fault) left all pulled written consumed is = nothing_first written (chase_output label all)
+    is.2
 stop_first label ReadFault left all pulled written consumed is = nothing_first written (chase_output label all) is.1
 stop_first label WriteFault left all pulled written consumed is =
     subst (λ (whole : List ℕ). IsFront written whole) (sym (trace_is label left all pulled is.0 consumed is.1)) is.2
@@ -64,5 +70,6 @@ answer_of label stop e stopped same = record {
   ends = ends_by label stop e stopped same;
   first = λ rest whole left output.
       let consumed = whole_input e.pulled rest e.left left in
-      subst (IsFront e.written) (sym output) (stop_first label stop e.left (e.pulled ++ rest) e.pulled e.written consumed stopped);
+      subst (IsFront e.written) (sym output)
+      (stop_first label stop e.left (e.pulled ++ rest) e.pulled e.written consumed stopped);
 }

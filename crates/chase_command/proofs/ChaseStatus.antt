@@ -1,5 +1,6 @@
 -- A chase answers by why it stopped, and its whole input leaves one status where no call fails, want of memory aside.
-use Rattle.std.proofs.Common.{◌≡◌, ◌⊎◌, ℕ, ◌+◌, ◌≤◌, List, [], ◌++◌, length, take, Bool, true, false, Some, Ok, Err, refl, sym, ◌∙◌, ap, inl, inr}
+use Rattle.std.proofs.Common.{◌≡◌, ◌⊎◌, ℕ, ◌+◌, ◌≤◌, List, [], ◌++◌, length, take, Bool, true, false, Some, Ok, Err}
+use Rattle.std.proofs.Common.{refl, sym, ◌∙◌, ap, inl, inr}
 use Rattle.std.proofs.Common.{arith, append-nil}
 use Rattle.std.specs.Prelude.{nat_le, IfErr, IsErrAnd}
 use Rattle.std.specs.declared.option.Option.{Option}
@@ -43,13 +44,15 @@ pull_stop Memory script bytes short is = absurd is
 pull_stop Limit script bytes short is = absurd is
 
 -- what an error that is passed on says
-pub passed : {T : Type 0} {P Q : ChaseStop → Type 0} (result : Result T ChaseStop) → IsErrAnd result P → ((stop : ChaseStop) → P stop → Q stop)
+pub passed : {T : Type 0} {P Q : ChaseStop → Type 0} (result : Result T ChaseStop) → IsErrAnd result P
+    → ((stop : ChaseStop) → P stop → Q stop)
     → IfErr result Q
 passed (Ok done) says to = absurd says
 passed (Err stop) says to = to stop says
 
 -- the room of a pull is no more than what is left to a byte past the script
-pub room_fits : (script buf : List ℕ) (room : ℕ) → length script + room ≤ MAX_SCRIPT + 1 → length script + length (take room buf) ≤ MAX_SCRIPT + 1
+pub room_fits : (script buf : List ℕ) (room : ℕ) → length script + room ≤ MAX_SCRIPT + 1
+    → length script + length (take room buf) ≤ MAX_SCRIPT + 1
 room_fits script buf room fits =
     let less : length (take room buf) ≤ room = omega (arith, length-take room buf) in
     omega (arith, fits, less)

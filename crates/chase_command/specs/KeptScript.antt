@@ -15,7 +15,8 @@ use Rattle.tc_command.specs.declared.status.Status.TheVariants as status
 use Rattle.chase_command.specs.Stop.{status_of}
 
 -- the chase came to its end: the whole trace was written
-pub record IsTraced (label : Address) (left : Option (List ℕ)) (pulled written : List ℕ) (rows : List ScriptRow) : Type 0 where
+pub record IsTraced (label : Address) (left : Option (List ℕ)) (pulled written : List ℕ) (rows : List ScriptRow) : Type
+    0 where
   pub script : IsScript label left pulled rows
   pub text : written ≡ chase_text label rows
 

@@ -13,7 +13,8 @@ ghost use Rattle.chase_command.specs.Chase.{ChaseSeesOneEnd, IsChaseAnswer, IsUn
 ghost use Rattle.tc_command.specs.Causes.{SourceCause, OutCause};
 ghost use Rattle.chase_command.specs.Chase.{chase_status_on};
 ghost use Rattle.tc_command.specs.Exchange.{Exchange, IsPulled, IsNoted};
-ghost use Rattle.chase_command.specs.KeptScript.{IsChaseStop, IsGatherStop, IsPullStop, IsRowStop, IsTraced, chase_ended};
+ghost use Rattle.chase_command.specs.KeptScript.{IsChaseStop, IsGatherStop, IsPullStop, IsRowStop, IsTraced};
+ghost use Rattle.chase_command.specs.KeptScript.{chase_ended};
 
 use crate::stop::ChaseStop;
 use crate::trace::Trace;

@@ -1,5 +1,6 @@
 -- A frame takes the error by what the order takes of it and by the slip, since master and transport move alike.
-use Rattle.std.proofs.Common.{◌≡◌, ℕ, ◌+◌, ◌*◌, ◌<◌, ◌≤◌, ◌⊎◌, inl, inr, ℤ, pos, neg_ℤ, ◌+ℤ◌, ◌-ℤ◌, ◌*ℤ◌, ◌<ℤ◌, ◌≤ℤ◌, subst, arith}
+use Rattle.std.proofs.Common.{◌≡◌, ℕ, ◌+◌, ◌*◌, ◌<◌, ◌≤◌, ◌⊎◌, inl, inr, ℤ, pos, neg_ℤ, ◌+ℤ◌, ◌-ℤ◌, ◌*ℤ◌, ◌<ℤ◌, ◌≤ℤ◌}
+use Rattle.std.proofs.Common.{subst, arith}
 use Rattle.std.specs.Prelude.{unsigned_abs}
 use Rattle.std.proofs.lemmas.Int.{ints}
 use Rattle.std.proofs.lemmas.Bool.Decides.{nat_tests}
@@ -34,20 +35,27 @@ leads_within day a b d (inl e) = record { back = 0; over = 0; leads = omega (ari
 leads_within day a b d (inr (inl e)) = record { back = 0; over = 1; leads = omega (arith, ints) }
 leads_within day a b d (inr (inr e)) = record { back = 1; over = 0; leads = omega (arith, ints) }
 
-shortest_within : (count : Count) (a b : ℕ) → a < day_of count → b < day_of count → Within (day_of count) a b (shortest_way (day_of count) a b)
+shortest_within : (count : Count) (a b : ℕ) → a < day_of count → b < day_of count
+    → Within (day_of count) a b (shortest_way (day_of count) a b)
 unfolding Within
 shortest_within C24 a b p q = grind (arith, ints, nat_tests)
 shortest_within C25 a b p q = grind (arith, ints, nat_tests)
 shortest_within C30 a b p q = grind (arith, ints, nat_tests)
 shortest_within Drop30 a b p q = grind (arith, ints, nat_tests)
 
-shortest_is_short : (count : Count) (a b : ℕ) → a < day_of count → b < day_of count → IsShort (day_of count) (shortest_way (day_of count) a b)
-shortest_is_short C24 a b p q = record { above = grind (arith, ints, nat_tests); within = grind (arith, ints, nat_tests) }
-shortest_is_short C25 a b p q = record { above = grind (arith, ints, nat_tests); within = grind (arith, ints, nat_tests) }
-shortest_is_short C30 a b p q = record { above = grind (arith, ints, nat_tests); within = grind (arith, ints, nat_tests) }
-shortest_is_short Drop30 a b p q = record { above = grind (arith, ints, nat_tests); within = grind (arith, ints, nat_tests) }
+shortest_is_short : (count : Count) (a b : ℕ) → a < day_of count → b < day_of count
+    → IsShort (day_of count) (shortest_way (day_of count) a b)
+shortest_is_short C24 a b p q =
+    record { above = grind (arith, ints, nat_tests); within = grind (arith, ints, nat_tests) }
+shortest_is_short C25 a b p q =
+    record { above = grind (arith, ints, nat_tests); within = grind (arith, ints, nat_tests) }
+shortest_is_short C30 a b p q =
+    record { above = grind (arith, ints, nat_tests); within = grind (arith, ints, nat_tests) }
+shortest_is_short Drop30 a b p q =
+    record { above = grind (arith, ints, nat_tests); within = grind (arith, ints, nat_tests) }
 
-moved_within : (count : Count) (a : ℕ) (d : ℤ) → a < day_of count → unsigned_abs d ≤ 10_000 → Within (day_of count) a (moved (day_of count) a d) d
+moved_within : (count : Count) (a : ℕ) (d : ℤ) → a < day_of count → unsigned_abs d ≤ 10_000
+    → Within (day_of count) a (moved (day_of count) a d) d
 unfolding Within
 moved_within C24 a d p q = grind (arith, ints)
 moved_within C25 a d p q = grind (arith, ints)
@@ -73,14 +81,16 @@ frame_within C30 n Backward p = grind (arith, ints)
 frame_within Drop30 n Forward p = grind (arith, ints)
 frame_within Drop30 n Backward p = grind (arith, ints)
 
-pub frame_below : (count : Count) (n : ℕ) (direction : Direction) → moved (day_length count) n (frame_in direction) < day_length count
+pub frame_below : (count : Count) (n : ℕ) (direction : Direction) → moved (day_length count) n (frame_in direction)
+    < day_length count
 frame_below C24 n direction = grind (arith, ints)
 frame_below C25 n direction = grind (arith, ints)
 frame_below C30 n direction = grind (arith, ints)
 frame_below Drop30 n direction = grind (arith, ints)
 
 -- where the transport moves by m, and the master by f, what led from one to the other is changed by their difference
-follow : (count : Count) (a b c e : ℕ) (d m f : ℤ) → Leads (day_of count) a b d → Leads (day_of count) a c m → Leads (day_of count) b e f →
+follow : (count : Count) (a b c e : ℕ) (d m f : ℤ) → Leads (day_of count) a b d → Leads (day_of count) a c m
+    → Leads (day_of count) b e f →
     Leads (day_of count) c e ((d +ℤ f) -ℤ m)
 follow C24 a b c e d m f x y z =
     record {
@@ -121,7 +131,8 @@ order_small Forward taken slip p q = grind (arith, ints)
 order_small Backward taken slip p q = grind (arith, ints)
 
 -- what is smaller than a short way is short, and a little one is short on each day
-short_enough : (count : Count) (e d : ℤ) → IsShort (day_of count) e → (unsigned_abs d ≤ 1_000) ⊎ (unsigned_abs d < unsigned_abs e) → IsShort (day_of count) d
+short_enough : (count : Count) (e d : ℤ) → IsShort (day_of count) e → (unsigned_abs d ≤ 1_000)
+    ⊎ (unsigned_abs d < unsigned_abs e) → IsShort (day_of count) d
 short_enough C24 e d s (inl p) = record { above = grind (arith, ints); within = grind (arith, ints) }
 short_enough C25 e d s (inl p) = record { above = grind (arith, ints); within = grind (arith, ints) }
 short_enough C30 e d s (inl p) = record { above = grind (arith, ints); within = grind (arith, ints) }
@@ -135,11 +146,13 @@ motion_cancels : (e m taken slip : ℤ) → (e +ℤ m) -ℤ ((m +ℤ taken) +ℤ
 motion_cancels e m taken slip = omega (arith, ints)
 
 -- the error of the next frame: what the order leaves of this one's, less the slip
-pub error_after : (count : Count) (p n : ℕ) (direction : Direction) (taken slip : ℤ) → p < day_of count → n < day_length count →
+pub error_after : (count : Count) (p n : ℕ) (direction : Direction) (taken slip : ℤ) → p < day_of count
+    → n < day_length count →
     unsigned_abs taken ≤ 1_280 → unsigned_abs slip ≤ 24 →
     (unsigned_abs (error_to count p n -ℤ (taken +ℤ slip)) ≤ 1_000) ⊎
     (unsigned_abs (error_to count p n -ℤ (taken +ℤ slip)) < unsigned_abs (error_to count p n)) →
-    error_to count (moved (day_of count) p ((motion_of direction +ℤ taken) +ℤ slip)) (moved (day_length count) n (frame_in direction)) ≡
+    error_to count (moved (day_of count) p ((motion_of direction +ℤ taken) +ℤ slip))
+    (moved (day_length count) n (frame_in direction)) ≡
     error_to count p n -ℤ (taken +ℤ slip)
 error_after count p n direction taken slip hp hn ht hs small =
     let hb : 80 * n < day_of count = omega arith in
@@ -157,10 +170,12 @@ error_after count p n direction taken slip hp hn ht hs small =
     motion_cancels (error_to count p n) (motion_of direction) taken slip in
     one_way count there (80 * next) _ _ (leads_within _ _ _ _ (shortest_within count there (80 * next) hc he))
     (subst (λ d. Leads (day_of count) there (80 * next) d) rest way)
-    (shortest_is_short count there (80 * next) hc he) (short_enough count _ _ (shortest_is_short count p (80 * n) hp hb) small)
+    (shortest_is_short count there (80 * next) hc he)
+    (short_enough count _ _ (shortest_is_short count p (80 * n) hp hb) small)
 
 -- half of the longest day
-pub error_most : (count : Count) (p n : ℕ) → p < day_of count → n < day_length count → unsigned_abs (error_to count p n) ≤ 103_680_000
+pub error_most : (count : Count) (p n : ℕ) → p < day_of count → n < day_length count
+    → unsigned_abs (error_to count p n) ≤ 103_680_000
 error_most C24 p n hp hn = grind (arith, ints, nat_tests)
 error_most C25 p n hp hn = grind (arith, ints, nat_tests)
 error_most C30 p n hp hn = grind (arith, ints, nat_tests)

@@ -17,19 +17,23 @@ begun : Count → ℕ → Loop
 begun count position = record { chase = record { count = count; mode = modes.Waiting }; position = position }
 
 frame : Option Command → Direction → ℕ → ℤ → Row
-frame command direction number slip = record { command = command; master = Some (record { number = number; direction = direction }); slip = slip }
+frame command direction number slip =
+    record { command = command; master = Some (record { number = number; direction = direction }); slip = slip }
 
 bare : Option Command → Row
 bare command = record { command = command; master = None; slip = pos 0 }
 
 line : State → ℤ → ℤ → Option Loss → ℕ → Traced
-line state error order loss position = record { report = record { state = state; error = error; order = order; loss = loss }; position = position }
+line state error order loss position =
+    record { report = record { state = state; error = error; order = order; loss = loss }; position = position }
 
 -- a slip of 60 loses the lock for a frame, and a master that reads nothing loses it
-lost_twice : trace (begun C25 0) (frame (Some Play) Forward 0 (pos 0) ∷ frame None Forward 1 (pos 60) ∷ frame None Forward 2 (pos 0) ∷
+lost_twice : trace (begun C25 0) (frame (Some Play) Forward 0 (pos 0) ∷ frame None Forward 1 (pos 60)
+    ∷ frame None Forward 2 (pos 0) ∷
     frame None Forward 3 (pos 0) ∷ bare None ∷ []) ≡
     line Locked (pos 0) (pos 80) None 80 ∷ line Locked (pos 0) (pos 80) None 220 ∷
-    line Pulling (neg_ℤ (pos 60)) (pos 20) (Some (Window (neg_ℤ (pos 60)))) 240 ∷ line Locked (pos 0) (pos 80) None 320 ∷
+    line Pulling (neg_ℤ (pos 60)) (pos 20) (Some (Window (neg_ℤ (pos 60)))) 240 ∷ line Locked (pos 0) (pos 80) None 320
+    ∷
     line Pulling (pos 0) (pos 0) (Some NoCode) 320 ∷ []
 unfolding begun frame bare line trace
 lost_twice = refl
@@ -58,21 +62,25 @@ unfolding begun bare line trace
 not_there_yet = refl
 
 -- far from a label it goes 32 frames at once, either way
-far_from_a_label : trace (begun C25 0) (bare (Some (Locate 100)) ∷ []) ≡ line Locating (pos 8_000) (pos 2_560) None 2_560 ∷ []
+far_from_a_label : trace (begun C25 0) (bare (Some (Locate 100)) ∷ []) ≡ line Locating (pos 8_000) (pos 2_560) None
+    2_560 ∷ []
 unfolding begun frame bare line trace
 far_from_a_label = refl
 
-far_behind_a_label : trace (begun C25 8_000) (bare (Some (Locate 0)) ∷ []) ≡ line Locating (neg_ℤ (pos 8_000)) (neg_ℤ (pos 2_560)) None 5_440 ∷ []
+far_behind_a_label : trace (begun C25 8_000) (bare (Some (Locate 0)) ∷ []) ≡ line Locating (neg_ℤ (pos 8_000))
+    (neg_ℤ (pos 2_560)) None 5_440 ∷ []
 unfolding begun frame bare line trace
 far_behind_a_label = refl
 
 -- far from its master it pulls by 16 frames, beside the motion of the master
-far_from_the_master : trace (begun C25 0) (frame (Some Play) Forward 20 (pos 0) ∷ []) ≡ line Pulling (pos 1_600) (pos 1_360) None 1_360 ∷ []
+far_from_the_master : trace (begun C25 0) (frame (Some Play) Forward 20 (pos 0) ∷ []) ≡ line Pulling (pos 1_600)
+    (pos 1_360) None 1_360 ∷ []
 unfolding begun frame bare line trace
 far_from_the_master = refl
 
 -- near its master it locks, and moves 24 subframes nearer at once
-near_the_master : trace (begun C25 50) (frame (Some Play) Forward 1 (pos 0) ∷ frame (Some Play) Forward 2 (pos 0) ∷ []) ≡
+near_the_master : trace (begun C25 50) (frame (Some Play) Forward 1 (pos 0) ∷ frame (Some Play) Forward 2 (pos 0) ∷ [])
+    ≡
     line Locked (pos 30) (pos 104) None 154 ∷ line Locked (pos 6) (pos 86) None 240 ∷ []
 unfolding begun frame bare line trace
 near_the_master = refl
@@ -84,11 +92,13 @@ unfolding begun frame bare line trace
 played_in_the_lock = refl
 
 -- half a frame is near, and a subframe more is not
-at_the_edge : trace (begun C25 40) (frame (Some Play) Forward 1 (pos 0) ∷ []) ≡ line Locked (pos 40) (pos 104) None 144 ∷ []
+at_the_edge : trace (begun C25 40) (frame (Some Play) Forward 1 (pos 0) ∷ []) ≡ line Locked (pos 40) (pos 104) None 144
+    ∷ []
 unfolding begun frame bare line trace
 at_the_edge = refl
 
-behind_the_edge : trace (begun C25 39) (frame (Some Play) Forward 1 (pos 0) ∷ []) ≡ line Pulling (pos 41) (pos 121) None 160 ∷ []
+behind_the_edge : trace (begun C25 39) (frame (Some Play) Forward 1 (pos 0) ∷ []) ≡ line Pulling (pos 41) (pos 121) None
+    160 ∷ []
 unfolding begun frame bare line trace
 behind_the_edge = refl
 
@@ -102,7 +112,8 @@ located_then_played = refl
 
 over_the_day : List Row
 over_the_day =
-    frame (Some Play) Forward 2_159_999 (pos 3) ∷ frame None Forward 0 (neg_ℤ (pos 8)) ∷ frame None Forward 1 (pos 9) ∷ []
+    frame (Some Play) Forward 2_159_999 (pos 3) ∷ frame None Forward 0 (neg_ℤ (pos 8)) ∷ frame None Forward 1 (pos 9)
+    ∷ []
 
 a_step : (row next a b : Row) → Some row ≡ Some a → Some next ≡ Some b → GoesOn C25 row next → GoesOn C25 a b
 a_step row next a b one two goes =

@@ -1,5 +1,6 @@
 -- The slips of a script at their edges, and a run that begins Pulling, worked by hand.
-use Rattle.std.proofs.Common.{◌≡◌, ℕ, ◌*◌, ◌+◌, ◌≤◌, pos, neg_ℤ, Option, Some, None, Ok, Err, List, [], ◌∷◌, refl, arith}
+use Rattle.std.proofs.Common.{◌≡◌, ℕ, ◌*◌, ◌+◌, ◌≤◌, pos, neg_ℤ, Option, Some, None, Ok, Err, List, [], ◌∷◌, refl}
+use Rattle.std.proofs.Common.{arith}
 use Rattle.std.specs.Prelude.{codes}
 use Rattle.tc_address.specs.declared.count.Count.TheVariants.{C25}
 use Rattle.tc_address.specs.declared.direction.Direction.TheVariants.{Forward}
@@ -43,7 +44,8 @@ pulled_row command number = record { command = command; master = Some (master_at
 far_ahead : List ScriptRow
 far_ahead = pulled_row (Some Play) 48 ∷ pulled_row None 49 ∷ pulled_row None 50 ∷ []
 
-begins_pulling : IsPulledAt (address C25 0 0 0 0) far_ahead 0 (row_with (Some Play) (Some (master_at 48)) (pos 0)) (master_at 48)
+begins_pulling : IsPulledAt (address C25 0 0 0 0) far_ahead 0 (row_with (Some Play) (Some (master_at 48)) (pos 0))
+    (master_at 48)
 unfolding far_ahead pulled_row master_at after_rows
 begins_pulling = record { is = refl; reads = refl; pulls = refl }
 

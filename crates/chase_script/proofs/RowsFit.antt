@@ -9,7 +9,8 @@ use Rattle.chase_script.specs.Script.{IsRowFor}
 use Rattle.chase_script.specs.Answer.{AreRowsFor}
 use Rattle.chase_script.specs.TraceText.{row_of}
 
-pub one_row_more : (count : Count) (rows : List ScriptRow) (row : ScriptRow) → AreRowsFor count rows → IsRowFor count row
+pub one_row_more : (count : Count) (rows : List ScriptRow) (row : ScriptRow) → AreRowsFor count rows
+    → IsRowFor count row
     → AreRowsFor count (rows ++ row ∷ [])
 unfolding AreRowsFor
 one_row_more count [] row all one = (one, tt)
@@ -25,8 +26,10 @@ pub row_of_the_day : (count : Count) (rows : List ScriptRow) (i : ℕ) (row : Ro
     → slice_get (map row_of rows) i ≡ Some row → IsRowOf count row
 unfolding AreRowsFor
 row_of_the_day count [] i row all e = cc
-row_of_the_day count (first ∷ rows) zero row all e = subst (λ (r : Row). IsRowOf count r) (ap (or_else (row_of first)) e) all.0.master
+row_of_the_day count (first ∷ rows) zero row all e =
+    subst (λ (r : Row). IsRowOf count r) (ap (or_else (row_of first)) e) all.0.master
 row_of_the_day count (first ∷ rows) (suc i) row all e = row_of_the_day count rows i row all.1 e
 
-pub rows_of_the_day : (count : Count) (rows : List ScriptRow) → AreRowsFor count rows → AreRowsOf count (map row_of rows)
+pub rows_of_the_day : (count : Count) (rows : List ScriptRow) → AreRowsFor count rows
+    → AreRowsOf count (map row_of rows)
 rows_of_the_day count rows all = λ i row e. row_of_the_day count rows i row all e

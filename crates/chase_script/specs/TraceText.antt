@@ -28,7 +28,8 @@ loss_name (Some (Window error)) = codes "window"
 
 -- a position: the label that it lies in, and the subframes behind the label's beginning
 abbrev pub position_text : Count → ℕ → List ℕ
-position_text count position = elim (slice_get (labels count) (position / 80)) [ None ↦ [] | Some label ↦ text_of label ]
+position_text count position = elim (slice_get (labels count) (position / 80))
+    [ None ↦ [] | Some label ↦ text_of label ]
     ++ codes "+" ++ two_digits (position % 80)
 
 -- the line of a step

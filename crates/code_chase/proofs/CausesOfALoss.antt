@@ -290,7 +290,8 @@ cause laws over has_line label seed bound frames (suc i) line loss is have on at
       before = row;
       at = here;
       is = is_cause label.count after.frame row loss told (λ stay.
-          let reads = reads_on_at laws label.count bound seed frames i row next after.frame on here later after.there stay.on stay.has in
+          let reads = reads_on_at laws label.count bound seed frames i row next after.frame on here later after.there
+          stay.on stay.has in
           let kept = over loop rows i row next (traced (loop_at loop rows i) row) line (on_the_day laws label is)
           (are_rows laws label.count bound seed (Some Play) frames have) here later reads stay.slip
           (has_line loop rows i row here) left at in
@@ -389,7 +390,8 @@ near_from : (laws : DayLaws) (stays : StaysLocked) (over : HoldsOverASlip) (has_
     → bound ≤ 24 →
     slice_get (code_trace label seed bound frames) first ≡ Some leaves → leaves.report.state ≡ states.Locked →
     (d : ℕ) (line : Traced) → slice_get (code_trace label seed bound frames) (first + d) ≡ Some line → IsNear line
-near_from laws stays over has_line label seed bound frames first leaves is have on whole small at_first locked zero line at =
+near_from laws stays over has_line label seed bound frames first leaves is have on whole small at_first locked zero line
+    at =
     let here : slice_get (code_trace label seed bound frames) first ≡ Some line =
     subst (λ n. slice_get (code_trace label seed bound frames) n ≡ Some line) (omega arith) at in
     let kept = stays (starts_at label) (rows_of label.count seed bound frames) first first first leaves line
@@ -412,11 +414,13 @@ near_from laws stays over has_line label seed bound frames first leaves is have 
     let (row, now) = row_before rows i next later in
     let before = traced (loop_at loop rows i) row in
     let at_before = has_line loop rows i row now in
-    let near = near_from laws stays over has_line label seed bound frames first leaves is have on whole small at_first locked d before at_before in
+    let near = near_from laws stays over has_line label seed bound frames first leaves is have on whole small at_first
+    locked d before at_before in
     let after = row_at label.count bound seed (Some Play) frames (suc i) next later in
     let slip = whole_slip label.count bound seed 24 frames i row small now in
     let stay = stays_whole label.count after.frame row (whole i after.frame after.there) slip in
-    let reads = reads_on_at laws label.count bound seed frames i row next after.frame on now later after.there stay.on stay.has in
+    let reads = reads_on_at laws label.count bound seed frames i row next after.frame on now later after.there stay.on
+    stay.has in
     let kept = over loop rows i row next before line (on_the_day laws label is)
     (are_rows laws label.count bound seed (Some Play) frames have) now later reads slip at_before near.0 here in
     (kept.0, near_step (unsigned_abs line.report.error) (unsigned_abs row.slip) kept.2 slip)
@@ -428,7 +432,8 @@ pub whole_near : (laws : DayLaws) (stays : StaysLocked) (over : HoldsOverASlip) 
     slice_get (code_trace label seed bound frames) first ≡ Some leaves → leaves.report.state ≡ states.Locked →
     first ≤ j → slice_get (code_trace label seed bound frames) j ≡ Some line →
     (line.report.state ≡ states.Locked) × (unsigned_abs line.report.error ≤ 40)
-whole_near laws stays over has_line label seed bound frames first j leaves line is have on whole small at_first locked least at =
+whole_near laws stays over has_line label seed bound frames first j leaves line is have on whole small at_first locked
+    least at =
     let there : slice_get (code_trace label seed bound frames) (first + (j - first)) ≡ Some line =
     subst (λ n. slice_get (code_trace label seed bound frames) n ≡ Some line) (omega (arith, least)) at in
     near_from laws stays over has_line label seed bound frames first leaves is have on whole small at_first locked
@@ -446,7 +451,8 @@ whole_nearer laws stays label seed bound frames first j leaves line is have on w
     let after = row_at label.count bound seed (Some Play) frames (suc i) next later in
     let slip = whole_slip label.count bound seed 8 frames i row small here in
     let stay = stays_whole label.count after.frame row (whole i after.frame after.there) (omega (arith, slip)) in
-    steadily label.count row next (reads_on_at laws label.count bound seed frames i row next after.frame on here later after.there stay.on stay.has) slip in
+    steadily label.count row next (reads_on_at laws label.count bound seed frames i row next after.frame on here later
+    after.there stay.on stay.has) slip in
     let kept = stays (starts_at label) rows first j j leaves line (on_the_day laws label is)
     (are_rows laws label.count bound seed (Some Play) frames have) steady at_first locked least (omega arith) at in
     kept.2

@@ -50,7 +50,8 @@ none_is_apart zero frame is = one_of (Invented (label_at 1) Forward 1 3_840) fra
     brings_code : ¬ BringsNoCode C25 (Invented (label_at 1) Forward 1 3_840)
     brings_code (inl gone) = gone
     brings_code (inr other) = other refl
-none_is_apart (suc zero) frame is = one_of (Heard (label_at 2) Forward true 5_760) frame is (brings_code, λ apart. absurd cc)
+none_is_apart (suc zero) frame is = one_of (Heard (label_at 2) Forward true 5_760) frame is
+    (brings_code, λ apart. absurd cc)
   where
     brings_code : ¬ BringsNoCode C25 (Heard (label_at 2) Forward true 5_760)
     brings_code (inl gone) = gone

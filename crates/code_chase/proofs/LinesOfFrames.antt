@@ -13,4 +13,5 @@ pub trace_on-more : (chase : CodeLoop) (frames : List Frame) (frame : Frame) →
     trace_on chase (frames ++ frame ∷ []) ≡ trace_on chase frames ++ next_line (after_frames chase frames) frame ∷ []
 unfolding trace rows_from
 trace_on-more chase [] frame = refl
-trace_on-more chase (first ∷ more) frame = ap (λ lines. next_line chase first ∷ lines) (trace_on-more (after_frame chase first) more frame)
+trace_on-more chase (first ∷ more) frame = ap (λ lines. next_line chase first ∷ lines)
+    (trace_on-more (after_frame chase first) more frame)

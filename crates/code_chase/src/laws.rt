@@ -36,7 +36,8 @@ pub fn each_loss_has_a_cause()
         → IsLabel label → HaveLabels frames → GoOn None frames
         → slice_get (code_trace label seed bound frames) j ≡ Some line → line.report.loss ≡ Some loss
         → HasCauseOfLoss label seed bound frames j loss }
-    ensures no_code { (label : Address) (seed bound : ℕ) (frames : List Frame) (i : ℕ) (leaves line : Traced) (frame : Frame)
+    ensures no_code { (label : Address) (seed bound : ℕ) (frames : List Frame) (i : ℕ) (leaves line : Traced)
+        (frame : Frame)
         → slice_get (code_trace label seed bound frames) i ≡ Some leaves → leaves.report.state ≡ states.Locked
         → slice_get frames (suc i) ≡ Some frame → BringsNoCode label.count frame
         → slice_get (code_trace label seed bound frames) (suc i) ≡ Some line → line.report.loss ≡ Some losses.NoCode }

@@ -9,8 +9,7 @@ use std::test::Fail;
 use tc_address::text;
 use tc_job::{
     ChaseRun, Jam, Job, LabelRun, LineStripe, PathSlicing, Slicing, SoundLevel, Task, TrackPath,
-    WaveSlicing,
-    Witness, WordsFault,
+    WaveSlicing, Witness, WordsFault,
 };
 use tc_words::read_words;
 
@@ -281,13 +280,7 @@ fn best_paths_of_tracks_are_read(rt: HostRuntime) -> Result<(), Fail> {
     let alloc = rt.alloc();
     for (line, track, least_rate, rate, grid) in [
         ("wav-ltc 24 1 250 path", 1, 3_360, 3_360, Grid::Repeat(8)),
-        (
-            "wav-ltc 25 64 1 path",
-            64,
-            3_500,
-            48_000,
-            Grid::Repeat(1),
-        ),
+        ("wav-ltc 25 64 1 path", 64, 3_500, 48_000, Grid::Repeat(1)),
         (
             "wav-ltc 30 2 32767 path",
             2,
@@ -301,7 +294,10 @@ fn best_paths_of_tracks_are_read(rt: HostRuntime) -> Result<(), Fail> {
         };
         assert_eq!(rt; path.track(), track, "at {line}");
         assert_eq!(rt; path.least_rate(), least_rate, "at {line}");
-        assert!(rt; path.sound(least_rate - 1).is_none(), "below the least rate of {line}");
+        assert!(rt;
+            path.sound(least_rate - 1).is_none(),
+            "below the least rate of {line}"
+        );
         let Some(sound) = path.sound(rate) else {
             return Err("no sound".into());
         };

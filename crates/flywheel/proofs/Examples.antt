@@ -1,4 +1,5 @@
--- The frames of a word that is heard once: so many invented ones, and the end where the next one should have been heard.
+-- The frames of a word that is heard once: so many invented ones, and the end where the next one should have been
+-- heard.
 use Rattle.std.proofs.Common.{◌≡◌, [], ◌∷◌, false, refl}
 use Rattle.tc_address.specs.declared.count.Count.TheVariants.{C25}
 use Rattle.tc_address.specs.declared.direction.Direction.TheVariants.{Forward}
@@ -20,6 +21,7 @@ not_due_yet : frames 1 (word ∷ []) 1_149 ≡ Heard (address C25 10 0 0 0) Forw
 unfolding word
 not_due_yet = refl
 
-due : frames 1 (word ∷ []) 1_150 ≡ Heard (address C25 10 0 0 0) Forward false 1_000 ∷ Invented (label_after word 1) Forward 1 1_100 ∷ []
+due : frames 1 (word ∷ []) 1_150 ≡ Heard (address C25 10 0 0 0) Forward false 1_000 ∷ Invented (label_after word 1)
+    Forward 1 1_100 ∷ []
 unfolding word
 due = refl

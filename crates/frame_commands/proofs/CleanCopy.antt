@@ -1,5 +1,7 @@
--- What is written of an input is a clean recording: the frames of its words have labels of its system, so each of them is read back.
-use Rattle.std.proofs.Common.{◌≡◌, ℕ, ◌≤◌, Bool, true, false, List, [], ◌∷◌, ◌∙◌, Some, None, refl, sym, subst, append-nil}
+-- What is written of an input is a clean recording: the frames of its words have labels of its system, so each of
+-- them is read back.
+use Rattle.std.proofs.Common.{◌≡◌, ℕ, ◌≤◌, Bool, true, false, List, [], ◌∷◌, ◌∙◌, Some, None, refl, sym, subst}
+use Rattle.std.proofs.Common.{append-nil}
 use Rattle.std.proofs.Common.{arith}
 use Rattle.std.specs.Prelude.{sum}
 use Rattle.std.specs.declared.option.Option.{Option}
@@ -27,7 +29,8 @@ use Rattle.tc_job.specs.Jam.{IsJamming, Jamming}
 use Rattle.tc_job.specs.declared.witness.Witness.{Witness}
 use Rattle.frame_commands.specs.Heard.{AreHeard}
 use Rattle.interval_engine.specs.KeptBehind.{IsWholeBehind}
-use Rattle.frame_commands.specs.LtcJam.{CleansTheInput, IsClean, clean_file, clean_header, clean_intervals, clean_recording}
+use Rattle.frame_commands.specs.LtcJam.{CleansTheInput, IsClean, clean_file, clean_header, clean_intervals}
+use Rattle.frame_commands.specs.LtcJam.{clean_recording}
 use Rattle.frame_commands.specs.OfFrames.{frames_of, words_heard}
 use Rattle.interval_file.specs.KeptIntervals.{ShapesAreIntervals, in_range}
 use Rattle.frame_commands.proofs.MarkedLines.{FramesLaws}
@@ -40,7 +43,8 @@ pub record CleanLaws : Type 1 where
   pub intervals : ShapesAreIntervals
   pub events : (witness : Witness) (system : System) (profile : Profile) (list : List ℕ) (es : List Event)
       → AreHeard witness system profile list es → AreEventsOf system es
-  pub frames : (system : System) (limit : ℕ) (words : List HeardWord) (last : ℕ) → AreHeardOf system words → AreFramesOf system (frames limit words last)
+  pub frames : (system : System) (limit : ℕ) (words : List HeardWord) (last : ℕ) → AreHeardOf system words
+      → AreFramesOf system (frames limit words last)
   pub heard : FramesLaws
 
 -- the words that are heard are those of the events
@@ -57,17 +61,20 @@ in_file laws j fs is =
     let shape : Shape = shape_with j.cell j.cell 0 in
     let is_shape : IsShape shape = record { from = is.cell; to = is.cell; step = omega arith } in
     in_range (clean_intervals j fs)
-    (subst (λ (cells : List Cell). All (λ (x : ℕ). (1 ≤ x) × (x ≤ MAX_INTERVAL)) (flat cells)) (sym (laws.shaped_so j.cell list))
+    (subst (λ (cells : List Cell). All (λ (x : ℕ). (1 ≤ x) × (x ≤ MAX_INTERVAL)) (flat cells))
+    (sym (laws.shaped_so j.cell list))
     (laws.intervals shape list is_shape))
 
-behind : CleanLaws → (j : Jamming) → IsJamming j → (input : Recording) (header : Option IntervalHeader) (written : List ℕ) → input.header ≡ header
+behind : CleanLaws → (j : Jamming) → IsJamming j → (input : Recording) (header : Option IntervalHeader)
+    (written : List ℕ) → input.header ≡ header
     → IsWholeBehind (clean_recording j) header input.intervals written → IsClean j input written
 behind laws j is input None written e whole = absurd whole
 behind laws j is input (Some header) written e whole =
     let fs = frames_of j.flight.limit input.intervals whole.events in
     let some = is.some_ticks in
     let most = is.not_too_fast in
-    let heard = words_are header.system whole.events (laws.events j.flight.witness header.system j.flight.profile input.intervals whole.events whole.are_events) in
+    let heard = words_are header.system whole.events
+    (laws.events j.flight.witness header.system j.flight.profile input.intervals whole.events whole.are_events) in
     let file : IsFile written (clean_header j header) (clean_intervals j fs) = record {
       tick_rate = (omega arith, omega arith);
       range = in_file laws j fs is;
@@ -91,4 +98,5 @@ behind laws j is input (Some header) written e whole =
     }
 
 pub copy_is_clean : CleanLaws → (j : Jamming) → IsJamming j → CleansTheInput j
-copy_is_clean laws j is = λ input written whole. behind laws j is (recording_of input) (recording_of input).header written refl whole
+copy_is_clean laws j is = λ input written whole. behind laws j is (recording_of input) (recording_of input).header
+    written refl whole

@@ -1,6 +1,7 @@
 -- No front of a recording has more frames than the whole, so too many frames stay too many; and those that were given
 -- are all of them.
-use Rattle.std.proofs.Common.{◌≡◌, ℕ, ◌≤◌, List, ◌++◌, length, length-append, Option, Some, None, sym, ◌∙◌, ap, ap₂, subst}
+use Rattle.std.proofs.Common.{◌≡◌, ℕ, ◌≤◌, List, ◌++◌, length, length-append, Option, Some, None, sym, ◌∙◌, ap, ap₂}
+use Rattle.std.proofs.Common.{subst}
 use Rattle.std.proofs.Common.{arith}
 use Rattle.direction_reader.specs.declared.event.Event.{Event}
 use Rattle.flywheel.specs.declared.frame.Frame.{Frame}
@@ -27,7 +28,8 @@ pub flight_spent_stays : FrameLaws → (witness : Witness) (flight : Flight) (ma
     → IsFlightSpent witness flight made header (intervals ++ more)
 flight_spent_stays laws witness flight made header intervals more spent =
     let all = (laws.heard witness).some_yet header.system flight.profile (intervals ++ more) in
-    let goes = (laws.heard witness).more header.system flight.profile intervals more spent.events all.0 spent.until all.1
+    let goes = (laws.heard witness).more header.system flight.profile intervals more spent.events all.0 spent.until
+    all.1
     spent.are_events all.2 in
     let first = frames_first laws flight.limit spent.events all.0 spent.until all.1 goes in
     let own = frames_until flight.limit spent.events spent.until in

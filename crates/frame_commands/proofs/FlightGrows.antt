@@ -23,7 +23,8 @@ use Rattle.tc_job.specs.declared.witness.Witness.{Witness}
 use Rattle.frame_commands.specs.declared.frames.Frames.{Frames}
 use Rattle.frame_commands.specs.Heard.{AreHeard, AreHeardYet}
 use Rattle.frame_commands.specs.Hearing.{Hearer, HearsOn, due_at}
-use Rattle.frame_commands.specs.KeptFlight.{Counts, CountsAll, GivesAll, GivesDue, GivesFirst, Sends, SendsFront, Stands}
+use Rattle.frame_commands.specs.KeptFlight.{Counts, CountsAll, GivesAll, GivesDue, GivesFirst, Sends, SendsFront}
+use Rattle.frame_commands.specs.KeptFlight.{Stands}
 use Rattle.frame_commands.specs.OfFrames.{FrameText, IsFlightPart, IsFlightWhole, frames_of, frames_until, heard_in}
 use Rattle.frame_commands.specs.OfFrames.{words_heard}
 use Rattle.frame_commands.proofs.FramesInOrder.{Given}
@@ -207,7 +208,8 @@ flown_end witness flight made has h f next sink after choice header intervals wr
             ∙ sym (count_by-append is_heard s.given more);
         invented = counts.invented ∙ ap (λ (n : ℕ). n + count_by is_invented more) s.invented
             ∙ sym (count_by-append is_invented s.given more);
-        gone = counts.gone ∙ ap (λ (n : ℕ). n + count_by is_gone more) s.gone ∙ sym (count_by-append is_gone s.given more);
+        gone = counts.gone ∙ ap (λ (n : ℕ). n + count_by is_gone more) s.gone
+            ∙ sym (count_by-append is_gone s.given more);
       };
       bytes = sent.1.0;
       sent = sent.1.2;
@@ -228,7 +230,8 @@ pub flown_end_part : {S C : Type 0} (witness : Witness) (flight : C → Flight) 
     → Stands witness flight made has h f sink choice header intervals written → Ends witness h own
     → words ≡ words_heard own → h.until ≤ due_at words h.tick → GivesFirst f.wheel h.tick words more
     → SendsFront made has sink old new more
-    → (first last : List ℕ) × IsFlightWhole witness (flight choice) (made choice) header intervals (written ++ (first ++ last))
+    → (first last : List ℕ) × IsFlightWhole witness (flight choice) (made choice) header intervals
+    (written ++ (first ++ last))
     × AppendsFront old new first
 flown_end_part witness flight made has h f sink choice header intervals written own words more old new s ends is before
     gives sends =
@@ -246,7 +249,8 @@ flown_end_part witness flight made has h f sink choice header intervals written 
         events = s.events ++ own;
         are_events = heard_all witness flight made has h f sink choice header intervals written own s ends;
         are = sym (append_assoc written sent.0 last)
-            ∙ ap (λ (l : List ℕ). l ++ last) (ap (λ (l : List ℕ). l ++ sent.0) s.are ∙ sym sent.1 ∙ ap text (sym whole));
+            ∙ ap (λ (l : List ℕ). l ++ last) (ap (λ (l : List ℕ). l ++ sent.0) s.are ∙ sym sent.1
+            ∙ ap text (sym whole));
       },
       sent.2,
     )

@@ -1,6 +1,8 @@
--- What is made of the frames of some intervals comes first, whatever intervals follow: later words are heard later, so the frames up to the end of
+-- What is made of the frames of some intervals comes first, whatever intervals follow: later words are heard later,
+-- so the frames up to the end of
 -- those intervals come first, and each sink of frames only adds to what it wrote.
-use Rattle.std.proofs.Common.{◌≡◌, ℕ, zero, suc, ◌+◌, ◌<◌, ◌≤◌, List, [], ◌∷◌, ◌++◌, length, take, refl, sym, ◌∙◌, ap, subst, arith}
+use Rattle.std.proofs.Common.{◌≡◌, ℕ, zero, suc, ◌+◌, ◌<◌, ◌≤◌, List, [], ◌∷◌, ◌++◌, length, take, refl, sym, ◌∙◌, ap}
+use Rattle.std.proofs.Common.{subst, arith}
 use Rattle.std.proofs.Common.{append_assoc, append-nil}
 use Rattle.std.specs.Prelude.{sum, All}
 use Rattle.std.specs.List.{flat_map}
@@ -77,7 +79,8 @@ frames_first laws limit events all until now goes =
 lines_are_added : IsAddedTo lines_of_frames
 lines_are_added header fs more = (flat_map frame_line more, flat_map-append frame_line fs more)
 
-messages_are_added : ((fs more : List Frame) → (rest : List ℕ) × (mtc_of (fs ++ more) ≡ mtc_of fs ++ rest)) → IsAddedTo messages_of_frames
+messages_are_added : ((fs more : List Frame) → (rest : List ℕ) × (mtc_of (fs ++ more) ≡ mtc_of fs ++ rest))
+    → IsAddedTo messages_of_frames
 messages_are_added law header fs more = law fs more
 
 cells_are_added : FrameByFrame → (j : Jamming) → IsAddedTo (file_of_frames j)
@@ -85,7 +88,8 @@ cells_are_added law j header fs more = (bytes_of_frames j.cell more, file_grows 
 
 -- ---- the steps of a chase
 
-steps_added : TraceLaws → (c : Chasing) (fs more : List Frame) → (rest : List Traced) × (steps_over c (fs ++ more) ≡ steps_over c fs ++ rest)
+steps_added : TraceLaws → (c : Chasing) (fs more : List Frame) → (rest : List Traced)
+    × (steps_over c (fs ++ more) ≡ steps_over c fs ++ rest)
 steps_added laws c fs [] = ([], ap (steps_over c) (append-nil fs) ∙ sym (append-nil (steps_over c fs)))
 steps_added laws c fs (frame ∷ more) =
     let first = laws.line c.label c.seed c.bound fs frame in
@@ -100,15 +104,19 @@ lines_added count step [] more = (step_lines count step more, refl)
 lines_added count step (line ∷ lines) more =
     let rest = lines_added count (step + 1) lines more in (
       rest.0,
-      ap (λ l. step_line count step line ++ l) rest.1 ∙ sym (append_assoc (step_line count step line) (step_lines count (step + 1) lines) rest.0),
+      ap (λ l. step_line count step line ++ l) rest.1
+          ∙ sym (append_assoc (step_line count step line) (step_lines count (step + 1) lines) rest.0),
     )
 
 steps_are_added : TraceLaws → (c : Chasing) → IsAddedTo (lines_of_steps c)
 steps_are_added laws c header fs more =
     let first = first_items MAX_FRAMES fs more in
     let steps = steps_added laws c (take MAX_FRAMES fs) first.0 in
-    let lines = lines_added c.label.count 1 (steps_over c (take MAX_FRAMES fs)) steps.0 in
-    (lines.0, ap (λ l. step_lines c.label.count 1 (steps_over c l)) first.1 ∙ ap (step_lines c.label.count 1) steps.1 ∙ lines.1)
+    let lines = lines_added c.label.count 1 (steps_over c (take MAX_FRAMES fs)) steps.0 in (
+      lines.0,
+      ap (λ l. step_lines c.label.count 1 (steps_over c l)) first.1 ∙ ap (step_lines c.label.count 1) steps.1
+          ∙ lines.1,
+    )
 
 -- behind the limit of frames nothing is added
 no_step_more : (c : Chasing) (header : IntervalHeader) (fs more : List Frame) → MAX_FRAMES < length fs
@@ -132,7 +140,8 @@ spans_in_order law = record {
   none_more = λ header fs more many. absurd many;
 }
 
-pub messages_in_order : ((fs more : List Frame) → (rest : List ℕ) × (mtc_of (fs ++ more) ≡ mtc_of fs ++ rest)) → AddsInOrder messages_of_frames
+pub messages_in_order : ((fs more : List Frame) → (rest : List ℕ) × (mtc_of (fs ++ more) ≡ mtc_of fs ++ rest))
+    → AddsInOrder messages_of_frames
 messages_in_order law = record { added = messages_are_added law; none_more = λ header fs more many. absurd many }
 
 pub cells_in_order : FrameByFrame → (j : Jamming) → AddsInOrder (file_of_frames j)

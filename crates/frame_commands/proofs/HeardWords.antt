@@ -1,5 +1,6 @@
 -- The words of what an interval brought are two at most, and they come in turn.
-use Rattle.std.proofs.Common.{◌≡◌, ℕ, ◌^◌, ◌<◌, ◌≤◌, ◌*◌, ◌+◌, List, [], ◌∷◌, ◌++◌, length, length-append, ◌∙◌, ap, arith, map, refl}
+use Rattle.std.proofs.Common.{◌≡◌, ℕ, ◌^◌, ◌<◌, ◌≤◌, ◌*◌, ◌+◌, List, [], ◌∷◌, ◌++◌, length, length-append, ◌∙◌, ap}
+use Rattle.std.proofs.Common.{arith, map, refl}
 use Rattle.std.proofs.Common.{append-nil, false, sym, Bool, true}
 use Rattle.std.specs.Prelude.{IfSome, Some, None, All}
 use Rattle.std.specs.declared.option.Option.{Option}
@@ -74,7 +75,8 @@ at_in_range tick (word ∷ more) all =
     All-cons IsInRange word more (All-head (IsHeardAt tick) word more all).1
     (at_in_range tick more (All-tail (IsHeardAt tick) word more all))
 
-pub in_range : (n tick : ℕ) (own : Events) → tick < 2 ^ 60 → Brings n tick own → All IsInRange (words_heard (event_list own))
+pub in_range : (n tick : ℕ) (own : Events) → tick < 2 ^ 60 → Brings n tick own
+    → All IsInRange (words_heard (event_list own))
 in_range n tick own below brings = at_in_range tick (words_heard (event_list own)) (words_at n tick own below brings)
 
 at_in_turn : (from tick : ℕ) (words : List HeardWord) → from ≤ tick → All (IsHeardAt tick) words

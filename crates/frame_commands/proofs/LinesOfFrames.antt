@@ -11,18 +11,22 @@ use Rattle.frame_commands.specs.LtcFly.{frame_lines, last_fly_line}
 pub lines_and_one : (fs : List Frame) (frame : Frame) (line : List ℕ) → line ≡ frame_line frame
     → frame_lines (fs ++ frame ∷ []) ≡ frame_lines fs ++ line
 lines_and_one fs frame line is =
-    flat_map-append frame_line fs (frame ∷ []) ∙ ap (λ (l : List ℕ). frame_lines fs ++ l) (append-nil (frame_line frame) ∙ sym is)
+    flat_map-append frame_line fs (frame ∷ [])
+    ∙ ap (λ (l : List ℕ). frame_lines fs ++ l) (append-nil (frame_line frame) ∙ sym is)
 
 -- and then those of more
 pub lines_and_more : (fs : List Frame) (frame : Frame) (rest : List Frame) (line : List ℕ) → line ≡ frame_line frame
     → frame_lines (fs ++ frame ∷ rest) ≡ frame_lines fs ++ (line ++ frame_lines rest)
 lines_and_more fs frame rest line is =
-    flat_map-append frame_line fs (frame ∷ rest) ∙ ap (λ (l : List ℕ). frame_lines fs ++ (l ++ frame_lines rest)) (sym is)
+    flat_map-append frame_line fs (frame ∷ rest) ∙ ap (λ (l : List ℕ). frame_lines fs ++ (l ++ frame_lines rest))
+    (sym is)
 
 -- the same numbers give the same line
-same_line : (i h v g t i' h' v' g' t' : ℕ) → i ≡ i' → h ≡ h' → v ≡ v' → g ≡ g' → t ≡ t' → fly_end_line i h v g t ≡ fly_end_line i' h' v' g' t'
+same_line : (i h v g t i' h' v' g' t' : ℕ) → i ≡ i' → h ≡ h' → v ≡ v' → g ≡ g' → t ≡ t'
+    → fly_end_line i h v g t ≡ fly_end_line i' h' v' g' t'
 same_line i h v g t i' h' v' g' t' same_i same_h same_v same_g same_t =
-    ap (λ (n : ℕ). fly_end_line n h v g t) same_i ∙ ap (λ (n : ℕ). fly_end_line i' n v g t) same_h ∙ ap (λ (n : ℕ). fly_end_line i' h' n g t) same_v
+    ap (λ (n : ℕ). fly_end_line n h v g t) same_i ∙ ap (λ (n : ℕ). fly_end_line i' n v g t) same_h
+    ∙ ap (λ (n : ℕ). fly_end_line i' h' n g t) same_v
     ∙ ap (λ (n : ℕ). fly_end_line i' h' v' n t) same_g ∙ ap (λ (n : ℕ). fly_end_line i' h' v' g' n) same_t
 
 pub last_line_is : (f : Frames) (count ticks : ℕ) (intervals : List ℕ) (fs : List Frame) (line : List ℕ)

@@ -19,8 +19,10 @@ pub record FramesLaws : Type 0 where
   pub heard : (limit last : ℕ) (words : List HeardWord) → words_in (frames limit words last) ≡ map word_of words
   pub tape : HearTheTape
 
-behind : FramesLaws → (flight : Flight) (bytes written : List ℕ) (header : Option IntervalHeader) → (recording_of bytes).header ≡ header
-    → IsWholeBehind (flown_recording flight) header (recording_of bytes).intervals written → ShowsTheFrames flight bytes written
+behind : FramesLaws → (flight : Flight) (bytes written : List ℕ) (header : Option IntervalHeader)
+    → (recording_of bytes).header ≡ header
+    → IsWholeBehind (flown_recording flight) header (recording_of bytes).intervals written
+    → ShowsTheFrames flight bytes written
 behind laws flight bytes written None begins is = absurd is
 behind laws flight bytes written (Some header) begins is =
     let intervals = (recording_of bytes).intervals in
@@ -37,6 +39,7 @@ behind laws flight bytes written (Some header) begins is =
       tape = laws.tape flight.witness header.system flight.profile intervals is.events is.are_events;
     }
 
-pub shows_the_frames : FramesLaws → (flight : Flight) (bytes written : List ℕ) → IsWholeOf (flown_recording flight) (recording_of bytes) written
+pub shows_the_frames : FramesLaws → (flight : Flight) (bytes written : List ℕ)
+    → IsWholeOf (flown_recording flight) (recording_of bytes) written
     → ShowsTheFrames flight bytes written
 shows_the_frames laws flight bytes written output = behind laws flight bytes written _ refl output

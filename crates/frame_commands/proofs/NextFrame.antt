@@ -1,6 +1,7 @@
 -- The next frame of an interval is the first of those that are still to come, since the words that wait come later.
 use Rattle.std.proofs.Common.{◌≡◌, ℕ, ◌^◌, ◌<◌, ◌≤◌, List, [], ◌∷◌, ◌++◌, ◌∙◌, ap, arith, refl, sym}
-use Rattle.std.proofs.Common.{append_assoc, append-nil, length, length-append, subst, ◌+◌, ◌-◌, ◌*◌, Bool, true, false, inl, inr}
+use Rattle.std.proofs.Common.{append_assoc, append-nil, length, length-append, subst, ◌+◌, ◌-◌, ◌*◌, Bool, true, false}
+use Rattle.std.proofs.Common.{inl, inr}
 use Rattle.std.proofs.lemmas.Bool.Decides.{nat_tests}
 use Rattle.std.proofs.lemmas.Bool.{cases_lt}
 use Rattle.std.specs.Prelude.{All, IfSome, None, Option, Some}

@@ -13,7 +13,8 @@ use Rattle.frame_commands.proofs.MarkedLines.{FramesLaws}
 
 behind : FramesLaws → (flight : Flight) (bytes written : List ℕ) (header : Option IntervalHeader)
     → (recording_of bytes).header ≡ header
-    → IsWholeBehind (time_code flight) header (recording_of bytes).intervals written → SendsTheWords flight bytes written
+    → IsWholeBehind (time_code flight) header (recording_of bytes).intervals written
+    → SendsTheWords flight bytes written
 behind laws flight bytes written None begins is = absurd is
 behind laws flight bytes written (Some header) begins is =
     let intervals = (recording_of bytes).intervals in

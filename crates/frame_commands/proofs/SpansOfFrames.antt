@@ -28,31 +28,42 @@ unfolding final_behind frames_of_spans
 no_lines rate system = refl
 
 -- the lines with the header's rate and system are those with the rate and system that are kept
-same_cut : (rate own : ℕ) (system its : System) (cut : Cut) → rate ≡ own → system ≡ its → cut_lines own its cut ≡ cut_lines rate system cut
+same_cut : (rate own : ℕ) (system its : System) (cut : Cut) → rate ≡ own → system ≡ its
+    → cut_lines own its cut ≡ cut_lines rate system cut
 same_cut rate own system its cut r s = sym (ap₂ (λ (n : ℕ) (y : System). cut_lines n y cut) r s)
 
 -- a frame adds the lines of what it tells
-pub cut_added : (tape : Tape) (rate : ℕ) (system : System) (header : IntervalHeader) (frames : List Frame) (frame : Frame) (cut : Cut)
+pub cut_added : (tape : Tape) (rate : ℕ) (system : System) (header : IntervalHeader) (frames : List Frame)
+    (frame : Frame) (cut : Cut)
     → HasTold tape rate system header frames
     → final_lines header.tick_rate header.system (frames ++ frame ∷ [])
     ≡ final_lines header.tick_rate header.system frames ++ cut_lines header.tick_rate header.system cut
-    → final_lines header.tick_rate header.system (frames ++ frame ∷ []) ≡ final_lines header.tick_rate header.system frames ++ cut_lines rate system cut
+    → final_lines header.tick_rate header.system (frames ++ frame ∷ []) ≡ final_lines header.tick_rate header.system
+    frames ++ cut_lines rate system cut
 cut_added tape rate system header frames frame cut told lines =
-    lines ∙ ap (λ (l : List ℕ). final_lines header.tick_rate header.system frames ++ l) (same_cut rate _ system _ cut told.rate_is told.system_is)
+    lines ∙ ap (λ (l : List ℕ). final_lines header.tick_rate header.system frames ++ l)
+    (same_cut rate _ system _ cut told.rate_is told.system_is)
 
 -- and whatever frames follow, these come next
-pub cut_first : FinalLinesFirst → (header : IntervalHeader) (frames : List Frame) (frame : Frame) (rest : List Frame) (lines : List ℕ)
-    → final_lines header.tick_rate header.system (frames ++ frame ∷ []) ≡ final_lines header.tick_rate header.system frames ++ lines
+pub cut_first : FinalLinesFirst → (header : IntervalHeader) (frames : List Frame) (frame : Frame) (rest : List Frame)
+    (lines : List ℕ)
+    → final_lines header.tick_rate header.system (frames ++ frame ∷ []) ≡ final_lines header.tick_rate header.system
+    frames ++ lines
     → (more : List ℕ) × (final_lines header.tick_rate header.system (frames ++ (frame ∷ [] ++ rest))
     ≡ final_lines header.tick_rate header.system frames ++ (lines ++ more))
 cut_first law header frames frame rest lines added =
     let all = final_lines header.tick_rate header.system in
-    let later = law header.tick_rate header.system (frames ++ frame ∷ []) rest in
-    (later.0, ap all (sym (append_assoc frames (frame ∷ []) rest)) ∙ later.1 ∙ ap (λ (l : List ℕ). l ++ later.0) added ∙ append_assoc (all frames) lines later.0)
+    let later = law header.tick_rate header.system (frames ++ frame ∷ []) rest in (
+      later.0,
+      ap all (sym (append_assoc frames (frame ∷ []) rest)) ∙ later.1 ∙ ap (λ (l : List ℕ). l ++ later.0) added
+          ∙ append_assoc (all frames) lines later.0,
+    )
 
 -- the line of the open span, with the header's rate and system
-pub open_is : (tape : Tape) (rate : ℕ) (system : System) (header : IntervalHeader) (frames : List Frame) (first : List ℕ)
-    → HasTold tape rate system header frames → open_line rate system frames ≡ first → first ≡ open_line header.tick_rate header.system frames
+pub open_is : (tape : Tape) (rate : ℕ) (system : System) (header : IntervalHeader) (frames : List Frame)
+    (first : List ℕ)
+    → HasTold tape rate system header frames → open_line rate system frames ≡ first
+    → first ≡ open_line header.tick_rate header.system frames
 open_is tape rate system header frames first told opened =
     sym opened ∙ ap₂ (λ (n : ℕ) (y : System). open_line n y frames) told.rate_is told.system_is
 

@@ -37,8 +37,10 @@ pub record SpansLaws : Type 0 where
   pub spans_order : (first last : ℕ) (fs : List Frame) → DoNotFall first (heard_ticks fs) last
       → DoNotFall first (span_ticks (spans fs)) last
 
-behind : SpansLaws → (flight : Flight) (bytes written : List ℕ) (header : Option IntervalHeader) → (recording_of bytes).header ≡ header
-    → IsWholeBehind (spanned_recording flight) header (recording_of bytes).intervals written → ShowsTheSpans flight bytes written
+behind : SpansLaws → (flight : Flight) (bytes written : List ℕ) (header : Option IntervalHeader)
+    → (recording_of bytes).header ≡ header
+    → IsWholeBehind (spanned_recording flight) header (recording_of bytes).intervals written
+    → ShowsTheSpans flight bytes written
 behind laws flight bytes written None begins is = absurd is
 behind laws flight bytes written (Some header) begins is =
     let intervals = (recording_of bytes).intervals in
@@ -55,7 +57,8 @@ behind laws flight bytes written (Some header) begins is =
       are_events = is.are_events;
       frames = fs;
       are_frames = refl;
-      are = is.are ∙ sym (append_assoc (final_lines header.tick_rate header.system fs) (open_line header.tick_rate header.system fs) last)
+      are = is.are ∙ sym (append_assoc (final_lines header.tick_rate header.system fs)
+          (open_line header.tick_rate header.system fs) last)
           ∙ ap (λ (l : List ℕ). l ++ last) (laws.last header.tick_rate header.system fs);
       heard = heard;
       all = laws.all fs on;
@@ -66,6 +69,7 @@ behind laws flight bytes written (Some header) begins is =
       tape = tape;
     }
 
-pub shows_the_spans : SpansLaws → (flight : Flight) (bytes written : List ℕ) → IsWholeOf (spanned_recording flight) (recording_of bytes) written
+pub shows_the_spans : SpansLaws → (flight : Flight) (bytes written : List ℕ)
+    → IsWholeOf (spanned_recording flight) (recording_of bytes) written
     → ShowsTheSpans flight bytes written
 shows_the_spans laws flight bytes written output = behind laws flight bytes written _ refl output

@@ -33,7 +33,8 @@ first_steps most c frames = steps_over c (take most frames)
 abbrev pub lines_of_steps : Chasing → FrameText
 lines_of_steps c = record {
   text = λ header frames. step_lines c.label.count 1 (first_steps MAX_FRAMES c frames);
-  last = λ header intervals frames. step_end_line (length (first_steps MAX_FRAMES c frames)) (count_by loses (first_steps MAX_FRAMES c frames));
+  last = λ header intervals frames. step_end_line (length (first_steps MAX_FRAMES c frames))
+      (count_by loses (first_steps MAX_FRAMES c frames));
   most = Some MAX_FRAMES;
 }
 
@@ -84,7 +85,8 @@ pub record FollowsTheCode (c : Chasing) (input : Recording) (written : List ℕ)
   pub all : ¬ IsSpentOf (chased_recording c) input → (yet : List Event) (until : ℕ)
       → AreHeardYet c.flight.witness header.system c.flight.profile input.intervals yet until
       → length (frames_until c.flight.limit yet until) ≤ MAX_FRAMES
-  pub text : written ≡ trace_text c.label.count (first_steps MAX_FRAMES c (frames_of c.flight.limit input.intervals events))
+  pub text : written ≡ trace_text c.label.count
+      (first_steps MAX_FRAMES c (frames_of c.flight.limit input.intervals events))
   pub lock : LosesWithCause c (take MAX_FRAMES (frames_of c.flight.limit input.intervals events))
 
 -- what is written of a whole input is

@@ -22,7 +22,8 @@ frame_lines fs = flat_map frame_line fs
 -- the last line counts the intervals, the frames of each kind and the ticks
 abbrev pub last_fly_line : List ℕ → List Frame → List ℕ
 last_fly_line intervals fs =
-    fly_end_line (length intervals) (count_by is_heard fs) (count_by is_invented fs) (count_by is_gone fs) (sum intervals)
+    fly_end_line (length intervals) (count_by is_heard fs) (count_by is_invented fs) (count_by is_gone fs)
+    (sum intervals)
 
 -- the lines of the frames, and the last line
 abbrev pub lines_of_frames : FrameText

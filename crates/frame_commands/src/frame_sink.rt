@@ -1,6 +1,7 @@
 //! What a command makes of the frames of a recording. Read next: `ltc_fly`, `ltc_spans`, `ltc_mtc`, `jam` and
 //! `ltc_chase`.
-ghost use Rattle.std.specs.Prelude.{◌≡◌, ℕ, true, false, List, [], ◌∷◌, ◌++◌, ◌+◌, ◌-◌, ◌*◌, ◌<◌, ◌≤◌, ◌^◌, OnOk, OnErr};
+ghost use Rattle.std.specs.Prelude.{◌≡◌, ℕ, true, false, List, [], ◌∷◌, ◌++◌, ◌+◌, ◌-◌, ◌*◌, ◌<◌, ◌≤◌, ◌^◌, OnOk};
+ghost use Rattle.std.specs.Prelude.{OnErr};
 ghost use Rattle.std.specs.Prelude.{IfOk, IfErr};
 ghost use Rattle.std.specs.Io.KnownBytes.{Appends};
 ghost use Rattle.limits.specs.declared.recording.TheConstants.{MAX_INTERVALS};
@@ -60,7 +61,8 @@ pub(crate) trait FrameSink: Drop {
         requires line { FitsFrameLine frame.now }
         requires room { taken self.old < 2 ^ 40 - 1 }
         ensures taken { taken self.new ≤ taken self.old + 1 }
-        ensures sends { OnOk result (Sends made given self.old self.new (K.written out.old) (K.written out.new) (frame.now ∷ [])) }
+        ensures sends { OnOk result
+            (Sends made given self.old self.new (K.written out.old) (K.written out.new) (frame.now ∷ [])) }
         ensures front { OnErr result
             (SendsFront made given self.old (K.written out.old) (K.written out.new) (frame.now ∷ [])) }
         ensures why { IfErr result (λ stop. stop ≡ Stop.WriteFault) }
@@ -86,12 +88,15 @@ pub(crate) trait FrameSink: Drop {
         requires room { taken self.now < 2 ^ 40 }
         requires count { intervals ≤ MAX_INTERVALS }
         requires below { ticks < 2 ^ 60 }
-        ensures ends { OnOk result ((choice : Self.Choice) (header : IntervalHeader) (list : List ℕ) (given_frames : List Frame)
+        ensures ends { OnOk result
+            ((choice : Self.Choice) (header : IntervalHeader) (list : List ℕ) (given_frames : List Frame)
             → given self.now choice header given_frames → CountsAll frames.now intervals ticks list given_frames
             → Appends (K.written out.old) (K.written out.new) (FrameText.last (made choice) header list given_frames)) }
-        ensures front { OnErr result ((choice : Self.Choice) (header : IntervalHeader) (list : List ℕ) (given_frames : List Frame)
+        ensures front { OnErr result
+            ((choice : Self.Choice) (header : IntervalHeader) (list : List ℕ) (given_frames : List Frame)
             → given self.now choice header given_frames → CountsAll frames.now intervals ticks list given_frames
-            → AppendsFront (K.written out.old) (K.written out.new) (FrameText.last (made choice) header list given_frames)) }
+            → AppendsFront (K.written out.old) (K.written out.new)
+            (FrameText.last (made choice) header list given_frames)) }
         ensures why { IfErr result (λ stop. stop ≡ Stop.WriteFault) }
         ensures cause { HasOutCause (K.faults out.old) (K.faults out.new) result };
 }

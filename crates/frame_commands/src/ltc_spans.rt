@@ -114,8 +114,10 @@ impl SpanLines {
     /// Writes the line of a span, if there is one.
     fn push_span<K: Sink>(&self, span: Option<Span>, out: &mut K) -> Result<(), Stop>
         requires { IfSome span FitsSpan }
-        ensures all { OnOk result (Appends (K.written out.old) (K.written out.new) (ended_lines self.now.tick_rate self.now.system span)) }
-        ensures front { OnErr result (AppendsFront (K.written out.old) (K.written out.new) (ended_lines self.now.tick_rate self.now.system span)) }
+        ensures all { OnOk result
+            (Appends (K.written out.old) (K.written out.new) (ended_lines self.now.tick_rate self.now.system span)) }
+        ensures front { OnErr result
+            (AppendsFront (K.written out.old) (K.written out.new) (ended_lines self.now.tick_rate self.now.system span)) }
         ensures why { IfErr result (λ stop. stop ≡ Stop.WriteFault) }
         ensures cause { HasOutCause (K.faults out.old) (K.faults out.new) result }
     {
@@ -128,8 +130,10 @@ impl SpanLines {
     /// Writes what a frame tells: the span that ended, and the gap behind it.
     fn push_cut<K: Sink>(&self, cut: Cut, out: &mut K) -> Result<(), Stop>
         requires { FitsCut cut }
-        ensures all { OnOk result (Appends (K.written out.old) (K.written out.new) (cut_lines self.now.tick_rate self.now.system cut)) }
-        ensures front { OnErr result (AppendsFront (K.written out.old) (K.written out.new) (cut_lines self.now.tick_rate self.now.system cut)) }
+        ensures all { OnOk result
+            (Appends (K.written out.old) (K.written out.new) (cut_lines self.now.tick_rate self.now.system cut)) }
+        ensures front { OnErr result
+            (AppendsFront (K.written out.old) (K.written out.new) (cut_lines self.now.tick_rate self.now.system cut)) }
         ensures why { IfErr result (λ stop. stop ≡ Stop.WriteFault) }
         ensures cause { HasOutCause (K.faults out.old) (K.faults out.new) result }
     {

@@ -13,28 +13,34 @@ use Rattle.interval_commands.specs.declared.ltc_read.Report.{Report}
 use Rattle.direction_reader.specs.Events.{listed, is_word, is_refused, is_lost}
 use Rattle.interval_commands.specs.KeptReport.{counted, all_counted, FitLines}
 
-pub words-all_counted : (events : List Event) (r : Report) → (all_counted events r).words ≡ r.words + count_by is_word events
+pub words-all_counted : (events : List Event) (r : Report) → (all_counted events r).words ≡ r.words + count_by is_word
+    events
 words-all_counted [] r = omega arith
 words-all_counted (Word d w t l ∷ more) r = let rest = words-all_counted more (counted (Word d w t l) r) in
-    let one : count_by is_word (Word d w t l ∷ more) ≡ 1 + count_by is_word more = sum_by-cons (λ (e : Event). cond (is_word e) 1 0) (Word d w t l)
+    let one : count_by is_word (Word d w t l ∷ more) ≡ 1 + count_by is_word more =
+    sum_by-cons (λ (e : Event). cond (is_word e) 1 0) (Word d w t l)
     more in omega arith
 words-all_counted (Refused d f t ∷ more) r = words-all_counted more (counted (Refused d f t) r)
 words-all_counted (Lost p t ∷ more) r = words-all_counted more (counted (Lost p t) r)
 
-pub refused-all_counted : (events : List Event) (r : Report) → (all_counted events r).refused ≡ r.refused + count_by is_refused events
+pub refused-all_counted : (events : List Event) (r : Report) → (all_counted events r).refused ≡ r.refused + count_by
+    is_refused events
 refused-all_counted [] r = omega arith
 refused-all_counted (Word d w t l ∷ more) r = refused-all_counted more (counted (Word d w t l) r)
 refused-all_counted (Refused d f t ∷ more) r = let rest = refused-all_counted more (counted (Refused d f t) r) in
-    let one : count_by is_refused (Refused d f t ∷ more) ≡ 1 + count_by is_refused more = sum_by-cons (λ (e : Event). cond (is_refused e) 1 0)
+    let one : count_by is_refused (Refused d f t ∷ more) ≡ 1 + count_by is_refused more =
+    sum_by-cons (λ (e : Event). cond (is_refused e) 1 0)
     (Refused d f t) more in omega arith
 refused-all_counted (Lost p t ∷ more) r = refused-all_counted more (counted (Lost p t) r)
 
-pub lost-all_counted : (events : List Event) (r : Report) → (all_counted events r).lost ≡ r.lost + count_by is_lost events
+pub lost-all_counted : (events : List Event) (r : Report) → (all_counted events r).lost ≡ r.lost + count_by is_lost
+    events
 lost-all_counted [] r = omega arith
 lost-all_counted (Word d w t l ∷ more) r = lost-all_counted more (counted (Word d w t l) r)
 lost-all_counted (Refused d f t ∷ more) r = lost-all_counted more (counted (Refused d f t) r)
 lost-all_counted (Lost p t ∷ more) r = let rest = lost-all_counted more (counted (Lost p t) r) in
-    let one : count_by is_lost (Lost p t ∷ more) ≡ 1 + count_by is_lost more = sum_by-cons (λ (e : Event). cond (is_lost e) 1 0) (Lost p t) more in omega arith
+    let one : count_by is_lost (Lost p t ∷ more) ≡ 1 + count_by is_lost more =
+    sum_by-cons (λ (e : Event). cond (is_lost e) 1 0) (Lost p t) more in omega arith
 
 -- events that are counted behind others
 pub all_counted-append : (events more : List Event) (r : Report)

@@ -77,14 +77,26 @@ counted_more c events more counts =
     let refused = counts.refused in
     let lost = counts.lost in
     record {
-      words = omega (arith, words, words_all more c, sum_by-append (λ (x : FirmEvent). cond (tells_word x) 1 0) events more);
+      words = omega (
+        arith,
+        words,
+        words_all more c,
+        sum_by-append (λ (x : FirmEvent). cond (tells_word x) 1 0) events
+            more,
+      );
       refused = omega (
         arith,
         refused,
         refused_all more c,
         sum_by-append (λ (x : FirmEvent). cond (tells_refused x) 1 0) events more,
       );
-      lost = omega (arith, lost, lost_all more c, sum_by-append (λ (x : FirmEvent). cond (tells_lost x) 1 0) events more);
+      lost = omega (
+        arith,
+        lost,
+        lost_all more c,
+        sum_by-append (λ (x : FirmEvent). cond (tells_lost x) 1 0) events
+            more,
+      );
     }
 
 -- an event, where there is one, counts one

@@ -1,6 +1,8 @@
--- What was printed grows by the lines of what is told with an interval, and the last line counts all of it. What is told
+-- What was printed grows by the lines of what is told with an interval, and the last line counts all of it. What is
+-- told
 -- of some intervals comes first, whatever intervals follow.
-use Rattle.std.proofs.Common.{◌≡◌, ℕ, ◌+◌, ◌≤◌, List, [], ◌∷◌, ◌++◌, sym, ◌∙◌, ap, refl, subst, append_assoc, append-nil}
+use Rattle.std.proofs.Common.{◌≡◌, ℕ, ◌+◌, ◌≤◌, List, [], ◌∷◌, ◌++◌, sym, ◌∙◌, ap, refl, subst, append_assoc}
+use Rattle.std.proofs.Common.{append-nil}
 use Rattle.std.proofs.Common.{Option}
 use Rattle.std.proofs.lemmas.Grind.{flat_map-append}
 use Rattle.biphase.specs.declared.profile.Profile.{Profile}
@@ -59,7 +61,8 @@ more_told law own reader next counts profile header intervals written x told s t
       told = all;
       stands = stands;
       are_told = subst (λ (p : Profile). AreTold header.system p (intervals ++ x ∷ []) all (told_until next)) keeps
-          (subst (λ (y : System). AreTold y (profile_of next.tracker) (intervals ++ x ∷ []) all (told_until next)) system
+          (subst (λ (y : System). AreTold y (profile_of next.tracker) (intervals ++ x ∷ []) all (told_until next))
+          system
           (law next _ all stands));
       are = ap (λ (h : IntervalHeader). written ++ firm_lines h (firm_list told)) s.says
           ∙ ap (λ (l : List ℕ). l ++ firm_lines header (firm_list told)) s.are
@@ -118,14 +121,16 @@ pub record ToldLaws : Type 0 where
 pub firm_report_in_order : ToldLaws → (profile : Profile) → PrintsInOrder (firm_report profile)
 firm_report_in_order laws profile = record {
   part = λ header front more a b one all.
-      let first = laws.more header.system profile front more one.events all.events one.until all.until one.are_told all.are_told in
+      let first = laws.more header.system profile front more one.events all.events one.until all.until one.are_told
+      all.are_told in
       let rest = firm_lines header first.rest in (
         rest,
         all.are ∙ ap (firm_lines header) first.are ∙ flat_map-append (firm_event_line header) one.events first.rest
             ∙ ap (λ (l : List ℕ). l ++ rest) (sym one.are),
       );
   whole = λ header front more a b one all.
-      let first = laws.all header.system profile front more one.events all.events one.until one.are_told all.are_events in
+      let first = laws.all header.system profile front more one.events all.events one.until one.are_told all.are_events
+      in
       let rest = firm_lines header first.rest in
       let longer : firm_lines header all.events ≡ firm_lines header one.events ++ rest =
       ap (firm_lines header) first.are ∙ flat_map-append (firm_event_line header) one.events first.rest in
@@ -145,7 +150,8 @@ firm_report_in_order laws profile = record {
       one.are ∙ ap (firm_lines header) same.0 ∙ sym all.are;
   one_whole = λ header intervals a b one all.
       let whole = λ (es : List FirmEvent). firm_lines header es ++ firm_last_line intervals es in
-      one.are ∙ ap whole (laws.one_list header.system profile intervals _ _ one.are_events all.are_events) ∙ sym all.are;
+      one.are ∙ ap whole (laws.one_list header.system profile intervals _ _ one.are_events all.are_events)
+      ∙ sym all.are;
   stays = λ header front more spent. spent;
   limit = λ header front more a b spent one all. absurd spent;
 }

@@ -76,7 +76,8 @@ one_report one_list profile bytes a b p q =
     let events = one_behind (λ (h : IntervalHeader) (es : List FirmEvent). AreFirmEvents h.system profile list es)
     (λ h. one_list h.system profile list) p.header q.header one.events two.events header one.are_events
     two.are_events in
-    one.are ∙ ap₂ (λ (h : IntervalHeader) (es : List FirmEvent). firm_lines h es ++ firm_last_line list es) header events
+    one.are ∙ ap₂ (λ (h : IntervalHeader) (es : List FirmEvent). firm_lines h es ++ firm_last_line list es) header
+    events
     ∙ sym two.are
 
 pub firm_report_is_told : FirmLaws → (profile : Profile) → IsLawful (told_ltc_firm profile)

@@ -40,8 +40,10 @@ front_of_first header events old new front =
     subst (λ (l : List ℕ). AppendsFront old new l) (sym (lines_of_both header events)) (front_of_more old new _ _ front)
 
 -- one interval more
-pub more_printed : (r next : Report) (profile : Profile) (header : IntervalHeader) (intervals written : List ℕ) (x : ℕ) (own : Events)
-    (old new : Option (List ℕ)) → Stands r profile header intervals written → next.header ≡ r.header → Takes r.reader x next.reader → Feeds r next x own
+pub more_printed : (r next : Report) (profile : Profile) (header : IntervalHeader) (intervals written : List ℕ) (x : ℕ)
+    (own : Events)
+    (old new : Option (List ℕ)) → Stands r profile header intervals written → next.header ≡ r.header
+    → Takes r.reader x next.reader → Feeds r next x own
     → Prints r next (event_list own) old new
     → ((reader : ReaderState) (intervals : List ℕ) (events : List Event) → StandsFor reader intervals events
     → AreEvents reader.system (profile_of reader.tracker) intervals events)
@@ -58,8 +60,10 @@ more_printed r next profile header intervals written x own old new s same takes 
       events = all;
       reader = reader;
       are_events = subst (λ (p : Profile). AreEvents header.system p (intervals ++ x ∷ []) all) keeps
-          (subst (λ (y : System). AreEvents y (profile_of next.reader.tracker) (intervals ++ x ∷ []) all) system (law next.reader _ all reader));
-      are = ap (λ (h : IntervalHeader). written ++ lines h (event_list own)) s.says ∙ lines_of_more header s.events (event_list own) written s.are;
+          (subst (λ (y : System). AreEvents y (profile_of next.reader.tracker) (intervals ++ x ∷ []) all) system
+          (law next.reader _ all reader));
+      are = ap (λ (h : IntervalHeader). written ++ lines h (event_list own)) s.says
+          ∙ lines_of_more header s.events (event_list own) written s.are;
       words = prints.words ∙ ap (λ (n : ℕ). n + count_by is_word (event_list own)) s.words
           ∙ sym (count_by-append is_word s.events (event_list own));
       refused = prints.refused ∙ ap (λ (n : ℕ). n + count_by is_refused (event_list own)) s.refused
@@ -69,7 +73,8 @@ more_printed r next profile header intervals written x own old new s same takes 
     }
 
 -- the part that is due with one interval more
-pub part_of_more : (r next : Report) (profile : Profile) (header : IntervalHeader) (intervals written : List ℕ) (x : ℕ) (own : Events)
+pub part_of_more : (r next : Report) (profile : Profile) (header : IntervalHeader) (intervals written : List ℕ) (x : ℕ)
+    (own : Events)
     → Stands r profile header intervals written → Takes r.reader x next.reader → Feeds r next x own
     → ((reader : ReaderState) (intervals : List ℕ) (events : List Event) → StandsFor reader intervals events
     → AreEvents reader.system (profile_of reader.tracker) intervals events)
@@ -78,25 +83,31 @@ part_of_more r next profile header intervals written x own s takes feeds law =
     let all = s.events ++ event_list own in
     record {
       events = all;
-      are_events = subst (λ (p : Profile). AreEvents header.system p (intervals ++ x ∷ []) all) (takes.profile ∙ s.keeps)
-          (subst (λ (y : System). AreEvents y (profile_of next.reader.tracker) (intervals ++ x ∷ []) all) (takes.system ∙ s.system)
+      are_events = subst (λ (p : Profile). AreEvents header.system p (intervals ++ x ∷ []) all)
+          (takes.profile ∙ s.keeps)
+          (subst (λ (y : System). AreEvents y (profile_of next.reader.tracker) (intervals ++ x ∷ []) all)
+          (takes.system ∙ s.system)
           (law next.reader _ all (feeds.stands intervals s.events s.reader)));
-      are = ap (λ (h : IntervalHeader). written ++ lines h (event_list own)) s.says ∙ lines_of_more header s.events (event_list own) written s.are;
+      are = ap (λ (h : IntervalHeader). written ++ lines h (event_list own)) s.says
+          ∙ lines_of_more header s.events (event_list own) written s.are;
     }
 
 -- the same numbers give the same line
-pub same_line : (i w r l t i' w' r' l' t' : ℕ) → i ≡ i' → w ≡ w' → r ≡ r' → l ≡ l' → t ≡ t' → read_end_line i w r l t ≡ read_end_line i' w' r' l' t'
+pub same_line : (i w r l t i' w' r' l' t' : ℕ) → i ≡ i' → w ≡ w' → r ≡ r' → l ≡ l' → t ≡ t'
+    → read_end_line i w r l t ≡ read_end_line i' w' r' l' t'
 same_line i w r l t i' w' r' l' t' same_i same_w same_r same_l same_t =
     ap (λ (n : ℕ). read_end_line n w r l t) same_i ∙ ap (λ (n : ℕ). read_end_line i' n r l t) same_w
     ∙ ap (λ (n : ℕ). read_end_line i' w' n l t) same_r ∙ ap (λ (n : ℕ). read_end_line i' w' r' n t) same_l
     ∙ ap (λ (n : ℕ). read_end_line i' w' r' l' n) same_t
 
-pub ends_with : (r : Report) (profile : Profile) (header : IntervalHeader) (intervals written line : List ℕ) → Stands r profile header intervals written
+pub ends_with : (r : Report) (profile : Profile) (header : IntervalHeader) (intervals written line : List ℕ)
+    → Stands r profile header intervals written
     → line ≡ read_end_line r.reader.intervals r.words r.refused r.lost r.reader.tick
     → IsReadWhole profile header intervals (written ++ line)
 ends_with r profile header intervals written line s is = record {
   events = s.events;
   are_events = s.are_events;
-  are = ap (λ (l : List ℕ). written ++ l) (is ∙ same_line _ _ _ _ _ _ _ _ _ _ s.reader.count s.words s.refused s.lost s.reader.sum_is)
+  are = ap (λ (l : List ℕ). written ++ l)
+      (is ∙ same_line _ _ _ _ _ _ _ _ _ _ s.reader.count s.words s.refused s.lost s.reader.sum_is)
       ∙ ap (λ (l : List ℕ). l ++ last_line intervals s.events) s.are;
 }

@@ -24,8 +24,10 @@ use Rattle.interval_commands.proofs.SoundGrows.{one_run, with_last}
 
 -- what the laws of events say
 pub record EventLaws : Type 0 where
-  pub some : (system : System) (profile : Profile) (intervals : List ℕ) → (events : List Event) × AreEvents system profile intervals events
-  pub first : (system : System) (profile : Profile) (front more : List ℕ) (events all : List Event) → AreEvents system profile front events
+  pub some : (system : System) (profile : Profile) (intervals : List ℕ) → (events : List Event)
+      × AreEvents system profile intervals events
+  pub first : (system : System) (profile : Profile) (front more : List ℕ) (events all : List Event)
+      → AreEvents system profile front events
       → AreEvents system profile (front ++ more) all → (rest : List Event) × (all ≡ events ++ rest)
   pub one : (system : System) (profile : Profile) (intervals : List ℕ) (events others : List Event)
       → AreEvents system profile intervals events → AreEvents system profile intervals others → events ≡ others
@@ -44,15 +46,19 @@ report_in_order laws profile = record {
       ap (lines header) events.1 ∙ flat_map-append (event_line header) one.events events.0 in
       let last = last_line (front ++ more) all.events in
       subst (IsFront a) (sym all.are)
-      (front_of_more a (lines header all.events) (lines header events.0) last (longer ∙ ap (λ l. l ++ lines header events.0) (sym one.are)));
+      (front_of_more a (lines header all.events) (lines header events.0) last
+      (longer ∙ ap (λ l. l ++ lines header events.0) (sym one.are)));
   some_part = λ header intervals.
       let events = laws.some header.system profile intervals in
       (lines header events.0, record { events = events.0; are_events = events.1; are = refl });
   some_whole = λ header intervals.
-      let events = laws.some header.system profile intervals in
-      (lines header events.0 ++ last_line intervals events.0, record { events = events.0; are_events = events.1; are = refl });
+      let events = laws.some header.system profile intervals in (
+        lines header events.0 ++ last_line intervals events.0,
+        record { events = events.0; are_events = events.1; are = refl },
+      );
   one_part = λ header intervals a b one all.
-      one.are ∙ ap (λ (es : List Event). lines header es) (laws.one header.system profile intervals _ _ one.are_events all.are_events) ∙ sym all.are;
+      one.are ∙ ap (λ (es : List Event). lines header es)
+      (laws.one header.system profile intervals _ _ one.are_events all.are_events) ∙ sym all.are;
   one_whole = λ header intervals a b one all.
       let whole = λ (es : List Event). lines header es ++ last_line intervals es in
       one.are ∙ ap whole (laws.one header.system profile intervals _ _ one.are_events all.are_events) ∙ sym all.are;
@@ -67,8 +73,10 @@ same_front a b c d same too front = (front.0, too ∙ front.1 ∙ ap (λ l. l ++
 
 pub conversion_in_order : (version : FileVersion) → PrintsInOrder (conversion version)
 conversion_in_order version = record {
-  part = λ header front more a b one all. same_front a b _ _ one all (file_first (in_version version header) front more);
-  whole = λ header front more a b one all. same_front a b _ _ one all (file_first (in_version version header) front more);
+  part = λ header front more a b one all. same_front a b _ _ one all
+      (file_first (in_version version header) front more);
+  whole = λ header front more a b one all. same_front a b _ _ one all
+      (file_first (in_version version header) front more);
   some_part = λ header intervals. (_, refl);
   some_whole = λ header intervals. (_, refl);
   one_part = λ header intervals a b one all. one ∙ sym all;
@@ -79,9 +87,13 @@ conversion_in_order version = record {
 
 -- ---- a sound
 
-runs_first : (size : ℕ) (xs more : List ℕ) → IsFront (bytes_of (but_the_last (sound size xs))) (bytes_of (but_the_last (sound size (xs ++ more))))
-runs_first size xs [] =
-    ([], ap (λ l. bytes_of (but_the_last (sound size l))) (append-nil xs) ∙ sym (append-nil (bytes_of (but_the_last (sound size xs)))))
+runs_first : (size : ℕ) (xs more : List ℕ) → IsFront (bytes_of (but_the_last (sound size xs)))
+    (bytes_of (but_the_last (sound size (xs ++ more))))
+runs_first size xs [] = (
+  [],
+  ap (λ l. bytes_of (but_the_last (sound size l))) (append-nil xs)
+      ∙ sym (append-nil (bytes_of (but_the_last (sound size xs)))),
+)
 runs_first size xs (x ∷ more) =
     let rest = runs_first size (xs ++ x ∷ []) more in
     let joined : xs ++ x ∷ more ≡ (xs ++ x ∷ []) ++ more = sym (append_assoc xs (x ∷ []) more) in (
@@ -96,7 +108,8 @@ sound_in_order size = record {
   whole = λ header front more a b one all.
       let runs = runs_first size front more in
       subst (IsFront a) (sym (all ∙ sym (with_last size (front ++ more))))
-      (front_of_more a (bytes_of (but_the_last (sound size (front ++ more)))) runs.0 _ (runs.1 ∙ ap (λ l. l ++ runs.0) (sym one)));
+      (front_of_more a (bytes_of (but_the_last (sound size (front ++ more)))) runs.0 _
+      (runs.1 ∙ ap (λ l. l ++ runs.0) (sym one)));
   some_part = λ header intervals. (_, refl);
   some_whole = λ header intervals. (_, refl);
   one_part = λ header intervals a b one all. one ∙ sym all;

@@ -31,7 +31,8 @@ pub record TellTheTape : Type 0 where
       → MirrorsTheTape system profile intervals events mirrored
 
 behind : TellTheTape → (profile : Profile) (bytes written : List ℕ) (header : Option IntervalHeader)
-    → (recording_of bytes).header ≡ header → IsWholeBehind (report profile) header (recording_of bytes).intervals written
+    → (recording_of bytes).header ≡ header → IsWholeBehind (report profile) header (recording_of bytes).intervals
+    written
     → ReportsTheTape profile bytes written
 behind tell profile bytes written None begins is = absurd is
 behind tell profile bytes written (Some header) begins is = record {
@@ -64,8 +65,10 @@ one_report one_list profile bytes a b p q =
     let two = q.whole in
     let header = one_header (recording_of bytes) p.header q.header p.begins q.begins in
     let events = one_behind (λ (h : IntervalHeader) (es : List Event). AreEvents h.system profile list es)
-    (λ h. one_list h.system profile list) p.header q.header one.events two.events header one.are_events two.are_events in
-    one.are ∙ ap₂ (λ (h : IntervalHeader) (es : List Event). lines h es ++ last_line list es) header events ∙ sym two.are
+    (λ h. one_list h.system profile list) p.header q.header one.events two.events header one.are_events two.are_events
+    in
+    one.are ∙ ap₂ (λ (h : IntervalHeader) (es : List Event). lines h es ++ last_line list es) header events
+    ∙ sym two.are
 
 pub report_is_lawful : RecordingsGrow → ((profile : Profile) → PrintsInOrder (report profile)) → HaveOneList
     → (profile : Profile) → IsLawful (told_ltc_read profile)

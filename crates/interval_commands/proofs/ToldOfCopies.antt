@@ -22,7 +22,8 @@ one_conversion : AreOneFile → (version : FileVersion) (bytes a b : List ℕ) �
     → ConvertsTheFile version bytes b → a ≡ b
 one_conversion one version bytes a b p q =
     let same = one bytes p.header q.header p.intervals q.intervals p.from q.from in
-    p.to.are ∙ ap₂ (λ (h : IntervalHeader) (xs : List ℕ). file_of (in_version version h) xs) same.0 same.1 ∙ sym q.to.are
+    p.to.are ∙ ap₂ (λ (h : IntervalHeader) (xs : List ℕ). file_of (in_version version h) xs) same.0 same.1
+    ∙ sym q.to.are
 
 -- what a conversion writes of an input is the file of its recording
 abbrev pub KeepTheRecording : Type 0

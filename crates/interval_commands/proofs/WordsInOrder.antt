@@ -1,6 +1,7 @@
 -- Where whole words are played one after another in one direction, each of them has its witness, so a report that asks
 -- for witnesses is the one that asks for none.
-use Rattle.std.proofs.Common.{◌≡◌, ℕ, ◌+◌, List, [], ◌∷◌, ◌++◌, map, false, true, refl, sym, ◌∙◌, ap, ap₂, Bool, cond, count_by, arith}
+use Rattle.std.proofs.Common.{◌≡◌, ℕ, ◌+◌, List, [], ◌∷◌, ◌++◌, map, false, true, refl, sym, ◌∙◌, ap, ap₂, Bool, cond}
+use Rattle.std.proofs.Common.{count_by, arith}
 use Rattle.std.specs.Prelude.{drop, take}
 use Rattle.std.proofs.lemmas.List.Sums.{sum_by-cons}
 use Rattle.biphase.specs.declared.cell.Cell.{Cell}
@@ -18,7 +19,8 @@ use Rattle.interval_file.specs.declared.header.IntervalHeader.{IntervalHeader}
 use Rattle.report_text.specs.Texts.{event_line, read_end_line}
 use Rattle.tc_address.specs.declared.direction.Direction.{Direction}
 use Rattle.tc_address.specs.declared.system.System.{System}
-use Rattle.interval_commands.specs.FirmReport.{firm_last_line, firm_lines, IsFirmWhole, tells_lost, tells_refused, tells_word}
+use Rattle.interval_commands.specs.FirmReport.{firm_last_line, firm_lines, IsFirmWhole, tells_lost, tells_refused}
+use Rattle.interval_commands.specs.FirmReport.{tells_word}
 use Rattle.interval_commands.specs.LtcRead.{IsReadWhole, last_line, lines}
 use Rattle.interval_commands.proofs.LinesGrow.{same_line}
 

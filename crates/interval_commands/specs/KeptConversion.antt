@@ -8,7 +8,8 @@ use Rattle.interval_commands.specs.declared.ltc_convert.Conversion.{Conversion}
 use Rattle.interval_commands.specs.LtcConvert.{in_version, IsConverted}
 
 -- what was written, and then what is gathered, are the file of the intervals
-pub record Stands (c : Conversion) (version : FileVersion) (header : IntervalHeader) (intervals written : List ℕ) : Type 0 where
+pub record Stands (c : Conversion) (version : FileVersion) (header : IntervalHeader) (intervals written : List ℕ) : Type
+    0 where
   pub keeps : c.version ≡ version
   pub are : written ++ c.gathered.room.items ≡ file_of (in_version version header) intervals
 

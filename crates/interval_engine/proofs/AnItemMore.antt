@@ -1,6 +1,8 @@
--- What an item of an interval file does to a command along it: nothing, a header or an interval more leaves it standing, and else this is
+-- What an item of an interval file does to a command along it: nothing, a header or an interval more leaves it
+-- standing, and else this is
 -- why it stops, whatever bytes follow.
-use Rattle.std.proofs.Common.{◌≡◌, ℕ, inl, inr, ◌+◌, ◌-◌, ◌<◌, ◌≤◌, List, [], ◌∷◌, ◌++◌, length, take, drop, Ok, Err, Bool, true, false, Some, None}
+use Rattle.std.proofs.Common.{◌≡◌, ℕ, inl, inr, ◌+◌, ◌-◌, ◌<◌, ◌≤◌, List, [], ◌∷◌, ◌++◌, length, take, drop, Ok, Err}
+use Rattle.std.proofs.Common.{Bool, true, false, Some, None}
 use Rattle.std.proofs.Common.{refl, sym, ◌∙◌, ap, ap₂, subst, append_assoc, append-nil, fold, arith, length-append}
 use Rattle.std.specs.Prelude.{nat_lt, if◌then◌else◌}
 use Rattle.std.proofs.lemmas.List.{take-append-drop}
@@ -19,7 +21,8 @@ use Rattle.interval_file.specs.declared.header.FileVersion.TheVariants.{One, Two
 use Rattle.interval_file.specs.IntervalFile.{after, answer}
 use Rattle.interval_file.specs.Piece.{MayBeWhole}
 use Rattle.interval_file.specs.Progress.{Progress}
-use Rattle.interval_file.specs.Decoding.{Decoding, IsBetween, ReadsWhatIsSaid, decoded, decoding_of, with_byte, with_item}
+use Rattle.interval_file.specs.Decoding.{Decoding, IsBetween, ReadsWhatIsSaid, decoded, decoding_of, with_byte}
+use Rattle.interval_file.specs.Decoding.{with_item}
 use Rattle.interval_file.specs.Decoding.{with_number, with_taken}
 use Rattle.interval_file.specs.Recording.{Recording, recording_of}
 use Rattle.tc_io.specs.Verdict.{Verdict, good, refused, past_limit, verdict_as}
@@ -44,14 +47,17 @@ abbrev pub Relation : Type 0 → Type 0 → Type 1
 Relation B C = B → C → IntervalHeader → List ℕ → List ℕ → Type 0
 
 -- the recording with the item
-completed : (front bytes : List ℕ) (item : Taken) (next : Progress) → Completes front bytes item next → (recording_of front).verdict ≡ good
+completed : (front bytes : List ℕ) (item : Taken) (next : Progress) → Completes front bytes item next
+    → (recording_of front).verdict ≡ good
     → recording_of (front ++ bytes) ≡ with_item (recording_of front) item
 completed front bytes item next is still = is.1 ∙ good_step (recording_of front) item still
 
 -- ---- the command goes on
 
-pub nothing_more : {B C : Type 0} (stands : Relation B C) (decoder next : Progress) (behind : Option B) (count : ℕ) (choice : C)
-    (front bytes written : List ℕ) → Stands stands decoder behind count choice front written → Completes front bytes Nothing next
+pub nothing_more : {B C : Type 0} (stands : Relation B C) (decoder next : Progress) (behind : Option B) (count : ℕ)
+    (choice : C)
+    (front bytes written : List ℕ) → Stands stands decoder behind count choice front written
+    → Completes front bytes Nothing next
     → Stands stands next behind count choice (front ++ bytes) (written ++ [])
 nothing_more stands decoder next behind count choice front bytes written s is =
     let same = completed front bytes Nothing next is s.good in
@@ -59,7 +65,8 @@ nothing_more stands decoder next behind count choice front bytes written s is =
       progress = sym is.0;
       good = ap (λ (r : Recording). r.verdict) same ∙ s.good;
       counts = s.counts ∙ ap (λ (r : Recording). length r.intervals) (sym same);
-      printed = subst (λ (w : List ℕ). Printed stands behind choice (recording_of (front ++ bytes)) w) (sym (append-nil written))
+      printed = subst (λ (w : List ℕ). Printed stands behind choice (recording_of (front ++ bytes)) w)
+          (sym (append-nil written))
           (subst (λ (r : Recording). Printed stands behind choice r written) (sym same) s.printed);
     }
 
@@ -67,14 +74,19 @@ nothing_more stands decoder next behind count choice front bytes written s is =
 with_interval : (r : Recording) (x : ℕ) → length r.intervals < MAX_INTERVALS → with_item r (Interval x) ≡ longer r x
 with_interval r x below = rw (lt-ltb (length r.intervals) MAX_INTERVALS below) refl
 
-one_longer : {B C : Type 0} (stands : Relation B C) (decoder next : Progress) (behind : Option B) (count : ℕ) (choice : C) (x : ℕ)
-    (front bytes written : List ℕ) → Stands stands decoder behind count choice front written → Completes front bytes (Interval x) next
+one_longer : {B C : Type 0} (stands : Relation B C) (decoder next : Progress) (behind : Option B) (count : ℕ)
+    (choice : C) (x : ℕ)
+    (front bytes written : List ℕ) → Stands stands decoder behind count choice front written
+    → Completes front bytes (Interval x) next
     → count < MAX_INTERVALS → recording_of (front ++ bytes) ≡ longer (recording_of front) x
 one_longer stands decoder next behind count choice x front bytes written s is below =
-    completed front bytes (Interval x) next is s.good ∙ with_interval (recording_of front) x (subst (λ (n : ℕ). n < MAX_INTERVALS) s.counts below)
+    completed front bytes (Interval x) next is s.good
+    ∙ with_interval (recording_of front) x (subst (λ (n : ℕ). n < MAX_INTERVALS) s.counts below)
 
-pub an_interval : {B C : Type 0} (stands : Relation B C) (decoder next : Progress) (before behind : Option B) (count now : ℕ) (choice : C) (x : ℕ)
-    (front bytes written after : List ℕ) → Stands stands decoder before count choice front written → Completes front bytes (Interval x) next
+pub an_interval : {B C : Type 0} (stands : Relation B C) (decoder next : Progress) (before behind : Option B)
+    (count now : ℕ) (choice : C) (x : ℕ)
+    (front bytes written after : List ℕ) → Stands stands decoder before count choice front written
+    → Completes front bytes (Interval x) next
     → count < MAX_INTERVALS → now ≡ count + 1 → Printed stands behind choice (longer (recording_of front) x) after
     → Stands stands next behind now choice (front ++ bytes) after
 an_interval stands decoder next before behind count now choice x front bytes written after s is below one printed =
@@ -138,65 +150,86 @@ ends_past said front bytes rest r e =
     and_rest front bytes rest (past_is_all said (front ++ bytes) rest (ap (λ (s : Recording). s.verdict) e)) ∙ e
 
 -- the verdict says nothing of the header and the intervals
-at_verdict : {B C : Type 0} (stands : Relation B C) (behind : Option B) (choice : C) (r : Recording) (v : Verdict IntervalFileFault) (written : List ℕ)
+at_verdict : {B C : Type 0} (stands : Relation B C) (behind : Option B) (choice : C) (r : Recording)
+    (v : Verdict IntervalFileFault) (written : List ℕ)
     → Printed stands behind choice r written → Printed stands behind choice (verdict_now r v) written
 at_verdict stands None choice r v written printed = printed
 at_verdict stands (Some b) choice r v written printed = printed
 
 -- nothing was written any more
-printed_now : {B C : Type 0} (stands : Relation B C) (behind : Option B) (choice : C) (r s : Recording) (v : Verdict IntervalFileFault) (written : List ℕ)
+printed_now : {B C : Type 0} (stands : Relation B C) (behind : Option B) (choice : C) (r s : Recording)
+    (v : Verdict IntervalFileFault) (written : List ℕ)
     → Printed stands behind choice r written → s ≡ verdict_now r v → Printed stands behind choice s (written ++ [])
 printed_now stands behind choice r s v written printed e =
     subst (λ (w : List ℕ). Printed stands behind choice s w) (sym (append-nil written))
-    (subst (λ (t : Recording). Printed stands behind choice t written) (sym e) (at_verdict stands behind choice r v written printed))
+    (subst (λ (t : Recording). Printed stands behind choice t written) (sym e)
+    (at_verdict stands behind choice r v written printed))
 
 -- past the limit
 pub a_limit : ReadsWhatIsSaid → {B C : Type 0} (p : Printing) (stands : Relation B C)
     → (decoder next : Progress) (behind : Option B) (count : ℕ) (choice : C) (x : ℕ) (front bytes rest written : List ℕ)
-    → Stands stands decoder behind count choice front written → Completes front bytes (Interval x) next → count ≡ MAX_INTERVALS
+    → Stands stands decoder behind count choice front written → Completes front bytes (Interval x) next
+    → count ≡ MAX_INTERVALS
     → IsHalt p stands behind choice Limit (front ++ (bytes ++ rest)) (written ++ [])
 a_limit said p stands decoder next behind count choice x front bytes rest written s is full =
     let r = recording_of front in
     let past : with_item r (Interval x) ≡ verdict_now r past_limit =
     rw (le-ltb (length r.intervals) MAX_INTERVALS (let counts = s.counts in omega arith)) refl in
     let now = ends_past said front bytes rest r (completed front bytes (Interval x) next is s.good ∙ past) in
-    inl (ap (λ (t : Recording). verdict_as Intervals t.verdict) now, printed_now stands behind choice r _ past_limit written s.printed now)
+    inl (
+      ap (λ (t : Recording). verdict_as Intervals t.verdict) now,
+      printed_now stands behind choice r _ past_limit
+          written s.printed now,
+    )
 
 -- a fault
 at_fault : ReadsWhatIsSaid → {B C : Type 0} (p : Printing) (stands : Relation B C)
     → (behind : Option B) (choice : C) (f : IntervalFileFault) (front bytes rest written : List ℕ) (below : Bool)
     → Printed stands behind choice (recording_of front) written
     → recording_of (front ++ bytes) ≡ verdict_now (recording_of front) (if below then refused f else past_limit)
-    → IsHalt p stands behind choice (if below then Refused (Intervals f) else Limit) (front ++ (bytes ++ rest)) (written ++ [])
+    → IsHalt p stands behind choice (if below then Refused (Intervals f) else Limit) (front ++ (bytes ++ rest))
+    (written ++ [])
 at_fault said p stands behind choice f front bytes rest written true printed e =
-    let now = ends_refused said front bytes rest f (recording_of front) e in
-    (ap (λ (t : Recording). verdict_as Intervals t.verdict) now, printed_now stands behind choice (recording_of front) _ (refused f) written printed now)
+    let now = ends_refused said front bytes rest f (recording_of front) e in (
+      ap (λ (t : Recording). verdict_as Intervals t.verdict) now,
+      printed_now stands behind choice (recording_of front) _
+          (refused f) written printed now,
+    )
 at_fault said p stands behind choice f front bytes rest written false printed e =
     let now = ends_past said front bytes rest (recording_of front) e in
-    inl (ap (λ (t : Recording). verdict_as Intervals t.verdict) now, printed_now stands behind choice (recording_of front) _ past_limit written printed now)
+    inl (
+      ap (λ (t : Recording). verdict_as Intervals t.verdict) now,
+      printed_now stands behind choice
+          (recording_of front) _ past_limit written printed now,
+    )
 
 pub a_fault : ReadsWhatIsSaid → {B C : Type 0} (p : Printing) (stands : Relation B C)
-    → (decoder next : Progress) (behind : Option B) (count : ℕ) (choice : C) (f : IntervalFileFault) (front bytes rest written : List ℕ)
+    → (decoder next : Progress) (behind : Option B) (count : ℕ) (choice : C) (f : IntervalFileFault)
+    (front bytes rest written : List ℕ)
     → Stands stands decoder behind count choice front written → Completes front bytes (Fault f) next
     → IsHalt p stands behind choice (stop_at count f) (front ++ (bytes ++ rest)) (written ++ [])
 a_fault said p stands decoder next behind count choice f front bytes rest written s is =
-    subst (λ (n : ℕ). IsHalt p stands behind choice (stop_at n f) (front ++ (bytes ++ rest)) (written ++ [])) (sym s.counts)
+    subst (λ (n : ℕ). IsHalt p stands behind choice (stop_at n f) (front ++ (bytes ++ rest)) (written ++ []))
+    (sym s.counts)
     (at_fault said p stands behind choice f front bytes rest written
     (nat_lt (length (recording_of front).intervals) MAX_INTERVALS) s.printed
     (completed front bytes (Fault f) next is s.good))
 
 -- a push that failed: a front of what was due with the item was written
-front_of_part : (m : List ℕ → List ℕ → Type 0) (old new : Option (List ℕ)) (front bytes rest written part : List ℕ) → m (front ++ bytes) (written ++ part)
+front_of_part : (m : List ℕ → List ℕ → Type 0) (old new : Option (List ℕ)) (front bytes rest written part : List ℕ)
+    → m (front ++ bytes) (written ++ part)
     → AppendsFront old new part
     → (more : List ℕ) × Appends old new more
     × ((due whole : List ℕ) × IsFront due (front ++ (bytes ++ rest)) × m due whole × IsFront (written ++ more) whole)
 front_of_part m old new front bytes rest written part is f =
-    let e : written ++ part ≡ (written ++ f.0) ++ f.1.0 = ap (λ (l : List ℕ). written ++ l) f.1.1 ∙ sym (append_assoc written f.0 f.1.0) in
+    let e : written ++ part ≡ (written ++ f.0) ++ f.1.0 = ap (λ (l : List ℕ). written ++ l) f.1.1
+    ∙ sym (append_assoc written f.0 f.1.0) in
     (f.0, f.2, (front ++ bytes, written ++ part, (rest, sym (append_assoc front bytes rest)), is, (f.1.0, e)))
 
 -- of an interval
 pub a_write_fault : {B C : Type 0} (printing : C → Printing) (stands : Relation B C)
-    → (decoder next : Progress) (b : B) (count : ℕ) (choice : C) (x : ℕ) (old new : Option (List ℕ)) (front bytes rest written : List ℕ)
+    → (decoder next : Progress) (b : B) (count : ℕ) (choice : C) (x : ℕ) (old new : Option (List ℕ))
+    (front bytes rest written : List ℕ)
     → Stands stands decoder (Some b) count choice front written → Completes front bytes (Interval x) next
     → IntervalStops (printing choice) stands (Some b) count choice old new x WriteFault
     → Stops (along_intervals (printing choice)) WriteFault old new (front ++ (bytes ++ rest)) written
@@ -208,20 +241,24 @@ a_write_fault printing stands decoder next b count choice x old new front bytes 
 
 -- of a header
 pub a_header_fault : {B C : Type 0} (printing : C → Printing) (stands : Relation B C)
-    → (decoder next : Progress) (before : Option B) (count : ℕ) (choice : C) (header : IntervalHeader) (old new : Option (List ℕ))
+    → (decoder next : Progress) (before : Option B) (count : ℕ) (choice : C) (header : IntervalHeader)
+    (old new : Option (List ℕ))
     (front bytes rest written part : List ℕ) → HasHeader before decoder.taken → decoder.taken + 1 ≡ 12
     → Stands stands decoder before count choice front written → Completes front bytes (Header header) next
     → Printing.part (printing choice) header [] part → AppendsFront old new part
     → Stops (along_intervals (printing choice)) WriteFault old new (front ++ (bytes ++ rest)) written
-a_header_fault printing stands decoder next (Some b) count choice header old new front bytes rest written part has twelve s is begun pushed =
+a_header_fault printing stands decoder next (Some b) count choice header old new front bytes rest written part has
+    twelve s is begun pushed =
     absurd (omega (arith, has, twelve))
-a_header_fault printing stands decoder next None count choice header old new front bytes rest written part has twelve s is begun pushed =
+a_header_fault printing stands decoder next None count choice header old new front bytes rest written part has twelve s
+    is begun pushed =
     let p = s.printed in
     let same = completed front bytes (Header header) next is s.good in
     let first : Recording = record { header = Some header; intervals = []; verdict = (recording_of front).verdict } in
     let begins : recording_of (front ++ bytes) ≡ first = same ∙ rw (p.0, p.1) refl in
     let now : Printing.part (printing choice) header [] (written ++ part) =
-    subst (λ (w : List ℕ). Printing.part (printing choice) header [] w) (ap (λ (w : List ℕ). w ++ part) (sym p.2)) begun in
+    subst (λ (w : List ℕ). Printing.part (printing choice) header [] w) (ap (λ (w : List ℕ). w ++ part) (sym p.2)) begun
+    in
     front_of_part (λ due w. IsPartOf (printing choice) (recording_of due) w) old new front bytes rest written part
     (subst (λ (r : Recording). IsPartOf (printing choice) r (written ++ part)) (sym begins) now) pushed
 
@@ -249,7 +286,8 @@ by_byte said decoder front byte item same says =
 
 -- why an interval stops the command
 pub interval_stops : ReadsWhatIsSaid → {B C : Type 0} (printing : C → Printing) (stands : Relation B C)
-    → (decoder next : Progress) (behind after : Option B) (count : ℕ) (choice : C) (x : ℕ) (old new : Option (List ℕ)) (front bytes rest written : List ℕ)
+    → (decoder next : Progress) (behind after : Option B) (count : ℕ) (choice : C) (x : ℕ) (old new : Option (List ℕ))
+    (front bytes rest written : List ℕ)
     (stop : Stop) → HasHeader behind decoder.taken → 12 ≤ decoder.taken
     → Stands stands decoder behind count choice front written → Completes front bytes (Interval x) next
     → IntervalStops (printing choice) stands behind count choice old new x stop → (stop ≡ Limit → after ≡ behind)
@@ -258,8 +296,10 @@ interval_stops said printing stands decoder next behind now count choice x old n
     Limit has late s is why stays = (
       [],
       why.1,
-      subst (λ (b : Option _). IsHalt (printing choice) stands b choice Limit (front ++ (bytes ++ rest)) (written ++ [])) (sym (stays refl))
-          (a_limit said (printing choice) stands decoder next behind count choice x front bytes rest written s is why.0),
+      subst (λ (b : Option _). IsHalt (printing choice) stands b choice Limit (front ++ (bytes ++ rest))
+          (written ++ [])) (sym (stays refl))
+          (a_limit said (printing choice) stands decoder next behind count choice x front bytes rest written s is
+          why.0),
     )
 interval_stops said printing stands decoder next None now count choice x old new front bytes rest written
     WriteFault has late s is why stays =
@@ -281,14 +321,17 @@ abbrev pub Pushes : {B C : Type 0} → Relation B C → C → Option B → Optio
 Pushes stands choice before after old new = (r : Recording) (written : List ℕ) → Printed stands before choice r written
     → (more : List ℕ) × Appends old new more × Printed stands after choice r (written ++ more)
 
-abbrev pub PushesFront : {B C : Type 0} → Printing → Relation B C → C → Option B → Option (List ℕ) → Option (List ℕ) → Type 0
+abbrev pub PushesFront : {B C : Type 0} → Printing → Relation B C → C → Option B → Option (List ℕ) → Option (List ℕ)
+    → Type 0
 PushesFront p stands choice before old new = (r : Recording) (written : List ℕ) → Printed stands before choice r written
     → (part : List ℕ) × IsPartOf p r (written ++ part) × AppendsFront old new part
 
 -- it was pushed behind what was written before
-both_pushed : {B C : Type 0} (stands : Relation B C) (before after : Option B) (choice : C) (old mid new : Option (List ℕ))
+both_pushed : {B C : Type 0} (stands : Relation B C) (before after : Option B) (choice : C)
+    (old mid new : Option (List ℕ))
     (r : Recording) (written more : List ℕ) → Appends old mid more → Printed stands before choice r (written ++ more)
-    → Pushes stands choice before after mid new → (all : List ℕ) × Appends old new all × Printed stands after choice r (written ++ all)
+    → Pushes stands choice before after mid new → (all : List ℕ) × Appends old new all
+    × Printed stands after choice r (written ++ all)
 both_pushed stands before now choice old mid new r written more first printed pushes =
     let second = pushes r (written ++ more) printed in (
       more ++ second.0,
@@ -298,16 +341,19 @@ both_pushed stands before now choice old mid new r written more first printed pu
 
 -- what was written is the part of the output, where nothing is gathered
 abbrev pub PrintsWell : {B C : Type 0} → Printing → Relation B C → C → Option B → Type 0
-PrintsWell p stands choice after = (r : Recording) (written : List ℕ) → Printed stands after choice r written → IsPartOf p r written
+PrintsWell p stands choice after = (r : Recording) (written : List ℕ) → Printed stands after choice r written
+    → IsPartOf p r written
 
 -- all bytes are a front of themselves
 all_of : (bytes : List ℕ) → IsFront bytes bytes
 all_of bytes = ([], sym (append-nil bytes))
 
 -- the part stands where the command stopped, within a limit of its own
-pub settled_stop : {B C : Type 0} (p : Printing) (stands : Relation B C) (before after : Option B) (choice : C) (stop : Stop)
+pub settled_stop : {B C : Type 0} (p : Printing) (stands : Relation B C) (before after : Option B) (choice : C)
+    (stop : Stop)
     (old mid new : Option (List ℕ)) (pulled written : List ℕ) → (stop ≡ WriteFault → ⊥)
-    → Halts p stands before choice stop old mid pulled written → Pushes stands choice before after mid new → PrintsWell p stands choice after
+    → Halts p stands before choice stop old mid pulled written → Pushes stands choice before after mid new
+    → PrintsWell p stands choice after
     → ((r : Recording) (w : List ℕ) → Printed stands after choice r w → ¬ IsSpentOf p r)
     → Stops (along_intervals p) stop old new pulled written
 settled_stop p stands before now choice (Refused f) old mid new pulled written other h pushes well within =
@@ -319,13 +365,16 @@ settled_stop p stands before now choice Limit old mid new pulled written other (
 settled_stop p stands before now choice Limit old mid new pulled written other (more, first, inr h) pushes well within =
     let all = both_pushed stands before now choice old mid new (recording_of h.0) written more first h.3 pushes in
     (all.0, all.1, inr (h.0, h.1, h.2, well _ _ all.2))
-settled_stop p stands before now choice WriteFault old mid new pulled written other h pushes well within = absurd (other refl)
+settled_stop p stands before now choice WriteFault old mid new pulled written other h pushes well within =
+    absurd (other refl)
 settled_stop p stands before now choice ReadFault old mid new pulled written other h pushes well within = absurd h.2
 
 -- and where it passes a limit of its own, that is why it stops
-pub spent_stop : {B C : Type 0} (p : Printing) (stands : Relation B C) (before after : Option B) (choice : C) (stop : Stop)
+pub spent_stop : {B C : Type 0} (p : Printing) (stands : Relation B C) (before after : Option B) (choice : C)
+    (stop : Stop)
     (old mid new : Option (List ℕ)) (pulled written : List ℕ) → (stop ≡ WriteFault → ⊥)
-    → Halts p stands before choice stop old mid pulled written → Pushes stands choice before after mid new → PrintsWell p stands choice after
+    → Halts p stands before choice stop old mid pulled written → Pushes stands choice before after mid new
+    → PrintsWell p stands choice after
     → ((r : Recording) (w : List ℕ) → Printed stands after choice r w → IsSpentOf p r)
     → Stops (along_intervals p) Limit old new pulled written
 spent_stop p stands before now choice (Refused f) old mid new pulled written other h pushes well past =
@@ -337,12 +386,15 @@ spent_stop p stands before now choice Limit old mid new pulled written other (mo
 spent_stop p stands before now choice Limit old mid new pulled written other (more, first, inr h) pushes well past =
     let all = both_pushed stands before now choice old mid new (recording_of h.0) written more first h.3 pushes in
     (all.0, all.1, inr (h.0, h.1, h.2, well _ _ all.2))
-spent_stop p stands before now choice WriteFault old mid new pulled written other h pushes well past = absurd (other refl)
+spent_stop p stands before now choice WriteFault old mid new pulled written other h pushes well past =
+    absurd (other refl)
 spent_stop p stands before now choice ReadFault old mid new pulled written other h pushes well past = absurd h.2
 
 -- where the push fails, a front of the part stands
-front_pushed : {B C : Type 0} (p : Printing) (stands : Relation B C) (before : Option B) (choice : C) (old mid new : Option (List ℕ))
-    (due pulled written more : List ℕ) → IsFront due pulled → Appends old mid more → Printed stands before choice (recording_of due) (written ++ more)
+front_pushed : {B C : Type 0} (p : Printing) (stands : Relation B C) (before : Option B) (choice : C)
+    (old mid new : Option (List ℕ))
+    (due pulled written more : List ℕ) → IsFront due pulled → Appends old mid more
+    → Printed stands before choice (recording_of due) (written ++ more)
     → PushesFront p stands choice before mid new → Stops (along_intervals p) WriteFault old new pulled written
 front_pushed p stands before choice old mid new due pulled written more comes first printed pushes =
     let second = pushes (recording_of due) (written ++ more) printed in
@@ -355,7 +407,8 @@ front_pushed p stands before choice old mid new due pulled written more comes fi
       (due, (written ++ more) ++ second.0, comes, second.1, (f.1.0, e)),
     )
 
-pub unsettled_stop : {B C : Type 0} (p : Printing) (stands : Relation B C) (before : Option B) (choice : C) (stop : Stop)
+pub unsettled_stop : {B C : Type 0} (p : Printing) (stands : Relation B C) (before : Option B) (choice : C)
+    (stop : Stop)
     (old mid new : Option (List ℕ)) (pulled written : List ℕ) → (stop ≡ WriteFault → ⊥)
     → Halts p stands before choice stop old mid pulled written → PushesFront p stands choice before mid new
     → Stops (along_intervals p) WriteFault old new pulled written
@@ -369,15 +422,18 @@ unsettled_stop p stands before choice WriteFault old mid new pulled written othe
 unsettled_stop p stands before choice ReadFault old mid new pulled written other h pushes = absurd h.2
 
 -- and between two pulls
-pub push_stops : {B C : Type 0} (p : Printing) (stands : Relation B C) (behind : Option B) (choice : C) (old new : Option (List ℕ)) (pulled written : List ℕ)
+pub push_stops : {B C : Type 0} (p : Printing) (stands : Relation B C) (behind : Option B) (choice : C)
+    (old new : Option (List ℕ)) (pulled written : List ℕ)
     → Printed stands behind choice (recording_of pulled) written → PushesFront p stands choice behind old new
     → Stops (along_intervals p) WriteFault old new pulled written
 push_stops p stands behind choice old new pulled written printed pushes =
     front_pushed p stands behind choice old old new pulled pulled written [] (all_of pulled) (Appends-nil old)
-    (subst (λ (w : List ℕ). Printed stands behind choice (recording_of pulled) w) (sym (append-nil written)) printed) pushes
+    (subst (λ (w : List ℕ). Printed stands behind choice (recording_of pulled) w) (sym (append-nil written)) printed)
+    pushes
 
 -- an output that did not fail stands as before, whatever the command stops for
-pub no_cause : (stop : Stop) (before now : ℕ) → (stop ≡ WriteFault → ⊥) → OutCause (status_of stop) before now → now ≡ before
+pub no_cause : (stop : Stop) (before now : ℕ) → (stop ≡ WriteFault → ⊥) → OutCause (status_of stop) before now
+    → now ≡ before
 no_cause (Refused f) before now other cause = cause
 no_cause Limit before now other cause = cause
 no_cause ReadFault before now other cause = cause
@@ -407,7 +463,8 @@ by_bad_number said decoder front bytes width f same is =
     }) (sym same))
 
 -- whole intervals and more of them are whole intervals
-pub more_whole : (version : FileVersion) (one two : ℕ) → MayBeWhole version one → MayBeWhole version two → MayBeWhole version (one + two)
+pub more_whole : (version : FileVersion) (one two : ℕ) → MayBeWhole version one → MayBeWhole version two
+    → MayBeWhole version (one + two)
 more_whole One one two first second = omega (arith, first, second)
 more_whole Two one two first second = omega (arith, first, second)
 
@@ -421,6 +478,8 @@ passed_over d count between = record {
 
 -- bytes are those before a place, some that stand there, and the rest
 pub cut_some : (k n : ℕ) (bytes : List ℕ) → k ≤ length bytes
-    → take k bytes ++ (take n (take (length bytes - k) (drop k bytes)) ++ drop n (take (length bytes - k) (drop k bytes))) ≡ bytes
+    → take k bytes ++ (take n (take (length bytes - k) (drop k bytes))
+    ++ drop n (take (length bytes - k) (drop k bytes))) ≡ bytes
 cut_some k n bytes within =
-    ap (λ (l : List ℕ). take k bytes ++ l) (take-append-drop n (take (length bytes - k) (drop k bytes))) ∙ cut_at k bytes within
+    ap (λ (l : List ℕ). take k bytes ++ l) (take-append-drop n (take (length bytes - k) (drop k bytes)))
+    ∙ cut_at k bytes within

@@ -1,5 +1,6 @@
 -- A run of whole intervals within the limit, each looked at through a window of bytes.
-use Rattle.std.proofs.Common.{◌≡◌, ℕ, ◌+◌, ◌-◌, ◌<◌, ◌≤◌, List, [], ◌∷◌, ◌++◌, length, take, drop, Some, refl, sym, ◌∙◌, subst, arith}
+use Rattle.std.proofs.Common.{◌≡◌, ℕ, ◌+◌, ◌-◌, ◌<◌, ◌≤◌, List, [], ◌∷◌, ◌++◌, length, take, drop, Some, refl, sym, ◌∙◌}
+use Rattle.std.proofs.Common.{subst, arith}
 use Rattle.std.proofs.Common.{Result, Ok, Err}
 use Rattle.std.specs.Prelude.{fold}
 use Rattle.std.proofs.lemmas.Bool.{lt-ltb}
@@ -31,7 +32,8 @@ use Rattle.interval_engine.proofs.AnItemMore.{Completes, Relation, a_fault, by_b
 in_window : (k n m : ℕ) (bytes : List ℕ) → k + m ≤ length bytes → n ≤ m
     → take n (take (length bytes - k) (drop k bytes)) ≡ take n (take m (drop k bytes))
 in_window k n m bytes within less =
-    take-take n (length bytes - k) (drop k bytes) (omega (arith, within, less)) ∙ sym (take-take n m (drop k bytes) less)
+    take-take n (length bytes - k) (drop k bytes) (omega (arith, within, less))
+    ∙ sym (take-take n m (drop k bytes) less)
 
 -- what stands in the window is no more than that
 pub within_window : (k n m : ℕ) (bytes : List ℕ) → n ≤ length (take m (drop k bytes)) → n ≤ m
@@ -46,7 +48,8 @@ cut_window k n m bytes within less =
 cut_through : (k n m : ℕ) (bytes : List ℕ) → k + m ≤ length bytes → n ≤ m
     → take k bytes ++ (take n (take m (drop k bytes)) ++ drop n (take (length bytes - k) (drop k bytes))) ≡ bytes
 cut_through k n m bytes within less =
-    subst (λ (l : List ℕ). take k bytes ++ (l ++ drop n (take (length bytes - k) (drop k bytes))) ≡ bytes) (in_window k n m bytes within less)
+    subst (λ (l : List ℕ). take k bytes ++ (l ++ drop n (take (length bytes - k) (drop k bytes))) ≡ bytes)
+    (in_window k n m bytes within less)
     (cut_some k n bytes (omega (arith, within)))
 
 -- what stops in the next interval of a run stops behind the intervals before it, which were worked on
@@ -99,8 +102,10 @@ an_interval_is_bad said decoder version place width f window front makes between
 
 -- within the limit an interval out of range is refused
 pub a_refusal : ReadsWhatIsSaid → {B C : Type 0} (p : Printing) (stands : Relation B C)
-    → (decoder next : Progress) (behind : Option B) (count : ℕ) (choice : C) (f : IntervalFileFault) (front bytes rest written : List ℕ)
-    → count < MAX_INTERVALS → Stands stands decoder behind count choice front written → Completes front bytes (Fault f) next
+    → (decoder next : Progress) (behind : Option B) (count : ℕ) (choice : C) (f : IntervalFileFault)
+    (front bytes rest written : List ℕ)
+    → count < MAX_INTERVALS → Stands stands decoder behind count choice front written
+    → Completes front bytes (Fault f) next
     → IsHalt p stands behind choice (Refused (Intervals f)) (front ++ (bytes ++ rest)) (written ++ [])
 a_refusal said p stands decoder next behind count choice f front bytes rest written below s is =
     let refused : stop_at count f ≡ Refused (Intervals f) = rw (lt-ltb count MAX_INTERVALS below) refl in
@@ -108,17 +113,20 @@ a_refusal said p stands decoder next behind count choice f front bytes rest writ
     (a_fault said p stands decoder next behind count choice f front bytes rest written s is)
 
 -- the output of an interval was not taken, as the command itself says it
-pub behind_stops : {B C : Type 0} (printing : C → Printing) (stands : Relation B C) (b : B) (count : ℕ) (choice : C) (x : ℕ)
+pub behind_stops : {B C : Type 0} (printing : C → Printing) (stands : Relation B C) (b : B) (count : ℕ) (choice : C)
+    (x : ℕ)
     (old new : Option (List ℕ)) → count < MAX_INTERVALS
     → ((header : IntervalHeader) (intervals written : List ℕ) → stands b choice header intervals written
-    → (part : List ℕ) × Printing.part (printing choice) header (intervals ++ x ∷ []) (written ++ part) × AppendsFront old new part)
+    → (part : List ℕ) × Printing.part (printing choice) header (intervals ++ x ∷ []) (written ++ part)
+    × AppendsFront old new part)
     → IntervalStops (printing choice) stands (Some b) count choice old new x WriteFault
 behind_stops printing stands b count choice x old new below says = (
   below,
   λ r written printed.
       let due = says printed.0 r.intervals written printed.2 in (
         due.0,
-        subst (λ (h : Option IntervalHeader). IsPartBehind (printing choice) h (r.intervals ++ x ∷ []) (written ++ due.0)) (sym printed.1) due.1,
+        subst (λ (h : Option IntervalHeader). IsPartBehind (printing choice) h (r.intervals ++ x ∷ [])
+            (written ++ due.0)) (sym printed.1) due.1,
         due.2,
       ),
 )

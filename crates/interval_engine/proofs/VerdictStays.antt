@@ -1,4 +1,5 @@
--- A verdict that is not good stays, whatever bytes follow, and so does all that the bytes say of the recording. Where it is good, more intervals may
+-- A verdict that is not good stays, whatever bytes follow, and so does all that the bytes say of the recording. Where
+-- it is good, more intervals may
 -- follow, behind the same header.
 use Rattle.std.proofs.Common.{◌≡◌, ℕ, List, [], ◌∷◌, ◌++◌, Bool, true, false, refl, sym, ◌∙◌, ap, subst, fold, length}
 use Rattle.std.proofs.Common.{append-nil, append_assoc}
@@ -36,7 +37,8 @@ at_refused r item f good e = absurd cc
 at_refused r item f (refused g) e = refl
 at_refused r item f past_limit e = absurd cc
 
-at_past : (r : Recording) (item : Taken) (v : Verdict IntervalFileFault) → v ≡ past_limit → elim v [ good ↦ with_item r item | refused f ↦ r | past_limit ↦ r ] ≡ r
+at_past : (r : Recording) (item : Taken) (v : Verdict IntervalFileFault) → v ≡ past_limit
+    → elim v [ good ↦ with_item r item | refused f ↦ r | past_limit ↦ r ] ≡ r
 at_past r item good e = absurd cc
 at_past r item (refused g) e = absurd cc
 at_past r item past_limit e = refl
@@ -73,7 +75,8 @@ an_interval_grows r x false = λ header is. (is, ([], sym (append-nil r.interval
 
 item_grows : (r : Recording) (item : Taken) → Grows r (with_item r item)
 item_grows r Nothing = grows_nothing r
-item_grows r (Header first) = λ header is. (ap (λ (h : Option IntervalHeader). with_header h first) is, ([], sym (append-nil r.intervals)))
+item_grows r (Header first) =
+    λ header is. (ap (λ (h : Option IntervalHeader). with_header h first) is, ([], sym (append-nil r.intervals)))
 item_grows r (Interval x) = an_interval_grows r x (nat_lt (length r.intervals) MAX_INTERVALS)
 item_grows r (Fault f) = λ header is. (is, ([], sym (append-nil r.intervals)))
 
@@ -105,7 +108,8 @@ as_decoded : ReadsWhatIsSaid → (front more : List ℕ) → decoded (front ++ m
     → recording_of (front ++ more) ≡ recording_of front
 as_decoded said front more same = sym (said.recording (front ++ more)) ∙ same ∙ said.recording front
 
-pub refused_is_all : ReadsWhatIsSaid → (front more : List ℕ) (f : IntervalFileFault) → (recording_of front).verdict ≡ refused f
+pub refused_is_all : ReadsWhatIsSaid → (front more : List ℕ) (f : IntervalFileFault)
+    → (recording_of front).verdict ≡ refused f
     → recording_of (front ++ more) ≡ recording_of front
 refused_is_all said front more f e =
     as_decoded said front more (ap (λ (d : Decoding). d.recording) (more_bytes front more)
@@ -119,4 +123,10 @@ past_is_all said front more e =
 
 pub recordings_grow : ReadsWhatIsSaid → RecordingsGrow
 recordings_grow said =
-    record { begins = input_begins; grows = recording_grows said; refused = refused_is_all said; past = past_is_all said }
+    record {
+      begins = input_begins;
+      grows = recording_grows said;
+      refused = refused_is_all said;
+      past =
+          past_is_all said;
+    }

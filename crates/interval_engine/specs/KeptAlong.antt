@@ -146,7 +146,8 @@ pub printed_well : {B C : Type 0} (printing : C → Printing)
     → Printed stands behind choice r written
     → IsPartOf (printing choice) r written
 printed_well printing stands settled well None choice r written all printed =
-    subst (λ (h : Option IntervalHeader). IsPartBehind (printing choice) h r.intervals written) (sym printed.0) printed.2
+    subst (λ (h : Option IntervalHeader). IsPartBehind (printing choice) h r.intervals written) (sym printed.0)
+    printed.2
 printed_well printing stands settled well (Some behind) choice r written all printed =
     subst (λ (h : Option IntervalHeader). IsPartBehind (printing choice) h r.intervals written) (sym printed.1)
     (well behind choice printed.0 r.intervals written all printed.2)

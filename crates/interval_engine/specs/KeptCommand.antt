@@ -131,7 +131,8 @@ along_is_command r p prints = record {
         (r.grows front more) (recording_of front).header a b refl spent one all;
   };
   some_part = λ bytes. some_part p prints (recording_of bytes).header (recording_of bytes).intervals;
-  some_output = λ input is. some_whole p prints (recording_of input).header (recording_of input).intervals (r.begins input (ends_whole Intervals _ is.end));
+  some_output = λ input is. some_whole p prints (recording_of input).header (recording_of input).intervals
+      (r.begins input (ends_whole Intervals _ is.end));
   one_part =
       λ bytes a b one all. one_part p prints (recording_of bytes).header (recording_of bytes).intervals a b one all;
   one_output =
@@ -140,12 +141,14 @@ along_is_command r p prints = record {
       let file = is_refused Intervals (recording_of front).verdict f e in
       ap (λ (s : Recording). verdict_as Intervals s.verdict) (r.refused front rest file.0 file.1) ∙ e;
   limit = λ front rest e.
-      ap (λ (s : Recording). verdict_as Intervals s.verdict) (r.past front rest (is_past Intervals (recording_of front).verdict e)) ∙ e;
+      ap (λ (s : Recording). verdict_as Intervals s.verdict)
+      (r.past front rest (is_past Intervals (recording_of front).verdict e)) ∙ e;
   fault_unspent = λ front rest f e spent.
       let file = is_refused Intervals (recording_of front).verdict f e in
       subst (λ (s : Recording). IsSpentOf p s) (r.refused front rest file.0 file.1) spent;
   limit_unspent = λ front rest e spent.
-      subst (λ (s : Recording). IsSpentOf p s) (r.past front rest (is_past Intervals (recording_of front).verdict e)) spent;
+      subst (λ (s : Recording). IsSpentOf p s) (r.past front rest (is_past Intervals (recording_of front).verdict e))
+      spent;
   ends = λ bytes f e. refl;
   idle = λ e all. absurd (false≢true (sym e));
   idle_part = λ e bytes a b one all. absurd (false≢true (sym e));

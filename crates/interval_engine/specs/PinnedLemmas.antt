@@ -1,4 +1,5 @@
--- What names one text behind a header names one of a recording, which has one header. No promise speaks of these lemmas,
+-- What names one text behind a header names one of a recording, which has one header. No promise speaks of these
+-- lemmas,
 -- which the crates of the commands cite.
 use Rattle.std.proofs.Common.{◌≡◌, Some, subst}
 use Rattle.interval_file.specs.declared.header.IntervalHeader.{IntervalHeader}

@@ -160,7 +160,8 @@ impl<B: Behind> Along<B> {
     fn new(choice: B::Choice) -> Along<B>
         ensures choice { result.choice ≡ choice }
         ensures going { IsGoing B.fits result.decoder result.behind result.intervals }
-        ensures stands { StandsWithin B.printing B.stands result.decoder result.behind result.intervals result.choice [] [] }
+        ensures stands { StandsWithin B.printing B.stands result.decoder result.behind result.intervals result.choice []
+            [] }
     {
         Along {
             decoder: IntervalDecoder::new(),
@@ -240,7 +241,8 @@ impl<B: Behind> Along<B> {
     fn stopped<K: Sink>(&mut self, stop: Stop, out: &mut K) -> Stop
         ensures choice { self.new.choice ≡ self.old.choice }
         ensures stops { (before : Option (List ℕ)) (pulled written : List ℕ)
-            → Halts (B.printing self.old.choice) B.stands self.old.behind self.old.choice stop before (K.written out.old) pulled written
+            → Halts (B.printing self.old.choice) B.stands self.old.behind self.old.choice stop before
+            (K.written out.old) pulled written
             → Stops (along_intervals (B.printing self.old.choice)) result before (K.written out.new) pulled written }
         ensures cause { (before : ℕ) → OutCause (status_of stop) before (K.faults out.old)
             → OutCause (status_of result) before (K.faults out.new) }
@@ -373,7 +375,8 @@ impl<B: Behind> Along<B> {
         ensures takes { OnOk result (TakesInterval B.fits B.stands self.old.behind self.new.behind
             self.old.intervals self.new.intervals self.old.choice
             (K.written out.old) (K.written out.new) x) }
-        ensures stops { IfErr result (λ stop. IntervalStops (B.printing self.old.choice) B.stands self.old.behind self.old.intervals
+        ensures stops { IfErr result
+            (λ stop. IntervalStops (B.printing self.old.choice) B.stands self.old.behind self.old.intervals
             self.old.choice (K.written out.old) (K.written out.new) x stop
             × (stop ≡ Stop.Limit → self.new.behind ≡ self.old.behind)) }
         ensures cause { HasOutCause (K.faults out.old) (K.faults out.new) result }

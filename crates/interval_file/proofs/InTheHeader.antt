@@ -97,7 +97,8 @@ by_row : (low four five magic version system zero : Bool) (place : ℕ)
     else if five then (if system then Nothing else Fault (fault.System place))
     else (if zero then Nothing else Fault (fault.Reserved place)))
     ≡ (if is_none (of_row low four five magic version system zero place) then Nothing
-    else Fault (if low then fault.Magic place else if four then fault.Version place else if five then fault.System place else fault.Reserved place))
+    else Fault (if low then fault.Magic place else if four then fault.Version place else if five then fault.System place
+    else fault.Reserved place))
 by_row true four five true version system zero place = refl
 by_row true four five false version system zero place = refl
 by_row false true five magic true system zero place = refl
@@ -116,7 +117,8 @@ tested place byte =
 faulty_row : (low four five magic version system zero : Bool) (place : ℕ)
     → of_row low four five magic version system zero place
     ≡ (if is_none (of_row low four five magic version system zero place) then None
-    else Some (if low then fault.Magic place else if four then fault.Version place else if five then fault.System place else fault.Reserved place))
+    else Some (if low then fault.Magic place else if four then fault.Version place else if five then fault.System place
+    else fault.Reserved place))
 faulty_row true four five true version system zero place = refl
 faulty_row true four five false version system zero place = refl
 faulty_row false true five magic true system zero place = refl

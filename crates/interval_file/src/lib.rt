@@ -9,7 +9,8 @@
 //! | 6 to 7 | reserved, 0 |
 //! | 8 to 11 | the tick rate, big endian, from 1 to 100,000,000 ticks a second |
 //! | then each interval, version 1 | four bytes: ticks, big endian, from 1 to 16,777,215 |
-//! | then each interval, version 2 | two bytes: ticks, big endian, from 1 to 65,535; or 0, 0 and four bytes, from 65,536 to 16,777,215 |
+//! | then each interval, version 2 | two bytes: ticks, big endian, from 1 to 65,535; or 0, 0 and four bytes, from
+//! 65,536 to 16,777,215 |
 //!
 //! It is decoded one byte at a time, or an interval at a time.
 //!

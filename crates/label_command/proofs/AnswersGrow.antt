@@ -121,7 +121,8 @@ one_more law s q front written stands byte label is next =
 -- a front of its line was written
 pub one_more_part : GoesOn → (s : LabelAnswers) (front written : List ℕ) → Stands s front written
     → (byte : ℕ) (rest bytes : List ℕ) (label : Address) (old new : Option (List ℕ))
-    → said_by s.reader byte ≡ Label label → byte ∷ rest ≡ bytes → AppendsFront old new (answer_line s.run.base s.run.way label)
+    → said_by s.reader byte ≡ Label label → byte ∷ rest ≡ bytes
+    → AppendsFront old new (answer_line s.run.base s.run.way label)
     → Stops (along_labels s.run) stops.WriteFault old new (front ++ bytes) written
 one_more_part law s front written stands byte rest bytes label old new is all f = (
   f.0,

@@ -37,7 +37,8 @@ labels_first laws base front more = by_verdict (reading_of base front).verdict r
     )
     by_verdict (refused f) is = (
       [],
-      ap (λ (r : Reading). r.labels) (laws.fault base front more f is) ∙ sym (append-nil (reading_of base front).labels),
+      ap (λ (r : Reading). r.labels) (laws.fault base front more f is)
+          ∙ sym (append-nil (reading_of base front).labels),
     )
     by_verdict past_limit is = (
       [],

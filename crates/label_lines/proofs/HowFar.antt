@@ -1,4 +1,5 @@
--- How far a line fits a form: a byte more where the next one may stand, and no further where it may not or none is left.
+-- How far a line fits a form: a byte more where the next one may stand, and no further where it may not or none is
+-- left.
 use Rattle.std.proofs.Common.{◌≡◌, ℕ, ◌+◌, ◌<◌, true, false, List, [], ◌∷◌, length, drop, get_or, refl, arith}
 use Rattle.std.proofs.lemmas.List.{drop_more}
 use Rattle.label_lines.specs.Forms.{fitting, may_stand}

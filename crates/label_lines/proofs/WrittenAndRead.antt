@@ -45,7 +45,8 @@ pub number_is_read : (base : Timebase) (a : Address) (n : ℕ) → n < 10_000_00
     → slice_get (labels (count_of base)) n ≡ Some a → read_line base (decimal n) ≡ Ok a
 number_is_read base a n few is =
     let fits : n < 2 ^ 64 = omega arith in
-    let number = number_passes (decimal n) (decimal_nonempty n fits) (length-decimal-le 7 n (omega arith) (omega arith) fits) (written_digits n fits) in
+    let number = number_passes (decimal n) (decimal_nonempty n fits)
+    (length-decimal-le 7 n (omega arith) (omega arith) fits) (written_digits n fits) in
     asked_is_read base (decimal n) a (number_is_asked base (decimal n) number
     ∙ ap (slice_get (labels (count_of base))) (written_value n fits) ∙ is)
 

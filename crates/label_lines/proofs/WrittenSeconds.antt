@@ -1,6 +1,7 @@
 -- Seconds are the digits before a point and the three behind it, so they are read as the milliseconds that they were
 -- written of.
-use Rattle.std.proofs.Common.{◌≡◌, ℕ, ◌+◌, ◌-◌, ◌*◌, ◌/◌, ◌%◌, ◌<◌, ◌≤◌, ◌^◌, Bool, true, false, List, [], ◌∷◌, ◌++◌, length, take, drop}
+use Rattle.std.proofs.Common.{◌≡◌, ℕ, ◌+◌, ◌-◌, ◌*◌, ◌/◌, ◌%◌, ◌<◌, ◌≤◌, ◌^◌, Bool, true, false, List, [], ◌∷◌, ◌++◌}
+use Rattle.std.proofs.Common.{length, take, drop}
 use Rattle.std.proofs.Common.{refl, ◌∙◌, ap, sym, subst, arith, append_assoc, length-append}
 use Rattle.std.specs.Prelude.{decimal, ◌&&◌, ◌==◌, nat_le, slice_index}
 use Rattle.std.specs.Char.{is_ascii_digit}
@@ -26,7 +27,8 @@ none_pass true true true = refl
 pub point_is_no_digit : (whole rest : List ℕ) → is_number (whole ++ 46 ∷ rest) ≡ false
 point_is_no_digit whole rest =
     rw (list_all-append is_ascii_digit whole (46 ∷ rest))
-    (none_pass (nat_le 1 (length (whole ++ 46 ∷ rest))) (nat_le (length (whole ++ 46 ∷ rest)) 7) (list_all is_ascii_digit whole))
+    (none_pass (nat_le 1 (length (whole ++ 46 ∷ rest))) (nat_le (length (whole ++ 46 ∷ rest)) 7)
+    (list_all is_ascii_digit whole))
 
 -- ---- the parts of seconds
 
@@ -80,7 +82,8 @@ are_seconds whole a b c least most digits last =
 pub their_milliseconds : (whole : List ℕ) (a b c : ℕ)
     → milliseconds_in (pointed whole a b c) ≡ 1000 * digits_value 10 whole + digits_value 10 (a ∷ b ∷ c ∷ [])
 their_milliseconds whole a b c =
-    ap (λ (l : List ℕ). 1000 * digits_value 10 l + digits_value 10 (drop (length (pointed whole a b c) - 3) (pointed whole a b c)))
+    ap (λ (l : List ℕ). 1000 * digits_value 10 l + digits_value 10
+    (drop (length (pointed whole a b c) - 3) (pointed whole a b c)))
     (front_part whole a b c)
     ∙ ap (λ (l : List ℕ). 1000 * digits_value 10 whole + digits_value 10 l) (last_part whole a b c)
 

@@ -27,10 +27,12 @@ times p x d q m high factor room =
     let five : (x + 1) * d ≡ x * d + d = grind arith in
     omega (arith, a, b, one, two, three, four, five, room)
 
-is_quotient : (p x d q m : ℕ) → 1 ≤ d → q * d ≤ x → x + 1 ≤ (q + 1) * d → p ≤ m * d → m * d ≤ p + d → (x + 1) * d ≤ p → x * m / p ≡ q
+is_quotient : (p x d q m : ℕ) → 1 ≤ d → q * d ≤ x → x + 1 ≤ (q + 1) * d → p ≤ m * d → m * d ≤ p + d → (x + 1) * d ≤ p
+    → x * m / p ≡ q
 is_quotient p x d q m some low high least most room =
     let below = not_less p x d q m low least in
-    let above : x * m + 1 ≤ (q + 1) * p = le_of_mul-le-mul_left {m = x * m + 1} {n = (q + 1) * p} {k = d} (times p x d q m high most room) some in
+    let above : x * m + 1 ≤ (q + 1) * p = le_of_mul-le-mul_left {m = x * m + 1} {n = (q + 1) * p} {k = d}
+    (times p x d q m high most room) some in
     div-eq_of_lt-le p below (omega (arith, above))
 
 -- a number is less than the next multiple of a divisor
@@ -43,7 +45,8 @@ behind x d some =
 -- the quotient by a factor that is a little above p divided by the divisor
 pub by_product : (p x d : ℕ) → 1 ≤ d → (x + 1) * d ≤ p → x * (p / d + 1) / p ≡ x / d
 by_product p x d some room =
-    let most : (p / d + 1) * d ≤ p + d = let h = div-mul-le_self p d in let e : (p / d + 1) * d ≡ p / d * d + d = grind arith in omega (arith, h, e) in
+    let most : (p / d + 1) * d ≤ p + d = let h = div-mul-le_self p d in let e : (p / d + 1) * d ≡ p / d * d + d =
+    grind arith in omega (arith, h, e) in
     let least : p ≤ (p / d + 1) * d = let h = behind p d some in omega (arith, h) in
     is_quotient p x d (x / d) (p / d + 1) some (div-mul-le_self x d) (behind x d some) least most room
 

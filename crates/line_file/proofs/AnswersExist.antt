@@ -11,7 +11,8 @@ use Rattle.line_file.proofs.HeaderBytes.{header_valid}
 
 -- what the law of lines says
 abbrev pub LinesHaveAnswers : Type 0
-LinesHaveAnswers = (system : System) (n : ℕ) (lines : List (List ℕ)) → IsLineLength n → (answer : FieldAnswer) × IsAnswer system n lines answer
+LinesHaveAnswers = (system : System) (n : ℕ) (lines : List (List ℕ)) → IsLineLength n → (answer : FieldAnswer)
+    × IsAnswer system n lines answer
 
 some_list : LinesHaveAnswers → (header : LineHeader) (fields : List (List (List ℕ))) → IsLineLength header.length
     → (answers : List FieldAnswer) × AreAnswers header fields answers
@@ -27,5 +28,6 @@ some_list_by law bytes (whole header) is = some_list law header _ (header_valid 
 some_list_by law bytes short is = ([], refl)
 some_list_by law bytes (bad f) is = ([], refl)
 
-pub some_list_of : LinesHaveAnswers → (bytes : List ℕ) → (answers : List FieldAnswer) × AreAnswersOf (reading_of bytes) answers
+pub some_list_of : LinesHaveAnswers → (bytes : List ℕ) → (answers : List FieldAnswer)
+    × AreAnswersOf (reading_of bytes) answers
 some_list_of law bytes = some_list_by law bytes (header_at bytes) refl

@@ -1,5 +1,6 @@
 -- A decoder that takes a header, a field or a part of one stands for the bytes with those that it took.
-use Rattle.std.proofs.Common.{false, ◌≡◌, ℕ, zero, suc, ◌+◌, ◌-◌, ◌<◌, ◌≤◌, List, [], ◌∷◌, ◌++◌, Some, None, length, take, drop, refl, sym, ap, ◌∙◌}
+use Rattle.std.proofs.Common.{false, ◌≡◌, ℕ, zero, suc, ◌+◌, ◌-◌, ◌<◌, ◌≤◌, List, [], ◌∷◌, ◌++◌, Some, None, length}
+use Rattle.std.proofs.Common.{take, drop, refl, sym, ap, ◌∙◌}
 use Rattle.std.proofs.Common.{arith, subst, append_assoc, append-nil, inl, inr}
 use Rattle.std.specs.declared.option.Option.{Option}
 use Rattle.std.proofs.lemmas.Bool.{cases_lt}
@@ -24,7 +25,8 @@ use Rattle.line_file.proofs.OwnBytes.{own_field}
 
 -- ---- what was kept is less than what is whole
 
-kept_less : (place count : ℕ) (header : LineHeader) (part chunk : List ℕ) (lines : List (List ℕ)) → Waits (Some header) place count part
+kept_less : (place count : ℕ) (header : LineHeader) (part chunk : List ℕ) (lines : List (List ℕ))
+    → Waits (Some header) place count part
     → field_at place (part ++ chunk) ≡ whole lines → length part < field_width lines
 kept_less place count header [] chunk lines waits e = omega arith
 kept_less place count header (byte ∷ rest) chunk lines waits e =
@@ -44,9 +46,11 @@ kept_less place count header (byte ∷ rest) chunk lines waits e =
     never : short ≡ whole lines → ⊥
     never e = absurd cc
 
-pub part_less : (header : Option LineHeader) (place count : ℕ) (head : LineHeader) (part chunk : List ℕ) (lines : List (List ℕ)) → header ≡ Some head
+pub part_less : (header : Option LineHeader) (place count : ℕ) (head : LineHeader) (part chunk : List ℕ)
+    (lines : List (List ℕ)) → header ≡ Some head
     → Waits header place count part → field_at place (part ++ chunk) ≡ whole lines → length part < field_width lines
-part_less header place count head part chunk lines is waits e = kept_less place count head part chunk lines (rw is at waits) e
+part_less header place count head part chunk lines is waits e = kept_less place count head part chunk lines
+    (rw is at waits) e
 
 -- ---- bytes that complete a piece
 
@@ -61,30 +65,39 @@ piece_bytes [] bytes c w least within =
     less_taken zero bytes w within = within
     less_taken (suc c) [] w within = omega (arith, within)
     less_taken (suc c) (byte ∷ more) zero within = omega arith
-    less_taken (suc c) (byte ∷ more) (suc w) within = let h = less_taken c more w (omega (arith, within)) in omega (arith, h)
+    less_taken (suc c) (byte ∷ more) (suc w) within = let h = less_taken c more w (omega (arith, within)) in
+        omega (arith, h)
 piece_bytes (byte ∷ rest) bytes c zero least within = absurd (omega (arith, least))
 piece_bytes (byte ∷ rest) bytes c (suc w) least within =
     let e : suc w - length (byte ∷ rest) ≡ w - length rest = omega arith in
     rw e (ap (λ (l : List ℕ). byte ∷ l) (piece_bytes rest bytes c w (omega (arith, least)) (omega (arith, within))))
 
 -- the bytes so far, those of a piece more
-joined : (front before part chunk piece : List ℕ) → front ≡ before ++ part → piece ≡ part ++ chunk → front ++ chunk ≡ (before ++ piece) ++ []
+joined : (front before part chunk piece : List ℕ) → front ≡ before ++ part → piece ≡ part ++ chunk
+    → front ++ chunk ≡ (before ++ piece) ++ []
 joined front before part chunk piece split is =
-    ap (λ (l : List ℕ). l ++ chunk) split ∙ append_assoc before part chunk ∙ ap (λ (l : List ℕ). before ++ l) (sym is) ∙ sym (append-nil (before ++ piece))
+    ap (λ (l : List ℕ). l ++ chunk) split ∙ append_assoc before part chunk ∙ ap (λ (l : List ℕ). before ++ l) (sym is)
+    ∙ sym (append-nil (before ++ piece))
 
-answered_more : (header : LineHeader) (fields : List (List (List ℕ))) (answers : List FieldAnswer) (lines : List (List ℕ)) (answer : FieldAnswer)
-    → AreAnswers header fields answers → IsAnswer header.system header.length lines answer → AreAnswers header (fields ++ lines ∷ []) (answers ++ answer ∷ [])
+answered_more : (header : LineHeader) (fields : List (List (List ℕ))) (answers : List FieldAnswer)
+    (lines : List (List ℕ)) (answer : FieldAnswer)
+    → AreAnswers header fields answers → IsAnswer header.system header.length lines answer
+    → AreAnswers header (fields ++ lines ∷ []) (answers ++ answer ∷ [])
 answered_more header [] [] lines answer are is = (is, tt)
 answered_more header [] (a ∷ answers) lines answer are is = absurd are
 answered_more header (f ∷ fields) [] lines answer are is = absurd are
-answered_more header (f ∷ fields) (a ∷ answers) lines answer are is = (are.0, answered_more header fields answers lines answer are.1 is)
+answered_more header (f ∷ fields) (a ∷ answers) lines answer are is =
+    (are.0, answered_more header fields answers lines answer are.1 is)
 
 -- a field
-pub field_taken : (header : LineHeader) (place count : ℕ) (part front chunk piece : List ℕ) (answers : List FieldAnswer) (lines : List (List ℕ))
+pub field_taken : (header : LineHeader) (place count : ℕ) (part front chunk piece : List ℕ) (answers : List FieldAnswer)
+    (lines : List (List ℕ))
     (answer : FieldAnswer) (bytes : List ℕ)
-    → StandsFor (decoding_of (Some header) place count part) front answers → count < MAX_FIELDS → field_at place bytes ≡ whole lines
+    → StandsFor (decoding_of (Some header) place count part) front answers → count < MAX_FIELDS
+    → field_at place bytes ≡ whole lines
     → piece ≡ take (field_width lines) bytes → piece ≡ part ++ chunk → IsAnswer header.system header.length lines answer
-    → StandsFor (decoding_of (Some header) (place + field_width lines) (count + 1) []) (front ++ chunk) (answers ++ answer ∷ [])
+    → StandsFor (decoding_of (Some header) (place + field_width lines) (count + 1) []) (front ++ chunk)
+    (answers ++ answer ∷ [])
 field_taken header place count part front chunk piece answers lines answer bytes s room read own is says =
     let w = field_width lines in
     let o = own_field place bytes lines read in
@@ -101,19 +114,29 @@ field_taken header place count part front chunk piece answers lines answer bytes
       count = omega (arith, number, length-append s.fields (lines ∷ []));
       waits = tt;
       follows = λ more.
-          let here : fields_at (MAX_FIELDS - count) place (piece ++ more) ≡ with_field lines (fields_at left (place + w) more) =
+          let here : fields_at (MAX_FIELDS - count) place (piece ++ more) ≡ with_field lines
+          (fields_at left (place + w) more) =
           rw (one, own) (fields_behind left place bytes more lines read) in
           let later = fields_at left (place + w) more in
-          let grown : s.fields ++ lines ∷ later.fields ≡ (s.fields ++ lines ∷ []) ++ later.fields = sym (append_assoc s.fields (lines ∷ []) later.fields) in
+          let grown : s.fields ++ lines ∷ later.fields ≡ (s.fields ++ lines ∷ []) ++ later.fields =
+          sym (append_assoc s.fields (lines ∷ []) later.fields) in
           ap reading_of (append_assoc s.before piece more) ∙ s.follows (piece ++ more)
           ∙ ap (λ (f : Fields). with_fields header s.fields f) here
-          ∙ ap (λ (fs : List (List (List ℕ))). record { header = Some header; fields = fs; verdict = later.verdict; is_whole = later.is_whole }) grown;
+          ∙ ap (λ (fs : List (List (List ℕ))). record {
+            header = Some header;
+            fields = fs;
+            verdict =
+                later.verdict;
+            is_whole = later.is_whole;
+          }) grown;
       answered = answered_more header s.fields answers lines answer s.answered says;
     }
 
 -- the header
-pub header_taken : (header : LineHeader) (place count : ℕ) (part front chunk piece : List ℕ) (answers : List FieldAnswer) (bytes : List ℕ)
-    → StandsFor (decoding_of None place count part) front answers → header_at bytes ≡ whole header → piece ≡ take 12 bytes → piece ≡ part ++ chunk
+pub header_taken : (header : LineHeader) (place count : ℕ) (part front chunk piece : List ℕ)
+    (answers : List FieldAnswer) (bytes : List ℕ)
+    → StandsFor (decoding_of None place count part) front answers → header_at bytes ≡ whole header
+    → piece ≡ take 12 bytes → piece ≡ part ++ chunk
     → StandsFor (decoding_of (Some header) (place + 12) count []) (front ++ chunk) (answers ++ [])
 header_taken header place count part front chunk piece answers bytes s read own is =
     let size : length piece ≡ 12 = ap length own ∙ length-take-le 12 bytes (whole_header bytes header read) in
@@ -153,11 +176,13 @@ read_on : (header : Option LineHeader) (place count : ℕ) (part front rest : Li
 read_on header place count part front rest answers s =
     ap reading_of (ap (λ (l : List ℕ). l ++ rest) s.split ∙ append_assoc s.before part rest) ∙ s.follows (part ++ rest)
 
-told_as : (r other : Reading) (verdict : Verdict LineFileFault) (answers : List FieldAnswer) → r ≡ other → IsTold other verdict answers → IsTold r verdict answers
+told_as : (r other : Reading) (verdict : Verdict LineFileFault) (answers : List FieldAnswer) → r ≡ other
+    → IsTold other verdict answers → IsTold r verdict answers
 told_as r other verdict answers e told = subst (λ (x : Reading). IsTold x verdict answers) (sym e) told
 
 -- no field is complete with the rest
-none_more : (header : LineHeader) (fields : List (List (List ℕ))) (answers : List FieldAnswer) (verdict : Verdict LineFileFault) (f : Fields)
+none_more : (header : LineHeader) (fields : List (List (List ℕ))) (answers : List FieldAnswer)
+    (verdict : Verdict LineFileFault) (f : Fields)
     → AreAnswers header fields answers
     → f.verdict ≡ verdict → f.fields ≡ [] → IsTold (with_fields header fields f) verdict answers
 none_more header fields answers verdict f are is none = (
@@ -167,19 +192,24 @@ none_more header fields answers verdict f are is none = (
 )
 
 -- a fault of a field
-field_told : (header : LineHeader) (place count : ℕ) (fields : List (List (List ℕ))) (answers : List FieldAnswer) (bytes more : List ℕ)
+field_told : (header : LineHeader) (place count : ℕ) (fields : List (List (List ℕ))) (answers : List FieldAnswer)
+    (bytes more : List ℕ)
     (f : LineFileFault) → AreAnswers header fields answers
-    → count < MAX_FIELDS → field_at place bytes ≡ bad f → IsTold (reading_behind (Some header) place count fields (bytes ++ more)) (refused f) answers
+    → count < MAX_FIELDS → field_at place bytes ≡ bad f
+    → IsTold (reading_behind (Some header) place count fields (bytes ++ more)) (refused f) answers
 field_told header place count fields answers [] more f are room e = absurd cc
 field_told header place count fields answers (byte ∷ rest) more f are room e =
     let left = MAX_FIELDS - (count + 1) in
     let one : MAX_FIELDS - count ≡ suc left = omega (arith, room) in
-    let read = fields_by left place (byte ∷ (rest ++ more)) (bad f) (omega arith) (field_stays place (byte ∷ rest) more f e) in
-    rw one (none_more header fields answers (refused f) (fields_at (suc left) place (byte ∷ (rest ++ more))) are (ap (λ (x : Fields). x.verdict) read)
+    let read = fields_by left place (byte ∷ (rest ++ more)) (bad f) (omega arith)
+    (field_stays place (byte ∷ rest) more f e) in
+    rw one (none_more header fields answers (refused f) (fields_at (suc left) place (byte ∷ (rest ++ more))) are
+    (ap (λ (x : Fields). x.verdict) read)
     (ap (λ (x : Fields). x.fields) read))
 
 -- a fault
-pub fault_told : (header : Option LineHeader) (place count : ℕ) (part front chunk more : List ℕ) (answers : List FieldAnswer) (f : LineFileFault)
+pub fault_told : (header : Option LineHeader) (place count : ℕ) (part front chunk more : List ℕ)
+    (answers : List FieldAnswer) (f : LineFileFault)
     → StandsFor (decoding_of header place count part) front answers → IsBad header place count (part ++ chunk) f
     → IsTold (reading_of (front ++ (chunk ++ more))) (refused f) answers
 fault_told None place count part front chunk more answers f s is =
@@ -195,11 +225,13 @@ fault_told (Some header) place count part front chunk more answers f s is =
     told_as _ _ (refused f) answers (all ∙ ap (reading_behind (Some header) place count s.fields) joined)
     (field_told header place count s.fields answers (part ++ chunk) more f s.answered is.0 is.1)
 
-past_told : (header : LineHeader) (place : ℕ) (fields : List (List (List ℕ))) (answers : List FieldAnswer) (bytes : List ℕ) → AreAnswers header fields answers
+past_told : (header : LineHeader) (place : ℕ) (fields : List (List (List ℕ))) (answers : List FieldAnswer)
+    (bytes : List ℕ) → AreAnswers header fields answers
     → 1 ≤ length bytes → IsTold (with_fields header fields (fields_at zero place bytes)) past_limit answers
 unfolding fields_at
 past_told header place fields answers [] are some = absurd (omega (arith, some))
-past_told header place fields answers (byte ∷ more) are some = none_more header fields answers past_limit (no_field past_limit false) are refl refl
+past_told header place fields answers (byte ∷ more) are some = none_more header fields answers past_limit
+    (no_field past_limit false) are refl refl
 
 -- the limit
 pub limit_told : (header : LineHeader) (place count : ℕ) (part front bytes : List ℕ) (answers : List FieldAnswer)
@@ -209,19 +241,23 @@ limit_told header place count part front bytes answers s full some =
     let left : MAX_FIELDS - count ≡ zero = omega (arith, full) in
     let all = read_on (Some header) place count part front bytes answers s in
     told_as _ _ past_limit answers all
-    (rw left (past_told header place s.fields answers (part ++ bytes) s.answered (omega (arith, some, length-append part bytes))))
+    (rw left (past_told header place s.fields answers (part ++ bytes) s.answered
+    (omega (arith, some, length-append part bytes))))
 
-good_told : (header : LineHeader) (place count : ℕ) (fields : List (List (List ℕ))) (answers : List FieldAnswer) (part : List ℕ)
+good_told : (header : LineHeader) (place count : ℕ) (fields : List (List (List ℕ))) (answers : List FieldAnswer)
+    (part : List ℕ)
     → AreAnswers header fields answers
     → Waits (Some header) place count part → IsTold (reading_behind (Some header) place count fields part) good answers
 unfolding fields_at
-good_told header place count fields answers [] are waits = none_more header fields answers good (fields_at (MAX_FIELDS - count) place []) are refl refl
+good_told header place count fields answers [] are waits =
+    none_more header fields answers good (fields_at (MAX_FIELDS - count) place []) are refl refl
 good_told header place count fields answers (byte ∷ rest) are waits =
     let left = MAX_FIELDS - (count + 1) in
     let room = waits.0 in
     let one : MAX_FIELDS - count ≡ suc left = omega (arith, room) in
     let read = fields_by left place (byte ∷ rest) short (omega arith) waits.1 in
-    rw one (none_more header fields answers good (fields_at (suc left) place (byte ∷ rest)) are (ap (λ (x : Fields). x.verdict) read)
+    rw one (none_more header fields answers good (fields_at (suc left) place (byte ∷ rest)) are
+    (ap (λ (x : Fields). x.verdict) read)
     (ap (λ (x : Fields). x.fields) read))
 
 -- bytes that were taken are good
@@ -232,4 +268,5 @@ told_good None place count part front answers s =
     let read : reading_of part ≡ no_header good = ap (λ (v : Front LineHeader). behind_header v part) s.waits.1 in
     told_as _ (no_header good) good answers (all ∙ read) (refl, s.answered.1)
 told_good (Some header) place count part front answers s =
-    told_as _ _ good answers (ap reading_of s.split ∙ s.follows part) (good_told header place count s.fields answers part s.answered s.waits)
+    told_as _ _ good answers (ap reading_of s.split ∙ s.follows part)
+    (good_told header place count s.fields answers part s.answered s.waits)

@@ -9,7 +9,8 @@ use Rattle.line_file.proofs.FaultsStay.{field_stays}
 use Rattle.line_file.proofs.HeaderBytes.{header_more, header_stays}
 use Rattle.line_file.proofs.OwnBytes.{field_more}
 
-pub piece_stays : (header : Option LineHeader) (place count : ℕ) (bytes more : List ℕ) (piece : Piece) → piece ≢ pieces.Short
+pub piece_stays : (header : Option LineHeader) (place count : ℕ) (bytes more : List ℕ) (piece : Piece)
+    → piece ≢ pieces.Short
     → IsPiece header place count bytes piece → IsPiece header place count (bytes ++ more) piece
 piece_stays None place count bytes more (pieces.Header read) whole is = header_more bytes more read is
 piece_stays None place count bytes more (pieces.Field answer width) whole is = absurd is

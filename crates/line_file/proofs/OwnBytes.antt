@@ -1,5 +1,7 @@
--- A line and a field are read from their own bytes, whatever follows them; and the first bytes of one are fewer than the most that it may have.
-use Rattle.std.proofs.Common.{◌≡◌, ℕ, zero, suc, ◌+◌, ◌*◌, ◌%◌, ◌<◌, ◌≤◌, Bool, true, false, List, [], ◌∷◌, ◌++◌, length, take, drop, refl, sym, ap}
+-- A line and a field are read from their own bytes, whatever follows them; and the first bytes of one are fewer than
+-- the most that it may have.
+use Rattle.std.proofs.Common.{◌≡◌, ℕ, zero, suc, ◌+◌, ◌*◌, ◌%◌, ◌<◌, ◌≤◌, Bool, true, false, List, [], ◌∷◌, ◌++◌}
+use Rattle.std.proofs.Common.{length, take, drop, refl, sym, ap}
 use Rattle.std.proofs.Common.{◌∙◌, arith, append_assoc}
 use Rattle.std.specs.Prelude.{◌==◌, nat_le, if◌then◌else◌}
 use Rattle.std.proofs.lemmas.Bool.{and_parts, eqb-true, leb-true}
@@ -20,7 +22,8 @@ items short = []
 items (bad f) = []
 
 -- a whole list with a first thing comes of a whole list
-pub first_whole : {A : Type 0} (x : A) (f : Front (List A)) (xs : List A) → with_first x f ≡ whole xs → (ys : List A) × (f ≡ whole ys) × (xs ≡ x ∷ ys)
+pub first_whole : {A : Type 0} (x : A) (f : Front (List A)) (xs : List A) → with_first x f ≡ whole xs → (ys : List A)
+    × (f ≡ whole ys) × (xs ≡ x ∷ ys)
 first_whole x (whole ys) xs e = (ys, refl, sym (ap items e))
 first_whole x short xs e = absurd cc
 first_whole x (bad f) xs e = absurd cc
@@ -31,7 +34,8 @@ first_short x short e = refl
 first_short x (bad f) e = absurd cc
 
 -- the first bytes of some, and those behind them
-pub take_both : (w k : ℕ) (bytes : List ℕ) → w ≤ length bytes → take (w + k) bytes ≡ take w bytes ++ take k (drop w bytes)
+pub take_both : (w k : ℕ) (bytes : List ℕ) → w ≤ length bytes → take (w + k) bytes ≡ take w bytes
+    ++ take k (drop w bytes)
 take_both w k bytes within =
     let cut = take-append-drop w (take (w + k) bytes) in
     rw (← take-take w (w + k) bytes (omega arith), ← drop-take w k bytes) (sym cut)
@@ -47,7 +51,8 @@ pub two_more : (x : ℕ) (runs : List ℕ) → 2 * length (x ∷ runs) ≡ suc (
 two_more x runs = omega arith
 
 own_run : (count place high low : ℕ) (rest runs : List ℕ) (b : Bool) → (big_number 2 (high ∷ low ∷ rest) == 0) ≡ b
-    → (if b then bad (fault.Run place) else with_first (big_number 2 (high ∷ low ∷ rest)) (runs_at count (place + 2) rest)) ≡ whole runs
+    → (if b then bad (fault.Run place) else with_first (big_number 2 (high ∷ low ∷ rest))
+    (runs_at count (place + 2) rest)) ≡ whole runs
     → ((rs : List ℕ) → runs_at count (place + 2) rest ≡ whole rs → OwnRuns count (place + 2) rest rs)
     → OwnRuns (suc count) place (high ∷ low ∷ rest) runs
 own_run count place high low rest runs true is e later = absurd cc
@@ -63,18 +68,23 @@ own_run count place high low rest runs false is e later =
       own = λ more. rw (two_more x f.0, is, o.own more) refl;
     })
 
-pub own_runs : (count place : ℕ) (bytes runs : List ℕ) → runs_at count place bytes ≡ whole runs → OwnRuns count place bytes runs
-own_runs zero place bytes runs e = let none : runs ≡ [] = sym (ap items e) in rw none (record { number = refl; within = omega arith; own = λ more. refl })
+pub own_runs : (count place : ℕ) (bytes runs : List ℕ) → runs_at count place bytes ≡ whole runs
+    → OwnRuns count place bytes runs
+own_runs zero place bytes runs e = let none : runs ≡ [] = sym (ap items e) in
+    rw none (record { number = refl; within = omega arith; own = λ more. refl })
 own_runs (suc count) place [] runs e = absurd cc
 own_runs (suc count) place (high ∷ []) runs e = absurd cc
 own_runs (suc count) place (high ∷ low ∷ rest) runs e =
-    own_run count place high low rest runs (big_number 2 (high ∷ low ∷ rest) == 0) refl e (own_runs count (place + 2) rest)
+    own_run count place high low rest runs (big_number 2 (high ∷ low ∷ rest) == 0) refl e
+    (own_runs count (place + 2) rest)
 
 short_run : (count place high low : ℕ) (rest : List ℕ) (b : Bool)
-    → (if b then bad (fault.Run place) else with_first (big_number 2 (high ∷ low ∷ rest)) (runs_at count (place + 2) rest)) ≡ short
+    → (if b then bad (fault.Run place) else with_first (big_number 2 (high ∷ low ∷ rest))
+    (runs_at count (place + 2) rest)) ≡ short
     → runs_at count (place + 2) rest ≡ short
 short_run count place high low rest true e = absurd cc
-short_run count place high low rest false e = first_short (big_number 2 (high ∷ low ∷ rest)) (runs_at count (place + 2) rest) e
+short_run count place high low rest false e = first_short (big_number 2 (high ∷ low ∷ rest))
+    (runs_at count (place + 2) rest) e
 
 -- runs of which some are not there
 short_runs : (count place : ℕ) (bytes : List ℕ) → runs_at count place bytes ≡ short → length bytes < 2 * count
@@ -82,7 +92,8 @@ short_runs zero place bytes e = absurd cc
 short_runs (suc count) place [] e = omega arith
 short_runs (suc count) place (high ∷ []) e = omega arith
 short_runs (suc count) place (high ∷ low ∷ rest) e =
-    let less = short_runs count (place + 2) rest (short_run count place high low rest (big_number 2 (high ∷ low ∷ rest) == 0) e) in
+    let less = short_runs count (place + 2) rest
+    (short_run count place high low rest (big_number 2 (high ∷ low ∷ rest) == 0) e) in
     omega (arith, less)
 
 -- ---- a line
@@ -96,7 +107,8 @@ one_more : (n : ℕ) → 1 + n ≡ suc n
 one_more n = omega arith
 
 line_by : (place count : ℕ) (rest runs : List ℕ) (b : Bool) → is_run_count count ≡ b
-    → (if b then runs_at count (place + 1) rest else bad (fault.RunCount place)) ≡ whole runs → OwnLine place (count ∷ rest) runs
+    → (if b then runs_at count (place + 1) rest else bad (fault.RunCount place)) ≡ whole runs
+    → OwnLine place (count ∷ rest) runs
 line_by place count rest runs true is e =
     let o = own_runs count (place + 1) rest runs e in
     let parts = and_parts (count % 2 == 1) (nat_le count MAX_RUNS) is in
@@ -140,12 +152,15 @@ abbrev pub after_line : ℕ → ℕ → List ℕ → List ℕ → Front (List (L
 after_line count place bytes runs = lines_at count (place + line_width runs) (drop (line_width runs) bytes)
 
 -- what stands behind the bytes of a line
-behind_line : (bytes more runs : List ℕ) → line_width runs ≤ length bytes → drop (line_width runs) (take (line_width runs) bytes ++ more) ≡ more
-behind_line bytes more runs within = drop_at (take (line_width runs) bytes) more (line_width runs) (length-take-le (line_width runs) bytes within)
+behind_line : (bytes more runs : List ℕ) → line_width runs ≤ length bytes
+    → drop (line_width runs) (take (line_width runs) bytes ++ more) ≡ more
+behind_line bytes more runs within = drop_at (take (line_width runs) bytes) more (line_width runs)
+    (length-take-le (line_width runs) bytes within)
 
 lines_by : (count place : ℕ) (bytes : List ℕ) (lines : List (List ℕ)) (v : Front (List ℕ)) → line_at place bytes ≡ v
     → line_then v (after_line count place bytes) ≡ whole lines
-    → ((w : ℕ) (ls : List (List ℕ)) → lines_at count (place + w) (drop w bytes) ≡ whole ls → OwnLines count (place + w) (drop w bytes) ls)
+    → ((w : ℕ) (ls : List (List ℕ)) → lines_at count (place + w) (drop w bytes) ≡ whole ls
+    → OwnLines count (place + w) (drop w bytes) ls)
     → OwnLines (suc count) place bytes lines
 lines_by count place bytes lines (whole runs) is e later =
     let w = line_width runs in
@@ -163,20 +178,31 @@ lines_by count place bytes lines (whole runs) is e later =
       most = omega (arith, most, few);
       own = λ more.
           let joined : take (w + k) bytes ++ more ≡ take w bytes ++ (take k (drop w bytes) ++ more) =
-          ap (λ (l : List ℕ). l ++ more) (take_both w k bytes here) ∙ append_assoc (take w bytes) (take k (drop w bytes)) more in
-          rw (joined, o.own (take k (drop w bytes) ++ more), behind_line bytes (take k (drop w bytes) ++ more) runs here, r.own more) refl;
+          ap (λ (l : List ℕ). l ++ more) (take_both w k bytes here)
+          ∙ append_assoc (take w bytes) (take k (drop w bytes)) more in
+          rw (
+            joined,
+            o.own (take k (drop w bytes) ++ more),
+            behind_line bytes (take k (drop w bytes) ++ more) runs
+                here,
+            r.own more,
+          ) refl;
     })
 lines_by count place bytes lines short is e later = absurd cc
 lines_by count place bytes lines (bad f) is e later = absurd cc
 
-pub own_lines : (count place : ℕ) (bytes : List ℕ) (lines : List (List ℕ)) → lines_at count place bytes ≡ whole lines → OwnLines count place bytes lines
+pub own_lines : (count place : ℕ) (bytes : List ℕ) (lines : List (List ℕ)) → lines_at count place bytes ≡ whole lines
+    → OwnLines count place bytes lines
 own_lines zero place bytes lines e = let none : lines ≡ [] = sym (ap items e) in rw none
     (record { within = omega arith; most = omega arith; own = λ more. refl })
 own_lines (suc count) place bytes lines e =
-    lines_by count place bytes lines (line_at place bytes) refl e (λ w ls. own_lines count (place + w) (drop w bytes) ls)
+    lines_by count place bytes lines (line_at place bytes) refl e
+    (λ w ls. own_lines count (place + w) (drop w bytes) ls)
 
-short_lines_by : (count place : ℕ) (bytes : List ℕ) (v : Front (List ℕ)) → line_at place bytes ≡ v → line_then v (after_line count place bytes) ≡ short
-    → ((w : ℕ) → lines_at count (place + w) (drop w bytes) ≡ short → length (drop w bytes) < 179 * count) → length bytes < 179 * suc count
+short_lines_by : (count place : ℕ) (bytes : List ℕ) (v : Front (List ℕ)) → line_at place bytes ≡ v
+    → line_then v (after_line count place bytes) ≡ short
+    → ((w : ℕ) → lines_at count (place + w) (drop w bytes) ≡ short → length (drop w bytes) < 179 * count)
+    → length bytes < 179 * suc count
 short_lines_by count place bytes (whole runs) is e later =
     let less = later (line_width runs) (first_short runs (after_line count place bytes runs) e) in
     let o = own_line place bytes runs is in
@@ -188,7 +214,8 @@ short_lines_by count place bytes (bad f) is e later = absurd cc
 
 short_lines : (count place : ℕ) (bytes : List ℕ) → lines_at count place bytes ≡ short → length bytes < 179 * count
 short_lines zero place bytes e = absurd cc
-short_lines (suc count) place bytes e = short_lines_by count place bytes (line_at place bytes) refl e (λ w. short_lines count (place + w) (drop w bytes))
+short_lines (suc count) place bytes e = short_lines_by count place bytes (line_at place bytes) refl e
+    (λ w. short_lines count (place + w) (drop w bytes))
 
 -- ---- a field
 
@@ -198,7 +225,8 @@ pub record OwnField (place : ℕ) (bytes : List ℕ) (lines : List (List ℕ)) :
   pub own : (more : List ℕ) → field_at place (take (field_width lines) bytes ++ more) ≡ whole lines
 
 field_by : (place count : ℕ) (rest : List ℕ) (lines : List (List ℕ)) (b : Bool) → nat_le count MAX_LINES ≡ b
-    → (if b then lines_at count (place + 1) rest else bad (fault.LineCount place)) ≡ whole lines → OwnField place (count ∷ rest) lines
+    → (if b then lines_at count (place + 1) rest else bad (fault.LineCount place)) ≡ whole lines
+    → OwnField place (count ∷ rest) lines
 field_by place count rest lines true is e =
     let o = own_lines count (place + 1) rest lines e in
     let few = leb-true count MAX_LINES is in
@@ -211,12 +239,14 @@ field_by place count rest lines true is e =
     }
 field_by place count rest lines false is e = absurd cc
 
-pub own_field : (place : ℕ) (bytes : List ℕ) (lines : List (List ℕ)) → field_at place bytes ≡ whole lines → OwnField place bytes lines
+pub own_field : (place : ℕ) (bytes : List ℕ) (lines : List (List ℕ)) → field_at place bytes ≡ whole lines
+    → OwnField place bytes lines
 own_field place [] lines e = absurd cc
 own_field place (count ∷ rest) lines e = field_by place count rest lines (nat_le count MAX_LINES) refl e
 
 short_field_by : (place count : ℕ) (rest : List ℕ) (b : Bool) → nat_le count MAX_LINES ≡ b
-    → (if b then lines_at count (place + 1) rest else bad (fault.LineCount place)) ≡ short → length (count ∷ rest) < 3581
+    → (if b then lines_at count (place + 1) rest else bad (fault.LineCount place)) ≡ short
+    → length (count ∷ rest) < 3581
 short_field_by place count rest true is e =
     let less = short_lines count (place + 1) rest e in
     let few = leb-true count MAX_LINES is in
@@ -232,12 +262,17 @@ short_field place (count ∷ rest) e = short_field_by place count rest (nat_le c
 
 -- what is whole stays so
 pub own_more : (bytes more : List ℕ) (w : ℕ) → bytes ++ more ≡ take w bytes ++ (drop w bytes ++ more)
-own_more bytes more w = ap (λ (l : List ℕ). l ++ more) (sym (take-append-drop w bytes)) ∙ append_assoc (take w bytes) (drop w bytes) more
+own_more bytes more w = ap (λ (l : List ℕ). l ++ more) (sym (take-append-drop w bytes))
+    ∙ append_assoc (take w bytes) (drop w bytes) more
 
-pub line_more : (place : ℕ) (bytes more runs : List ℕ) → line_at place bytes ≡ whole runs → line_at place (bytes ++ more) ≡ whole runs
+pub line_more : (place : ℕ) (bytes more runs : List ℕ) → line_at place bytes ≡ whole runs
+    → line_at place (bytes ++ more) ≡ whole runs
 line_more place bytes more runs e =
-    ap (line_at place) (own_more bytes more (line_width runs)) ∙ (own_line place bytes runs e).own (drop (line_width runs) bytes ++ more)
+    ap (line_at place) (own_more bytes more (line_width runs))
+    ∙ (own_line place bytes runs e).own (drop (line_width runs) bytes ++ more)
 
-pub field_more : (place : ℕ) (bytes more : List ℕ) (lines : List (List ℕ)) → field_at place bytes ≡ whole lines → field_at place (bytes ++ more) ≡ whole lines
+pub field_more : (place : ℕ) (bytes more : List ℕ) (lines : List (List ℕ)) → field_at place bytes ≡ whole lines
+    → field_at place (bytes ++ more) ≡ whole lines
 field_more place bytes more lines e =
-    ap (field_at place) (own_more bytes more (field_width lines)) ∙ (own_field place bytes lines e).own (drop (field_width lines) bytes ++ more)
+    ap (field_at place) (own_more bytes more (field_width lines))
+    ∙ (own_field place bytes lines e).own (drop (field_width lines) bytes ++ more)

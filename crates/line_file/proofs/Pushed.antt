@@ -1,7 +1,8 @@
 -- Texts that were appended one after another were appended as one.
 use Rattle.std.proofs.Common.{◌≡◌, ℕ, List, ◌++◌, ◌∙◌, ap, append_assoc}
 
-pub seven : (old a b c d e f g : List ℕ) → old ++ a ++ b ++ c ++ d ++ e ++ f ++ g ≡ old ++ (a ++ b ++ c ++ d ++ e ++ f ++ g)
+pub seven : (old a b c d e f g : List ℕ) → old ++ a ++ b ++ c ++ d ++ e ++ f ++ g ≡ old
+    ++ (a ++ b ++ c ++ d ++ e ++ f ++ g)
 seven old a b c d e f g =
     let two = append_assoc old a b in
     let three = ap (λ (l : List ℕ). l ++ c) two ∙ append_assoc old (a ++ b) c in

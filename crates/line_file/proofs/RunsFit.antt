@@ -11,7 +11,8 @@ cells_last n k least most =
     let one : 1 * n ≤ k * n = mul-le 1 n k n least (omega arith) in
     (omega (arith, one), mul-le k n 90 n most (omega arith))
 
-run_fits : (n r last : ℕ) → IsLineLength n → n ≤ last → last ≤ 90 * n → 4 * abs_diff (115 * r) last ≤ n → (1 ≤ r) × (r < 65536)
+run_fits : (n r last : ℕ) → IsLineLength n → n ≤ last → last ≤ 90 * n → 4 * abs_diff (115 * r) last ≤ n → (1 ≤ r)
+    × (r < 65536)
 run_fits n r last range least most near =
     let shortest = range.0 in
     let longest = range.1 in

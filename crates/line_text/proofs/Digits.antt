@@ -1,5 +1,6 @@
 -- The decimal digits of a number, two and four at a time, and how many they are at most.
-use Rattle.std.proofs.Common.{◌≡◌, ℕ, ◌+◌, ◌/◌, ◌%◌, ◌<◌, ◌≤◌, ◌^◌, [], ◌∷◌, ◌++◌, length, refl, ◌∙◌, ap, append_assoc, length-append, arith}
+use Rattle.std.proofs.Common.{◌≡◌, ℕ, ◌+◌, ◌/◌, ◌%◌, ◌<◌, ◌≤◌, ◌^◌, [], ◌∷◌, ◌++◌, length, refl, ◌∙◌, ap, append_assoc}
+use Rattle.std.proofs.Common.{length-append, arith}
 use Rattle.std.specs.Prelude.{decimal}
 use Rattle.std.proofs.lemmas.Fmt.{decimal_digit, decimal_step, length-decimal-le}
 use Rattle.tc_address.specs.Spelling.{two_digits}
@@ -20,7 +21,8 @@ one_digit n small = let is = decimal_digit n small in (is, ap length is)
 
 pub both_digits : (n : ℕ) → 10 ≤ n → n < 100 → (decimal n ≡ two_digits n) × (length (decimal n) ≡ 2)
 both_digits n large small =
-    let is : decimal n ≡ two_digits n = rw (decimal_step n large (omega arith), decimal_digit (n / 10) (omega arith)) refl in
+    let is : decimal n ≡ two_digits n = rw (decimal_step n large (omega arith), decimal_digit (n / 10) (omega arith))
+    refl in
     (is, ap length is)
 
 pub last_two : (n : ℕ) → 100 ≤ n → n < 2 ^ 64
@@ -30,7 +32,8 @@ last_two n large fits =
     let b : n / 10 % 10 ≡ n % 100 / 10 = omega arith in
     let c : n % 10 ≡ n % 100 % 10 = omega arith in
     let is : decimal n ≡ decimal (n / 100) ++ two_digits (n % 100) =
-    rw (decimal_step n (omega arith) fits, decimal_step (n / 10) (omega arith) (omega arith), append_assoc, a, b, ← c) refl in
+    rw (decimal_step n (omega arith) fits, decimal_step (n / 10) (omega arith) (omega arith), append_assoc, a, b, ← c)
+    refl in
     (is, ap length is ∙ length-append _ _)
 
 pub last_four : (n : ℕ) → 10000 ≤ n → n < 2 ^ 64
@@ -40,5 +43,6 @@ last_four n large fits =
     let a : n / 100 / 100 ≡ n / 10000 = omega arith in
     let b : n / 100 % 100 ≡ n % 10000 / 100 = omega arith in
     let is : decimal n ≡ decimal (n / 10000) ++ (two_digits (n % 10000 / 100) ++ two_digits (n % 100)) =
-    rw ((last_two n (omega arith) fits).0, (last_two (n / 100) (omega arith) (omega arith)).0, append_assoc, a, b) refl in
+    rw ((last_two n (omega arith) fits).0, (last_two (n / 100) (omega arith) (omega arith)).0, append_assoc, a, b) refl
+    in
     (is, ap length is ∙ length-append _ _)

@@ -23,7 +23,8 @@ unfolding ones_in_bytes
 ones_by_bytes zero n below = let e : n ≡ 0 = omega arith in rw e none_left
 ones_by_bytes (suc k) n below =
     let low : n % 2 ^ 8 < 2 ^ 8 = mod_below n (2 ^ 8) (lit< tt) in
-    let parts : count_ones n ≡ count_ones (n / 2 ^ 8) + count_ones (n % 2 ^ 8) = rw (shr_split n 8) at (ones_cat 8 (n / 2 ^ 8) (n % 2 ^ 8) low) in
+    let parts : count_ones n ≡ count_ones (n / 2 ^ 8) + count_ones (n % 2 ^ 8) =
+    rw (shr_split n 8) at (ones_cat 8 (n / 2 ^ 8) (n % 2 ^ 8) low) in
     let rest = ones_by_bytes k (n / 2 ^ 8) (smaller n ((2 ^ 8) ^ k) (rw (pow-suc (2 ^ 8) k) at below)) in
     omega arith
 

@@ -19,9 +19,12 @@ pub onto_split : (k n a : ℕ) → reverse_bits_onto k n a ≡ a * 2 ^ k + turne
 unfolding reverse_bits_onto
 onto_split zero n a = omega arith
 onto_split (suc k) n a =
-    let whole : reverse_bits_onto k (n / 2) (a * 2 + n % 2) ≡ (a * 2 + n % 2) * 2 ^ k + turned k (n / 2) = onto_split k (n / 2) (a * 2 + n % 2) in
-    let low : reverse_bits_onto k (n / 2) (0 * 2 + n % 2) ≡ (0 * 2 + n % 2) * 2 ^ k + turned k (n / 2) = onto_split k (n / 2) (0 * 2 + n % 2) in
-    let sum : reverse_bits_onto k (n / 2) (a * 2 + n % 2) ≡ a * 2 ^ suc k + reverse_bits_onto k (n / 2) (0 * 2 + n % 2) =
+    let whole : reverse_bits_onto k (n / 2) (a * 2 + n % 2) ≡ (a * 2 + n % 2) * 2 ^ k + turned k (n / 2) =
+    onto_split k (n / 2) (a * 2 + n % 2) in
+    let low : reverse_bits_onto k (n / 2) (0 * 2 + n % 2) ≡ (0 * 2 + n % 2) * 2 ^ k + turned k (n / 2) =
+    onto_split k (n / 2) (0 * 2 + n % 2) in
+    let sum : reverse_bits_onto k (n / 2) (a * 2 + n % 2) ≡ a * 2 ^ suc k + reverse_bits_onto k (n / 2) (0 * 2 + n % 2)
+    =
     rw (whole, low, pow-suc 2 k, spread a (n % 2) (2 ^ k)) (omega arith) in
     sum
 
@@ -29,7 +32,8 @@ onto_split (suc k) n a =
 pub turned-suc : (k n : ℕ) → turned (suc k) n ≡ n % 2 * 2 ^ k + turned k (n / 2)
 unfolding reverse_bits_onto
 turned-suc k n =
-    let low : reverse_bits_onto k (n / 2) (0 * 2 + n % 2) ≡ (0 * 2 + n % 2) * 2 ^ k + turned k (n / 2) = onto_split k (n / 2) (0 * 2 + n % 2) in
+    let low : reverse_bits_onto k (n / 2) (0 * 2 + n % 2) ≡ (0 * 2 + n % 2) * 2 ^ k + turned k (n / 2) =
+    onto_split k (n / 2) (0 * 2 + n % 2) in
     let e : 0 * 2 + n % 2 ≡ n % 2 = omega arith in
     low ∙ ap (λ (b : ℕ). b * 2 ^ k + turned k (n / 2)) e
 
@@ -44,10 +48,13 @@ turned_none n = omega arith
 
 pub turned_below : (k n : ℕ) → turned k n < 2 ^ k
 turned_below zero n = turned_none n
-turned_below (suc k) n = rw (turned-suc k n, pow-suc 2 k) (bit_times (n % 2) (2 ^ k) (turned k (n / 2)) (omega arith) (turned_below k (n / 2)))
+turned_below (suc k) n =
+    rw (turned-suc k n, pow-suc 2 k)
+    (bit_times (n % 2) (2 ^ k) (turned k (n / 2)) (omega arith) (turned_below k (n / 2)))
 
 -- first j bits, and then k more
-pub onto_more : (j k n a : ℕ) → reverse_bits_onto (j + k) n a ≡ reverse_bits_onto k (n / 2 ^ j) (reverse_bits_onto j n a)
+pub onto_more : (j k n a : ℕ) → reverse_bits_onto (j + k) n a ≡ reverse_bits_onto k (n / 2 ^ j)
+    (reverse_bits_onto j n a)
 unfolding reverse_bits_onto
 onto_more zero k n a = let e : zero + k ≡ k = omega arith in let d : n / 2 ^ zero ≡ n = omega arith in rw (e, d) refl
 onto_more (suc j) k n a =
@@ -60,7 +67,8 @@ turned_parts j k n = onto_more j k n 0 ∙ onto_split k (n / 2 ^ j) (turned j n)
 
 -- the first j bits are what stands above
 pub turned_high : (j k n : ℕ) → turned (j + k) n / 2 ^ k ≡ turned j n
-turned_high j k n = rw (turned_parts j k n) (shr_high (turned j n) k (turned k (n / 2 ^ j)) (turned_below k (n / 2 ^ j)))
+turned_high j k n = rw (turned_parts j k n)
+    (shr_high (turned j n) k (turned k (n / 2 ^ j)) (turned_below k (n / 2 ^ j)))
 
 turned_one_more : (j n : ℕ) → turned (j + 1) n % 2 ≡ bit_at n j
 unfolding reverse_bits_onto
@@ -79,7 +87,8 @@ bit_back n k i lt = let e : k - 1 - (k - 1 - i) ≡ i = omega arith in rw e (sym
 
 -- twice gives the lowest k bits again
 pub turned_twice : (k n : ℕ) → turned k (turned k n) ≡ n % 2 ^ k
-turned_twice k n = same_from_bits_below k (turned k (turned k n)) (n % 2 ^ k) (turned_below k (turned k n)) (mod_below n (2 ^ k) (pow_pos k))
+turned_twice k n = same_from_bits_below k (turned k (turned k n)) (n % 2 ^ k) (turned_below k (turned k n))
+    (mod_below n (2 ^ k) (pow_pos k))
     (λ i lt. bit_at-turned k (turned k n) i lt ∙ bit_at-turned k n (k - 1 - i) (omega arith) ∙ bit_back n k i lt)
 
 -- a register of j + k bits, turned as a whole and moved down by k, is its first j bits turned
@@ -93,7 +102,8 @@ top_of_turned n = rw (turned_high 16 64 n) (mod-eq_of_lt (turned_below 16 n))
 -- the first 16 bits turned are a pattern exactly where they are the pattern turned
 pub turned_is : (n pattern back : ℕ) → back ≡ turned 16 pattern → n % 2 ^ 16 ≡ pattern → turned 16 n ≡ back
 turned_is n pattern back e h =
-    sym (mod-eq_of_lt (turned_below 16 n)) ∙ sym (turned_twice 16 (turned 16 n)) ∙ ap (turned 16) (turned_twice 16 n ∙ h) ∙ sym e
+    sym (mod-eq_of_lt (turned_below 16 n)) ∙ sym (turned_twice 16 (turned 16 n))
+    ∙ ap (turned 16) (turned_twice 16 n ∙ h) ∙ sym e
 
 sync_turned : turned 16 16381 ≡ 49148
 unfolding reverse_bits_onto

@@ -32,5 +32,6 @@ unfolding wrong_sync_bit
 none_from_right bits h =
     none_found (differs bits) 64 16 (λ i lt.
     let k : 64 + i - 64 ≡ i = omega arith in
-    let e : bit_at bits (64 + i) ≡ bit_at SYNC_PATTERN (64 + i - 64) = rw k (sync_bit bits i lt ∙ ap (λ (n : ℕ). bit_at n i) h) in
+    let e : bit_at bits (64 + i) ≡ bit_at SYNC_PATTERN (64 + i - 64) =
+    rw k (sync_bit bits i lt ∙ ap (λ (n : ℕ). bit_at n i) h) in
     ap not (eq-eqb _ _ e))

@@ -35,7 +35,8 @@ row_is law F30 c polarity label low =
 
 -- the sum of a word's numbers has each of them in its place
 pub stands : SumHolds → AreExact → (word : LtcWord) (polarity : ℕ) → IsFields word.fields → polarity < 2
-    → Holds (row_with (system_with word.fields.label.count) word.fields polarity) (bits_with word polarity) × (bits_with word polarity < 2 ^ 80)
+    → Holds (row_with (system_with word.fields.label.count) word.fields polarity) (bits_with word polarity)
+    × (bits_with word polarity < 2 ^ 80)
 stands law exact word polarity valid low =
     law 80 (row_with (system_with word.fields.label.count) word.fields polarity)
     (row_is exact (system_with word.fields.label.count) word.fields polarity valid.label low)

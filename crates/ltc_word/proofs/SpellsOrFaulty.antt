@@ -1,4 +1,5 @@
--- Digits with no fault say fields, so bits that end in the sync word spell the word that they say, or have a first fault of their fields.
+-- Digits with no fault say fields, so bits that end in the sync word spell the word that they say, or have a first
+-- fault of their fields.
 use Rattle.std.proofs.Common.{◌≡◌, ℕ, ◌%◌, ◌^◌, ◌<◌, refl, Option, Some, None, inl, inr, ◌⊎◌}
 use Rattle.std.specs.Prelude.{◌↔◌, ◌==◌, IsTrue}
 use Rattle.std.proofs.lemmas.Bool.{eqb-true, eq-eqb}
@@ -21,14 +22,17 @@ use Rattle.ltc_word.proofs.OneSpelling.{spelled, word_with}
 
 -- digits without a fault say fields
 abbrev pub FaultlessSay : Type 0
-FaultlessSay = (system : System) (raw : RawFields) → first_field_fault system raw ≡ None → (c : FieldValues) × Says system raw c
+FaultlessSay = (system : System) (raw : RawFields) → first_field_fault system raw ≡ None → (c : FieldValues)
+    × Says system raw c
 
 -- the bits spell a word, or their fields have a first fault
 abbrev pub SpellsOrIsFaulty : System → ℕ → Type 0
 SpellsOrIsFaulty system bits =
-    ((word : LtcWord) × Spells system word bits) ⊎ ((fault : FieldFault) × (first_fault system bits ≡ Some (Field fault)))
+    ((word : LtcWord) × Spells system word bits)
+    ⊎ ((fault : FieldFault) × (first_fault system bits ≡ Some (Field fault)))
 
-by_fault : AreExact → FaultlessSay → (system : System) (bits : ℕ) → bits < 2 ^ 80 → EndsInSync bits → (fault : Option FieldFault)
+by_fault : AreExact → FaultlessSay → (system : System) (bits : ℕ) → bits < 2 ^ 80 → EndsInSync bits
+    → (fault : Option FieldFault)
     → first_field_fault system (raw_in (table_of system) bits) ≡ fault → SpellsOrIsFaulty system bits
 by_fault exact say system bits width sync None is =
     let said = say system (raw_in (table_of system) bits) is in

@@ -66,7 +66,8 @@ stops system word bits s =
     }
 
 -- a row of ones that covers a digit makes it all ones
-covers : (bits i first k : ℕ) → HasTwelveOnes bits i → i ≤ first + k → first + k < i + 12 → bits / 2 ^ first / 2 ^ k % 2 ≡ 1
+covers : (bits i first k : ℕ) → HasTwelveOnes bits i → i ≤ first + k → first + k < i + 12
+    → bits / 2 ^ first / 2 ^ k % 2 ≡ 1
 covers bits i first k ones le lt = rw (shr-shr bits first k) (set_at bits i (first + k) ones le lt)
 
 no_two : (bits i first : ℕ) → HasTwelveOnes bits i → i ≤ first → first + 2 ≤ i + 12 → bits / 2 ^ first % 2 ^ 2 < 3 → ⊥
@@ -150,5 +151,6 @@ pub only_in_two : (x y i : ℕ) → x < 2 ^ 80 → Stops x → Stops y → i < 8
 only_in_two x y i width s t below ones =
     elim (cases_lt i 79) [
       | inl lt ↦ only_there (x + y * 2 ^ 80) i (stops_before x y width s) lt ones
-      | inr from ↦ absurd (no_four (x + y * 2 ^ 80) i 80 ones (omega arith) (omega arith) (units_of_second x y width t.frame_units))
+      | inr from ↦ absurd (no_four (x + y * 2 ^ 80) i 80 ones (omega arith) (omega arith)
+          (units_of_second x y width t.frame_units))
     ]

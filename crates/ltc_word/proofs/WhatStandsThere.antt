@@ -29,7 +29,8 @@ abbrev pub SayOne : Type 0
 SayOne = (system : System) (raw : RawFields) (a b : FieldValues) → Says system raw a → Says system raw b → a ≡ b
 
 abbrev pub SayFaultless : Type 0
-SayFaultless = (system : System) (raw : RawFields) (c : FieldValues) → Says system raw c → first_field_fault system raw ≡ None
+SayFaultless = (system : System) (raw : RawFields) (c : FieldValues) → Says system raw c
+    → first_field_fault system raw ≡ None
 
 pub stands : AreExact → FaultlessSayThese → (system : System) (bits : ℕ) → bits < 2 ^ 80 → EndsInSync bits
     → fault_in system bits ≡ None → Spells system (word_in system bits) bits
@@ -45,7 +46,8 @@ unfolding fault_in
 no_fault_there exact none system word bits s =
     none system (raw_in (table_of system) bits) word.fields (says exact system word bits s)
 
-pub the_word_there : AreExact → FaultlessSayThese → SayFaultless → SayOne → (system : System) (word : LtcWord) (bits : ℕ)
+pub the_word_there : AreExact → FaultlessSayThese → SayFaultless → SayOne
+    → (system : System) (word : LtcWord) (bits : ℕ)
     → Spells system word bits → word ≡ word_in system bits
 the_word_there exact say none one system word bits s =
     one_word exact one system word (word_in system bits) bits s
@@ -64,7 +66,8 @@ unfolding fault_in
 the_fault_there system bits fault is =
     behind_sync (wrong_sync_bit bits) (first_field_fault system (raw_in (table_of system) bits)) fault is
 
-pub first_there : (system : System) (bits : ℕ) (fault : FieldFault) → EndsInSync bits → fault_in system bits ≡ Some fault
+pub first_there : (system : System) (bits : ℕ) (fault : FieldFault) → EndsInSync bits
+    → fault_in system bits ≡ Some fault
     → first_fault system bits ≡ Some (Field fault)
 unfolding fault_in
 first_there system bits fault sync is = rw (none_from_right bits sync, is) refl

@@ -128,10 +128,14 @@ pub fn reversed_twice_is_the_same()
 
 /// Words that spell a label of nothing but zeros, and one hour in drop-frame.
 pub fn words_of_round_labels()
-    ensures zero_at_30 { Spells F30 (word_with C30 0 0 0 0 (flags false false false false false) 0 true) 0xbffc0000000008000000 }
-    ensures zero_at_25 { Spells F25 (word_with C25 0 0 0 0 (flags false false false false false) 0 true) 0xbffc0800000000000000 }
-    ensures unbalanced { Spells F30 (word_with C30 0 0 0 0 (flags false false false false false) 0 false) 0xbffc0000000000000000 }
-    ensures one_hour { Spells F30 (word_with Drop30 1 0 0 0 (flags true false false false false) 0 true) 0xbffc0001000008000400 }
+    ensures zero_at_30 { Spells F30 (word_with C30 0 0 0 0 (flags false false false false false) 0 true)
+        0xbffc0000000008000000 }
+    ensures zero_at_25 { Spells F25 (word_with C25 0 0 0 0 (flags false false false false false) 0 true)
+        0xbffc0800000000000000 }
+    ensures unbalanced { Spells F30 (word_with C30 0 0 0 0 (flags false false false false false) 0 false)
+        0xbffc0000000000000000 }
+    ensures one_hour { Spells F30 (word_with Drop30 1 0 0 0 (flags true false false false false) 0 true)
+        0xbffc0001000008000400 }
 {
     fields_are_exact();
 }
@@ -140,13 +144,20 @@ pub fn words_of_round_labels()
 /// worked out from it by hand. In the three words of a system no two flags are set alike, nor
 /// is one set as the polarity correction.
 pub fn words_worked_out_by_hand()
-    ensures first_at_24 { Spells F24 (word_with C24 19 47 58 23 (flags true false true false false) 0xfce0ba6d true) 0xbffcf1c9ec07bda866d3 }
-    ensures first_at_25 { Spells F25 (word_with C25 19 47 58 23 (flags true false true false false) 0xfce0ba6d true) 0xbffcf9c9e407bda866d3 }
-    ensures second_at_25 { Spells F25 (word_with C25 19 47 58 23 (flags false true false true false) 0xfce0ba6d false) 0xbffcf5c9e407b5a86ad3 }
-    ensures third_at_25 { Spells F25 (word_with C25 19 47 58 23 (flags true true false false true) 0xfce0ba6d true) 0xbffcf1c9ec07b5a86ed3 }
-    ensures first_at_30 { Spells F30 (word_with Drop30 19 47 58 23 (flags true false true false false) 0xfce0ba6d true) 0xbffcf1c9ec07bda866d3 }
-    ensures second_at_30 { Spells F30 (word_with C30 19 47 58 23 (flags false true false true false) 0xfce0ba6d false) 0xbffcf5c9e407b5a86ad3 }
-    ensures third_at_30 { Spells F30 (word_with Drop30 19 47 58 23 (flags true true false false true) 0xfce0ba6d true) 0xbffcf9c9e407b5a86ed3 }
+    ensures first_at_24 { Spells F24 (word_with C24 19 47 58 23 (flags true false true false false) 0xfce0ba6d true)
+        0xbffcf1c9ec07bda866d3 }
+    ensures first_at_25 { Spells F25 (word_with C25 19 47 58 23 (flags true false true false false) 0xfce0ba6d true)
+        0xbffcf9c9e407bda866d3 }
+    ensures second_at_25 { Spells F25 (word_with C25 19 47 58 23 (flags false true false true false) 0xfce0ba6d false)
+        0xbffcf5c9e407b5a86ad3 }
+    ensures third_at_25 { Spells F25 (word_with C25 19 47 58 23 (flags true true false false true) 0xfce0ba6d true)
+        0xbffcf1c9ec07b5a86ed3 }
+    ensures first_at_30 { Spells F30 (word_with Drop30 19 47 58 23 (flags true false true false false) 0xfce0ba6d true)
+        0xbffcf1c9ec07bda866d3 }
+    ensures second_at_30 { Spells F30 (word_with C30 19 47 58 23 (flags false true false true false) 0xfce0ba6d false)
+        0xbffcf5c9e407b5a86ad3 }
+    ensures third_at_30 { Spells F30 (word_with Drop30 19 47 58 23 (flags true true false false true) 0xfce0ba6d true)
+        0xbffcf9c9e407b5a86ed3 }
 {
     fields_are_exact();
 }

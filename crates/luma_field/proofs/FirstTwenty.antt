@@ -58,7 +58,8 @@ pub one_more : {X : Type 0} (f : X → List ℕ) (rows : List X) (k : ℕ) (d : 
 one_more f rows k d start lines new h first then =
     let x = get_or rows k d in
     then ∙ (ap (λ ls. take 20 (ls ++ f x)) first ∙ (cut_twice 20 (start ++ flat_map f (take k rows)) (f x)
-    ∙ (ap (take 20) (flat_map_more f start (take k rows) x) ∙ ap (λ xs. take 20 (start ++ flat_map f xs)) (sym (take_more rows k d h)))))
+    ∙ (ap (take 20) (flat_map_more f start (take k rows) x)
+    ∙ ap (λ xs. take 20 (start ++ flat_map f xs)) (sym (take_more rows k d h)))))
 
 -- the pairs of some rows are the first one with each behind it, and the pairs of these
 pairs_of_first : {X : Type 0} (g : X × X → List ℕ) (x : X) (xs : List X)

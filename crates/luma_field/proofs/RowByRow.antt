@@ -117,7 +117,8 @@ pub row_passed : (raster : RasterSize) (rows : List (List ℕ)) (row : List ℕ)
     → AreFoundIn raster rows found → number ≡ length rows → ¬ IsLooked raster number → new ≡ found
     → AreFoundIn raster (rows ++ row ∷ []) new
 row_passed raster rows row number found new are count passed same =
-    let as_before : looked_at raster (rows ++ row ∷ []) ≡ looked_at raster rows = elim (not_looked raster number passed) [
+    let as_before : looked_at raster (rows ++ row ∷ []) ≡ looked_at raster rows =
+    elim (not_looked raster number passed) [
       | inl before ↦ looked_before raster rows row (omega (arith, count, before))
       | inr behind ↦ looked_behind raster rows row (omega (arith, count, behind))
     ] in (

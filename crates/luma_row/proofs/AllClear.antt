@@ -1,5 +1,6 @@
 -- Where all are clear each is.
-use Rattle.std.proofs.Common.{◌≡◌, ℕ, zero, suc, ◌*◌, ◌<◌, ◌≤◌, ◌⊎◌, inl, inr, Bool, true, false, ◌&&◌, sym, subst, arith}
+use Rattle.std.proofs.Common.{◌≡◌, ℕ, zero, suc, ◌*◌, ◌<◌, ◌≤◌, ◌⊎◌, inl, inr, Bool, true, false, ◌&&◌, sym, subst}
+use Rattle.std.proofs.Common.{arith}
 use Rattle.std.proofs.lemmas.Bool.Decides.{nat_tests}
 use Rattle.std.specs.Prelude.{unsigned_abs, leb}
 use Rattle.luma_row.specs.declared.levels.Levels.{Levels}
@@ -26,5 +27,6 @@ pub said_is_clear : (levels : Levels) (bit : ℕ) → says_bits levels ≡ true 
     → 10 * levels.swing ≤ 9 * unsigned_abs (height_at levels bit)
 said_is_clear levels bit said h =
     let parts = both (is_one levels 0) (all_of 90 (is_clear levels)) said in
-    let clear : leb (10 * levels.swing) (9 * unsigned_abs (height_at levels bit)) ≡ true = each 90 (is_clear levels) bit parts.1 h in
+    let clear : leb (10 * levels.swing) (9 * unsigned_abs (height_at levels bit)) ≡ true =
+    each 90 (is_clear levels) bit parts.1 h in
     grind (arith, nat_tests)

@@ -34,7 +34,8 @@ one_filled f size most count x table t room is small =
     }
 
 -- up to more of them, where there are no more
-pub filled_to : (f : ℕ → ℕ) (size most count other : ℕ) (table : List ℕ) → count ≡ other → IsFilled f size most count table
+pub filled_to : (f : ℕ → ℕ) (size most count other : ℕ) (table : List ℕ) → count ≡ other
+    → IsFilled f size most count table
     → IsFilled f size most other table
 filled_to f size most count other table same t = subst (λ n. IsFilled f size most n table) same t
 

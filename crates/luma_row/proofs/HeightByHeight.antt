@@ -1,5 +1,6 @@
 -- Heights that are filled from the front are filled a bit further with the next.
-use Rattle.std.proofs.Common.{◌≡◌, ℕ, ◌+◌, ◌<◌, ◌≤◌, ℤ, pos, ◌⊎◌, inl, inr, List, length, get_or, map, sym, subst, ◌∙◌, arith}
+use Rattle.std.proofs.Common.{◌≡◌, ℕ, ◌+◌, ◌<◌, ◌≤◌, ℤ, pos, ◌⊎◌, inl, inr, List, length, get_or, map, sym, subst, ◌∙◌}
+use Rattle.std.proofs.Common.{arith}
 use Rattle.std.specs.List.{range_with_len}
 use Rattle.std.specs.Prelude.{set, unsigned_abs}
 use Rattle.std.proofs.lemmas.List.{get_or-set_same, get_or-set_other, length-set}
@@ -13,7 +14,8 @@ no_heights f most heights long = record {
   within = λ bit h. absurd (omega arith);
 }
 
-pub one_height : (f : ℕ → ℤ) (most count : ℕ) (x : ℤ) (heights : List ℤ) → AreHeightsTo f most count heights → count < 90
+pub one_height : (f : ℕ → ℤ) (most count : ℕ) (x : ℤ) (heights : List ℤ) → AreHeightsTo f most count heights
+    → count < 90
     → x ≡ f count → unsigned_abs x ≤ most → AreHeightsTo f most (count + 1) (set heights count x)
 one_height f most count x heights t room is small =
     let long = t.long in
@@ -34,7 +36,8 @@ one_height f most count x heights t room is small =
       ];
     }
 
-pub heights_to : (f : ℕ → ℤ) (most count other : ℕ) (heights : List ℤ) → count ≡ other → AreHeightsTo f most count heights
+pub heights_to : (f : ℕ → ℤ) (most count other : ℕ) (heights : List ℤ) → count ≡ other
+    → AreHeightsTo f most count heights
     → AreHeightsTo f most other heights
 heights_to f most count other heights same t = subst (λ n. AreHeightsTo f most n heights) same t
 

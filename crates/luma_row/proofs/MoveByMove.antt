@@ -1,5 +1,6 @@
 -- Moves one after another: a place that is the best of its neighbours stays, and one that is chosen fits the row.
-use Rattle.std.proofs.Common.{◌≡◌, ◌≢◌, ℕ, zero, suc, ◌+◌, ◌/◌, ◌<◌, ◌==◌, Bool, true, false, cond, List, length, refl, ap, subst, arith}
+use Rattle.std.proofs.Common.{◌≡◌, ◌≢◌, ℕ, zero, suc, ◌+◌, ◌/◌, ◌<◌, ◌==◌, Bool, true, false, cond, List, length, refl}
+use Rattle.std.proofs.Common.{ap, subst, arith}
 use Rattle.std.proofs.lemmas.Bool.Decides.{nat_tests}
 use Rattle.luma_row.specs.declared.place.Place.{Place}
 use Rattle.luma_row.specs.Choice.{IsFirstBest}
@@ -15,10 +16,12 @@ one_move row step moves from between to climbs move =
     subst (λ n. Climbs row step n from to) e (between, climbs, move)
 
 -- where the best neighbour is the place itself, it stays
-pub itself : (row : List ℕ) (step : ℕ) (place : Place) → IsFirstBest 9 (worth row place step) 0 → Moves row step place place
+pub itself : (row : List ℕ) (step : ℕ) (place : Place) → IsFirstBest 9 (worth row place step) 0
+    → Moves row step place place
 itself row step place best = (0, best, refl)
 
-pub still : (row : List ℕ) (step moves more : ℕ) (from at : Place) → Climbs row step moves from at → Moves row step at at
+pub still : (row : List ℕ) (step moves more : ℕ) (from at : Place) → Climbs row step moves from at
+    → Moves row step at at
     → Climbs row step (moves + more) from at
 still row step moves zero from at climbs move =
     let e : moves ≡ moves + 0 = omega arith in subst (λ n. Climbs row step n from at) e climbs
@@ -32,7 +35,8 @@ worth_more false true own other least h isnt = refl
 worth_more false false own other least h isnt = absurd (omega arith)
 
 -- a neighbour that is chosen fits
-chosen_fits : (row : List ℕ) (step number : ℕ) (place : Place) → IsFirstBest 9 (worth row place step) number → number ≢ 0
+chosen_fits : (row : List ℕ) (step number : ℕ) (place : Place) → IsFirstBest 9 (worth row place step) number
+    → number ≢ 0
     → fits (length row) (neighbour place step number) ≡ true
 chosen_fits row step number place best other =
     let some : 0 < number = grind arith in
@@ -46,7 +50,8 @@ fits_in_row row place is fit =
     let b = is.1 in
     record { order = grind (arith, nat_tests); last = grind (arith, nat_tests) }
 
-pub chosen_in_row : (row : List ℕ) (step number : ℕ) (place : Place) → IsRow row → IsFirstBest 9 (worth row place step) number
+pub chosen_in_row : (row : List ℕ) (step number : ℕ) (place : Place) → IsRow row
+    → IsFirstBest 9 (worth row place step) number
     → number ≢ 0 → IsInRow (neighbour place step number)
 chosen_in_row row step number place is best other =
     fits_in_row row (neighbour place step number) is (chosen_fits row step number place best other)

@@ -16,4 +16,5 @@ one_code row a b p q =
     let same = one_place row a.place b.place p.lies q.lies in
     let swings = p.swing_is ∙ (ap (λ (x : Place). swing (cells_of row x)) same ∙ sym q.swing_is) in
     let heights = p.heights_are ∙ (ap (λ (x : Place). heights_of (cells_of row x)) same ∙ sym q.heights_are) in
-    ap₂ (λ (x : Place) (l : Levels). record { place = x; levels = l }) same (same_levels a.levels b.levels swings heights)
+    ap₂ (λ (x : Place) (l : Levels). record { place = x; levels = l }) same
+    (same_levels a.levels b.levels swings heights)

@@ -16,7 +16,8 @@ first_of_one worth sum is = record {
   };
 }
 
-pub stays : (most : ℕ) (worth : ℕ → ℕ) (sum number new : ℕ) → IsBestOf most worth sum number → new ≡ worth most → new ≤ sum
+pub stays : (most : ℕ) (worth : ℕ → ℕ) (sum number new : ℕ) → IsBestOf most worth sum number → new ≡ worth most
+    → new ≤ sum
     → IsBestOf (most + 1) worth sum number
 stays most worth sum number new b is less =
     let s = b.sum_is in
@@ -32,7 +33,8 @@ stays most worth sum number new b is less =
       };
     }
 
-pub comes : (most : ℕ) (worth : ℕ → ℕ) (sum number new : ℕ) → IsBestOf most worth sum number → new ≡ worth most → sum < new
+pub comes : (most : ℕ) (worth : ℕ → ℕ) (sum number new : ℕ) → IsBestOf most worth sum number → new ≡ worth most
+    → sum < new
     → IsBestOf (most + 1) worth new most
 comes most worth sum number new b is more =
     let s = b.sum_is in
@@ -75,7 +77,8 @@ first_is_greatest most worth sum number b =
     omega arith
 
 -- there is one first of the greatest
-pub one_first : (most : ℕ) (worth : ℕ → ℕ) (number other : ℕ) → IsFirstBest most worth number → IsFirstBest most worth other
+pub one_first : (most : ℕ) (worth : ℕ → ℕ) (number other : ℕ) → IsFirstBest most worth number
+    → IsFirstBest most worth other
     → number ≡ other
 one_first most worth number other a b =
     let p = a.greatest other b.below in

@@ -16,7 +16,8 @@ one_move_leads row step from a b m n =
     let same = one_first 9 (worth row from step) m.0 n.0 m.1 n.1 in
     m.2 ∙ (ap (neighbour from step) same ∙ sym n.2)
 
-one_climb : (row : List ℕ) (step moves : ℕ) (from a b : Place) → Climbs row step moves from a → Climbs row step moves from b
+one_climb : (row : List ℕ) (step moves : ℕ) (from a b : Place) → Climbs row step moves from a
+    → Climbs row step moves from b
     → a ≡ b
 one_climb row step zero from a b p q = p ∙ sym q
 one_climb row step (suc moves) from a b p q =
@@ -28,14 +29,16 @@ one_refined : (row : List ℕ) (first steps : ℕ) (from a b : Place) → Refine
 one_refined row first zero from a b p q = p ∙ sym q
 one_refined row first (suc steps) from a b p q =
     let same = one_refined row first steps from p.0 q.0 p.1 q.1 in
-    one_climb row (halved first steps) 6 q.0 a b (subst (λ (x : Place). Climbs row (halved first steps) 6 x a) same p.2) q.2
+    one_climb row (halved first steps) 6 q.0 a b (subst (λ (x : Place). Climbs row (halved first steps) 6 x a) same p.2)
+    q.2
 
 pub one_coarse : (row : List ℕ) (sum other : ℕ) (a b : Place) → IsCoarse row sum a → IsCoarse row other b
     → (sum ≡ other) × (a ≡ b)
 one_coarse row sum other a b p q =
     let width = length row in
     let wide = one_first (distances width) (best_at row) p.wide q.wide p.of_distances q.of_distances in
-    let starts_of = subst (λ (w : ℕ). IsFirstBest (starts width (distance width w)) (sum_at row (distance width w)) p.early)
+    let starts_of = subst (λ (w : ℕ). IsFirstBest (starts width (distance width w)) (sum_at row (distance width w))
+    p.early)
     wide p.of_starts in
     let early = one_first (starts width (distance width q.wide)) (sum_at row (distance width q.wide)) p.early q.early
     starts_of q.of_starts in

@@ -1,5 +1,6 @@
 -- With one more pixel the table has one more sum: the one before it and this pixel. A sum of n pixels is 255 n at most.
-use Rattle.std.proofs.Common.{◌≡◌, ℕ, ◌+◌, ◌*◌, ◌/◌, ◌%◌, ◌<◌, ◌≤◌, ◌⊎◌, inl, inr, List, length, get_or, take, refl, ap, sym, subst, ◌∙◌, arith}
+use Rattle.std.proofs.Common.{◌≡◌, ℕ, ◌+◌, ◌*◌, ◌/◌, ◌%◌, ◌<◌, ◌≤◌, ◌⊎◌, inl, inr, List, length, get_or, take, refl, ap}
+use Rattle.std.proofs.Common.{sym, subst, ◌∙◌, arith}
 use Rattle.std.specs.List.{sum}
 use Rattle.std.specs.Prelude.{set}
 use Rattle.std.proofs.lemmas.List.{get_or_past, get_or-set_same, get_or-set_other, length-set, take_all}
@@ -29,11 +30,13 @@ more_sums row table n x h room is small t =
       ];
       most = λ pixel b. elim (cases pixel b) [
         | inl less ↦ let e = before pixel less in let m = t.most pixel less in omega (arith, e, m)
-        | inr same ↦ subst (λ p. get_or (set table (n + 1) new) p 0 ≤ 255 * p) (sym same) (omega (arith, here, few, small))
+        | inr same ↦ subst (λ p. get_or (set table (n + 1) new) p 0 ≤ 255 * p) (sym same)
+            (omega (arith, here, few, small))
       ];
     }
 
-pub one_more_pixel : (row table : List ℕ) (total n x : ℕ) → SumsSoFar row table total n → n < length row → length row ≤ 4096
+pub one_more_pixel : (row table : List ℕ) (total n x : ℕ) → SumsSoFar row table total n → n < length row
+    → length row ≤ 4096
     → x ≡ get_or row n 0 → x ≤ 255 → SumsSoFar row (set table (n + 1) (total + x)) (total + x) (n + 1)
 one_more_pixel row table total n x s h short is small =
     let long = s.long in

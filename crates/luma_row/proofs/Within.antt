@@ -6,7 +6,8 @@ use Rattle.luma_row.specs.KeptWidth.{IsWidth}
 use Rattle.luma_row.specs.Width.{earliest, end, grain, start, starts}
 
 -- a sync pair behind the first stands in the row
-pub step_within : (width apart first pair step : ℕ) → pair < 9 → step ≡ step_to apart pair → first + apart + 16 < 16 * width
+pub step_within : (width apart first pair step : ℕ) → pair < 9 → step ≡ step_to apart pair
+    → first + apart + 16 < 16 * width
     → (first + 8) / 16 + step < width
 step_within width apart first pair step h is within =
     let few : pair ≤ 8 = omega arith in
@@ -24,7 +25,8 @@ start_in_room width apart number h =
     let d = mul-div-le (room width apart) (grain width) in
     omega (arith, m, d)
 
-pub few_starts : (width apart number : ℕ) → IsWidth width → 12 * width ≤ apart → number < starts width apart → number ≤ 256
+pub few_starts : (width apart number : ℕ) → IsWidth width → 12 * width ≤ apart → number < starts width apart
+    → number ≤ 256
 few_starts width apart number is narrow h =
     let r = start_in_room width apart number h in
     let a = is.0 in

@@ -13,7 +13,8 @@ moved place step (suc (suc _)) = place + step
 
 -- the nine neighbours of a place: both ends stay, go back or go on; the place itself is the first of them
 abbrev pub neighbour : Place → ℕ → ℕ → Place
-neighbour place step number = record { first = moved place.first step (number / 3); last = moved place.last step (number % 3) }
+neighbour place step number =
+    record { first = moved place.first step (number / 3); last = moved place.last step (number % 3) }
 
 -- the sum of falls of a neighbour, and nothing where the word does not fit; the place itself may stay
 abbrev pub worth : List ℕ → Place → ℕ → ℕ → ℕ

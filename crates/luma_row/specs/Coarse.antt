@@ -1,4 +1,5 @@
--- The coarse place of a word: of the distances and starts that are looked at, the one whose nine sync pairs fall the most
+-- The coarse place of a word: of the distances and starts that are looked at, the one whose nine sync pairs fall the
+-- most
 -- at whole pixels.
 use Rattle.std.specs.Prelude.{◌≡◌, ℕ, ◌+◌, ◌-◌, ◌*◌, ◌/◌, List, length}
 use Rattle.luma_row.specs.declared.place.Place.{Place}
@@ -8,7 +9,8 @@ use Rattle.luma_row.specs.Width.{distance, distances, start, starts, ten_cells}
 
 -- the fall where a pixel begins, over a cell on both sides
 abbrev pub fall_at : List ℕ → ℕ → ℕ
-fall_at row pixel = fall row (16 * pixel - ten_cells (length row) / 10) (16 * pixel) (16 * pixel + ten_cells (length row) / 10)
+fall_at row pixel = fall row (16 * pixel - ten_cells (length row) / 10) (16 * pixel)
+    (16 * pixel + ten_cells (length row) / 10)
 
 -- a place, to the nearest pixel
 abbrev pub pixel_of : ℕ → ℕ
@@ -32,14 +34,16 @@ sum_at row apart number = coarse_sum row apart (start (length row) number)
 
 -- the greatest of them
 abbrev pub best_at : List ℕ → ℕ → ℕ
-best_at row number = greatest (starts (length row) (distance (length row) number)) (sum_at row (distance (length row) number))
+best_at row number = greatest (starts (length row) (distance (length row) number))
+    (sum_at row (distance (length row) number))
 
 -- the coarse place: of the first distance that has the greatest sum, the first start that has it
 pub record IsCoarse (row : List ℕ) (sum : ℕ) (place : Place) : Type 0 where
   pub wide : ℕ
   pub early : ℕ
   pub of_distances : IsFirstBest (distances (length row)) (best_at row) wide
-  pub of_starts : IsFirstBest (starts (length row) (distance (length row) wide)) (sum_at row (distance (length row) wide)) early
+  pub of_starts : IsFirstBest (starts (length row) (distance (length row) wide))
+      (sum_at row (distance (length row) wide)) early
   pub sum_is : sum ≡ best_at row wide
   pub first : place.first ≡ start (length row) early
   pub last : place.last ≡ start (length row) early + distance (length row) wide

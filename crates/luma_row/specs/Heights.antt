@@ -11,8 +11,10 @@ middle cells pair = light_of cells pair + dark_of cells pair
 abbrev pub smoothed : List ℕ → ℕ → ℕ
 smoothed cells pair = middle cells (pair - 1) + 2 * middle cells pair + middle cells (min (pair + 1) 8)
 
--- The threshold is straight from the middle of a pair, between its two bits, to that of the next, 10 cells behind it. So
--- it goes on before the first pair and behind the last. In halves of a cell it stands at twice the bit, between these two.
+-- The threshold is straight from the middle of a pair, between its two bits, to that of the next, 10 cells behind it.
+-- So
+-- it goes on before the first pair and behind the last. In halves of a cell it stands at twice the bit, between these
+-- two.
 abbrev pub pair_before : ℕ → ℕ
 pair_before bit = min ((2 * bit - 1) / 20) 7
 
@@ -23,7 +25,8 @@ abbrev pub to : ℕ → ℕ
 to bit = 20 * pair_before bit + 21
 
 -- The height of the light above the threshold, in 160ths: the light 160 times, and the middles on both sides, which are
--- counted eight times, as often as the other end of their 20 halves of a cell is far. What is taken away outside of both
+-- counted eight times, as often as the other end of their 20 halves of a cell is far. What is taken away outside of
+-- both
 -- stands on the other side.
 abbrev pub above : List ℕ → ℕ → ℕ
 above cells bit = 160 * get_or cells bit 0 + (2 * bit - to bit) * smoothed cells (pair_before bit)

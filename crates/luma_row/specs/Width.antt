@@ -27,7 +27,8 @@ distances width = (widest width - narrowest width) / (2 * grain width) + 1
 abbrev pub distance : ℕ → ℕ → ℕ
 distance width number = narrowest width + 2 * grain width * number
 
--- the starts that are looked at are a grain apart, as long as the 89 cells behind them end within the row and four grains
+-- the starts that are looked at are a grain apart, as long as the 89 cells behind them end within the row and four
+-- grains
 abbrev pub earliest : ℕ → ℕ
 earliest width = ten_cells width * 95 / 1000
 

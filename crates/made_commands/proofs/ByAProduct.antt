@@ -1,5 +1,6 @@
 -- The remainder of a draw by an odd divisor, by a product and a shift with the factor that stands in a table.
-use Rattle.std.proofs.Common.{◌≡◌, ℕ, ◌+◌, ◌-◌, ◌*◌, ◌/◌, ◌%◌, ◌^◌, ◌<◌, ◌≤◌, List, length, set, slice_index, sym, ap, ◌∙◌, arith, inl, inr}
+use Rattle.std.proofs.Common.{◌≡◌, ℕ, ◌+◌, ◌-◌, ◌*◌, ◌/◌, ◌%◌, ◌^◌, ◌<◌, ◌≤◌, List, length, set, slice_index, sym, ap}
+use Rattle.std.proofs.Common.{◌∙◌, arith, inl, inr}
 use Rattle.std.proofs.Math.Nat.{div-mul-le_self, mod-eq-sub-div-mul}
 use Rattle.std.proofs.lemmas.Nat.{mul-le}
 use Rattle.std.proofs.lemmas.Bool.{cases_eq}
@@ -17,7 +18,8 @@ is_divided : (value half factor : ℕ) → value < 2 ^ 44 → half ≤ 512 → f
     → IsDivided value (2 * half + 1) (value * factor / 2 ^ 64)
 is_divided value half factor small most is =
     let d = 2 * half + 1 in
-    let room : (value + 1) * d ≤ 2 ^ 44 * 2 ^ 11 = mul-le (value + 1) d (2 ^ 44) (2 ^ 11) (omega (arith, small)) (omega (arith, most)) in
+    let room : (value + 1) * d ≤ 2 ^ 44 * 2 ^ 11 = mul-le (value + 1) d (2 ^ 44) (2 ^ 11) (omega (arith, small))
+    (omega (arith, most)) in
     let same : value * factor / 2 ^ 64 ≡ value / d =
     ap (λ (m : ℕ). value * m / 2 ^ 64) is ∙ by_product (2 ^ 64) value d (omega arith) (omega (arith, room)) in
     let high = behind value d (omega arith) in
@@ -35,7 +37,8 @@ by_table factors value half are small least most =
     is_divided value half (slice_index factors half) small most (are half least (omega (arith, most)))
 
 -- a factor more in the table
-pub more_factors : (bound : ℕ) (factors : List ℕ) (factor : ℕ) → bound < length factors → factor ≡ factor_of (2 * bound + 1) → AreBelow bound factors
+pub more_factors : (bound : ℕ) (factors : List ℕ) (factor : ℕ) → bound < length factors
+    → factor ≡ factor_of (2 * bound + 1) → AreBelow bound factors
     → AreBelow (bound + 1) (set factors bound factor)
 more_factors bound factors factor within is are = λ half some below.
     elim (cases_eq half bound) [

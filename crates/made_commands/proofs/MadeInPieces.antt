@@ -1,5 +1,6 @@
 -- A recording is made cell by cell and frame by frame: what was written and what is still to be made are the whole.
-use Rattle.std.proofs.Common.{◌≡◌, None, ℕ, zero, suc, ◌+◌, ◌-◌, ◌<◌, ◌/◌, ◌%◌, Bool, List, [], ◌∷◌, ◌++◌, refl, sym, ap, ap₂, ◌∙◌, append_assoc}
+use Rattle.std.proofs.Common.{◌≡◌, None, ℕ, zero, suc, ◌+◌, ◌-◌, ◌<◌, ◌/◌, ◌%◌, Bool, List, [], ◌∷◌, ◌++◌, refl, sym}
+use Rattle.std.proofs.Common.{ap, ap₂, ◌∙◌, append_assoc}
 use Rattle.interval_file.specs.declared.header.FileVersion.TheVariants.{One}
 use Rattle.interval_file.specs.Grammar.{intervals_bytes}
 use Rattle.interval_file.specs.Piece.{spelling}
@@ -24,16 +25,21 @@ use Rattle.ltc_jam.specs.Word.{played_as, time_bits}
 use Rattle.made_commands.specs.Made.{frames_from}
 
 -- the bytes of a cell, and those of the cells behind it
-cell_bytes-next : (shape next : Shape) (cell : Cell) (bit : Bool) (tail : List Bool) → shaped shape (bit ∷ tail) ≡ cell ∷ shaped next tail
+cell_bytes-next : (shape next : Shape) (cell : Cell) (bit : Bool) (tail : List Bool) → shaped shape (bit ∷ tail) ≡ cell
+    ∷ shaped next tail
     → cell_bytes shape (bit ∷ tail) ≡ intervals_bytes One (intervals_of cell) ++ cell_bytes next tail
 cell_bytes-next shape next cell bit tail e =
-    ap (λ (cells : List Cell). intervals_bytes One (flat cells)) e ∙ flat_map-append (spelling One) (intervals_of cell) (flat (shaped next tail))
+    ap (λ (cells : List Cell). intervals_bytes One (flat cells)) e ∙ flat_map-append (spelling One) (intervals_of cell)
+    (flat (shaped next tail))
 
 -- a cell was pushed
-pub cell_pushed : (old new : List ℕ) (shape next : Shape) (cell : Cell) (bit : Bool) (tail : List Bool) → new ≡ old ++ intervals_bytes One (intervals_of cell)
-    → shaped shape (bit ∷ tail) ≡ cell ∷ shaped next tail → new ++ cell_bytes next tail ≡ old ++ cell_bytes shape (bit ∷ tail)
+pub cell_pushed : (old new : List ℕ) (shape next : Shape) (cell : Cell) (bit : Bool) (tail : List Bool)
+    → new ≡ old ++ intervals_bytes One (intervals_of cell)
+    → shaped shape (bit ∷ tail) ≡ cell ∷ shaped next tail → new ++ cell_bytes next tail ≡ old
+    ++ cell_bytes shape (bit ∷ tail)
 cell_pushed old new shape next cell bit tail pushed e =
-    ap (λ (l : List ℕ). l ++ cell_bytes next tail) pushed ∙ append_assoc old (intervals_bytes One (intervals_of cell)) (cell_bytes next tail)
+    ap (λ (l : List ℕ). l ++ cell_bytes next tail) pushed ∙ append_assoc old (intervals_bytes One (intervals_of cell))
+    (cell_bytes next tail)
     ∙ ap (λ (l : List ℕ). old ++ l) (sym (cell_bytes-next shape next cell bit tail e))
 
 -- ---- frames
@@ -53,7 +59,8 @@ map_later {A} f g same start (suc count) =
     let first : f (start + 1) ≡ g start = let e : start + 1 ≡ suc start = omega arith in rw e (same start) in
     ap₂ (λ (x : A) (xs : List A). x ∷ xs) first rest
 
-one_and_more : (direction : Direction) (k : ℕ) → steps_in direction 1 +ℤ steps_in direction k ≡ steps_in direction (suc k)
+one_and_more : (direction : Direction) (k : ℕ) → steps_in direction 1 +ℤ steps_in direction k ≡ steps_in direction
+    (suc k)
 one_and_more Forward k = omega (arith, ints)
 one_and_more Backward k = omega (arith, ints)
 
@@ -64,7 +71,8 @@ one_step_fits Backward = refl
 
 -- the first frame, and those from the next label on
 pub frames_from-more : NoStep → StepsAddUp → (direction : Direction) (label : Address) (frames : ℕ) → IsLabel label
-    → frames_from direction label (suc frames) ≡ played_as direction label ∷ frames_from direction (step label (steps_in direction 1)) frames
+    → frames_from direction label (suc frames) ≡ played_as direction label
+    ∷ frames_from direction (step label (steps_in direction 1)) frames
 unfolding frames_from
 frames_from-more none sum direction label frames valid =
     let f : ℕ → Played = λ k. played_as direction (step label (steps_in direction k)) in
@@ -72,14 +80,17 @@ frames_from-more none sum direction label frames valid =
     let next : (k : ℕ) → f (suc k) ≡ g k =
     λ k. ap (played_as direction) (ap (λ (j : ℤ). step label j) (sym (one_and_more direction k))
     ∙ sym (sum label (steps_in direction 1) (steps_in direction k))) in
-    let first : f 0 ≡ played_as direction label = ap (played_as direction) (ap (λ (j : ℤ). step label j) (no_steps direction) ∙ none label valid) in
+    let first : f 0 ≡ played_as direction label =
+    ap (played_as direction) (ap (λ (j : ℤ). step label j) (no_steps direction) ∙ none label valid) in
     let rest = map_later f g next 0 frames in
     rw (first, rest) refl
 
 -- a frame was written
-pub frame_written : NoStep → StepsAddUp → (direction : Direction) (label : Address) (left frames : ℕ) (old new : List ℕ) (shape later : Shape) → IsLabel label
+pub frame_written : NoStep → StepsAddUp → (direction : Direction) (label : Address) (left frames : ℕ) (old new : List ℕ)
+    (shape later : Shape) → IsLabel label
     → left + 1 ≡ frames
-    → ((tail : List Bool) → new ++ cell_bytes later tail ≡ old ++ cell_bytes shape (low_bits 80 (time_bits direction label) ++ tail))
+    → ((tail : List Bool) → new ++ cell_bytes later tail ≡ old
+    ++ cell_bytes shape (low_bits 80 (time_bits direction label) ++ tail))
     → new ++ cell_bytes later (bits_of_words (frames_from direction (step label (steps_in direction 1)) left))
     ≡ old ++ cell_bytes shape (bits_of_words (frames_from direction label frames))
 frame_written none sum direction label left frames old new shape later valid count written =
@@ -91,7 +102,8 @@ frame_written none sum direction label left frames old new shape later valid cou
 
 -- ---- the end
 
-pub nothing_left : (header : Option (List ℕ)) (shape : Shape) (direction : Direction) (label : Address) (frames : ℕ) → header ≡ None → frames ≡ 0
+pub nothing_left : (header : Option (List ℕ)) (shape : Shape) (direction : Direction) (label : Address) (frames : ℕ)
+    → header ≡ None → frames ≡ 0
     → rest_of header shape direction label frames ≡ []
 unfolding frames_from shaped_from
 nothing_left header shape direction label frames none zero_left = rw (none, zero_left) refl

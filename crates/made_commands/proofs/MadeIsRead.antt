@@ -1,4 +1,5 @@
--- What is made is read back: its cells are a chain, and each of its frames has a label, and so a word with one spelling.
+-- What is made is read back: its cells are a chain, and each of its frames has a label, and so a word with one
+-- spelling.
 use Rattle.std.proofs.Common.{◌≡◌, ℕ, zero, suc, ◌+◌, Bool, true, false, List, ◌∷◌, refl, subst, arith}
 use Rattle.std.specs.Prelude.{ℤ, map, take, drop}
 use Rattle.std.specs.List.{range_with_len}
@@ -28,7 +29,8 @@ abbrev pub StepsAreValid : Type 0
 StepsAreValid = (a : Address) (k : ℤ) → IsLabel a → IsLabel (step a k) × ((step a k).count ≡ a.count)
 
 abbrev pub WordsAreSpelled : Type 0
-WordsAreSpelled = (label : Address) → IsLabel label → Spells (system_with label.count) (word_of label) (spelling_of (word_of label))
+WordsAreSpelled = (label : Address) → IsLabel label → Spells (system_with label.count) (word_of label)
+    (spelling_of (word_of label))
 
 abbrev pub ShapesAreChains : Type 0
 ShapesAreChains = (shape : Shape) (list : List Bool) → IsShape shape → IsChain Normal (shaped shape list)
@@ -43,12 +45,14 @@ WordsAreRead = (system : System) (profile : Profile) (cells : List Cell) (words 
 
 -- ---- each word is spelled
 
-spelled_all : (system : System) (f : ℕ → Played) → ((k : ℕ) → Spells system (f k).word (spelling_of (f k).word)) → (start frames : ℕ)
+spelled_all : (system : System) (f : ℕ → Played) → ((k : ℕ) → Spells system (f k).word (spelling_of (f k).word))
+    → (start frames : ℕ)
     → AreSpelled system (map f (range_with_len start frames))
 spelled_all system f each start zero = tt
 spelled_all system f each start (suc frames) = (each start, spelled_all system f each (start + 1) frames)
 
-frames_spelled : StepsAreValid → WordsAreSpelled → (direction : Direction) (label : Address) (frames : ℕ) → IsLabel label
+frames_spelled : StepsAreValid → WordsAreSpelled → (direction : Direction) (label : Address) (frames : ℕ)
+    → IsLabel label
     → AreSpelled (system_with label.count) (frames_from direction label frames)
 unfolding frames_from
 frames_spelled law words direction label frames valid =
@@ -62,14 +66,17 @@ frames_spelled law words direction label frames valid =
 
 -- ---- all of it
 
-events_are : StepsAreValid → WordsAreSpelled → ShapesAreChains → ShapesHaveBits → WordsAreRead → (s : Striping) → IsStripe s
+events_are : StepsAreValid → WordsAreSpelled → ShapesAreChains → ShapesHaveBits → WordsAreRead → (s : Striping)
+    → IsStripe s
     → AreEvents (system_with s.label.count) Normal (flat (made_cells s)) (made_events s)
 events_are labels_law words chains have_bits read s is =
     let list = false ∷ true ∷ bits_of_words (made_frames s) in
-    read (system_with s.label.count) Normal (made_cells s) (made_frames s) (chains s.shape list is.shape) (have_bits s.shape list)
+    read (system_with s.label.count) Normal (made_cells s) (made_frames s) (chains s.shape list is.shape)
+    (have_bits s.shape list)
     (frames_spelled labels_law words s.direction s.label s.frames is.label)
 
-pub made_is_read : StepsAreValid → WordsAreSpelled → ShapesAreChains → ShapesHaveBits → ShapesAreIntervals → WordsAreRead → (s : Striping) → IsStripe s
+pub made_is_read : StepsAreValid → WordsAreSpelled → ShapesAreChains → ShapesHaveBits → ShapesAreIntervals
+    → WordsAreRead → (s : Striping) → IsStripe s
     → IsReadBack s (made s)
 made_is_read labels_law words chains have_bits intervals read s is =
     let some = is.some_ticks in
@@ -77,7 +84,8 @@ made_is_read labels_law words chains have_bits intervals read s is =
     record {
       file = record {
         tick_rate = (omega arith, omega arith);
-        range = in_range (flat (made_cells s)) (intervals s.shape (false ∷ true ∷ bits_of_words (made_frames s)) is.shape);
+        range = in_range (flat (made_cells s))
+            (intervals s.shape (false ∷ true ∷ bits_of_words (made_frames s)) is.shape);
         are = refl;
       };
       events = events_are labels_law words chains have_bits read s is;

@@ -1,5 +1,7 @@
--- A recording that is made has one interval for its first cell, and two at most for each other, so it is within the limit of a reading.
-use Rattle.std.proofs.Common.{◌≡◌, ℕ, zero, suc, ◌+◌, ◌*◌, ◌/◌, ◌≤◌, Bool, true, false, List, [], ◌∷◌, length, refl, ◌∙◌, ap, arith, length-append}
+-- A recording that is made has one interval for its first cell, and two at most for each other, so it is within the
+-- limit of a reading.
+use Rattle.std.proofs.Common.{◌≡◌, ℕ, zero, suc, ◌+◌, ◌*◌, ◌/◌, ◌≤◌, Bool, true, false, List, [], ◌∷◌, length, refl}
+use Rattle.std.proofs.Common.{◌∙◌, ap, arith, length-append}
 use Rattle.std.specs.List.{range_with_len}
 use Rattle.std.proofs.lemmas.List.{length-map}
 use Rattle.std.proofs.lemmas.List.FromFn.{length-range_with_len}
@@ -18,7 +20,8 @@ use Rattle.made_commands.specs.Made.{frames_from, made_cells, made_frames}
 use Rattle.ltc_jam.specs.Word.{played_as}
 use Rattle.made_commands.proofs.MadeIsRead.{ShapesHaveBits}
 
-length-frames_from : (direction : Direction) (label : Address) (frames : ℕ) → length (frames_from direction label frames) ≡ frames
+length-frames_from : (direction : Direction) (label : Address) (frames : ℕ)
+    → length (frames_from direction label frames) ≡ frames
 unfolding frames_from
 length-frames_from direction label frames =
     length-map (range_with_len 0 frames) (λ (k : ℕ). played_as direction (step label (steps_in direction k)))
@@ -30,7 +33,8 @@ two_a_cell [] = omega arith
 two_a_cell (Zero x ∷ more) = let rest = two_a_cell more in omega (arith, rest)
 two_a_cell (One a b ∷ more) = let rest = two_a_cell more in omega (arith, rest)
 
-zero_first : (cells : List Cell) (rest : List Bool) → bits cells ≡ false ∷ rest → length (flat cells) ≤ 1 + 2 * length rest
+zero_first : (cells : List Cell) (rest : List Bool) → bits cells ≡ false ∷ rest
+    → length (flat cells) ≤ 1 + 2 * length rest
 zero_first [] rest e = absurd (cc)
 zero_first (Zero x ∷ more) rest e =
     let others = two_a_cell more in

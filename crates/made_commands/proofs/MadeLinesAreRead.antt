@@ -1,4 +1,5 @@
--- A line file that is made is read back: each field has a label, a word with one line, and runs that stand for its bits.
+-- A line file that is made is read back: each field has a label, a word with one line, and runs that stand for its
+-- bits.
 use Rattle.std.proofs.Common.{◌≡◌, ℕ, zero, suc, ◌+◌, ◌*◌, ◌%◌, ◌^◌, ◌<◌, ◌≤◌}
 use Rattle.std.proofs.Common.{Bool, true, false, List, [], ◌∷◌, Ok, length, refl}
 use Rattle.std.proofs.Common.{sym, subst, lit<, lit≤, arith}
@@ -26,19 +27,22 @@ use Rattle.vitc_reader.specs.declared.field.FieldAnswer.TheVariants.{Agreed}
 use Rattle.vitc_reader.specs.Field.{IsAnswer, IsSaid}
 use Rattle.vitc_reader.specs.Runs.{IsLineLength, MayBeLine, StandFor}
 use Rattle.vitc_reader.specs.Written.{runs_in}
-use Rattle.made_commands.specs.MadeLines.{field_lines, field_word, made_fields, made_line_header, made_lines, made_words, whole_reading, words_from}
+use Rattle.made_commands.specs.MadeLines.{field_lines, field_word, made_fields, made_line_header, made_lines}
+use Rattle.made_commands.specs.MadeLines.{made_words, whole_reading, words_from}
 use Rattle.made_commands.specs.MadeLines.{words_of_frame, AreReadBack}
 use Rattle.made_commands.proofs.MadeIsRead.{StepsAreValid}
 
 -- what the laws of the crates below say
 pub record LinesAreLawful : Type 0 where
   pub labels : StepsAreValid
-  pub spelled : (word : VitcWord) → IsFields word.fields → word.fields.user < 2 ^ 32 → Spells (system_with word.fields.label.count) word (line_of word)
+  pub spelled : (word : VitcWord) → IsFields word.fields → word.fields.user < 2 ^ 32
+      → Spells (system_with word.fields.label.count) word (line_of word)
   pub odd : (word : VitcWord) → IsFields word.fields → word.fields.user < 2 ^ 32 → line_of word % 2 ≡ 1
   pub line : (n bits : ℕ) → IsLineLength n → bits < 2 ^ 90 → bits % 2 ≡ 1 → MayBeLine (runs_in n bits)
   pub stand : (n bits : ℕ) → IsLineLength n → bits < 2 ^ 90 → bits % 2 ≡ 1 → StandFor n (runs_in n bits) bits
   pub fit : (n bits : ℕ) (runs : List ℕ) → IsLineLength n → StandFor n runs bits → AreRuns runs
-  pub file : (header : LineHeader) (fields : List (List (List ℕ))) → IsHeader header → AreFields fields → length fields ≤ MAX_FIELDS
+  pub file : (header : LineHeader) (fields : List (List (List ℕ))) → IsHeader header → AreFields fields
+      → length fields ≤ MAX_FIELDS
       → reading_of (file_of header fields) ≡ whole_reading header fields
 
 -- ---- a word
@@ -49,8 +53,10 @@ record IsWordOf (count : Count) (word : VitcWord) : Type 0 where
   user : word.fields.user < 2 ^ 32
   counted : word.fields.label.count ≡ count
 
-word_is : (count : Count) (label : Address) (mark : Bool) → IsLabel label → label.count ≡ count → IsWordOf count (field_word label mark)
-word_is count label mark valid same = record { fields = record { label = valid; flag = flag_agrees label.count }; user = lit< tt; counted = same }
+word_is : (count : Count) (label : Address) (mark : Bool) → IsLabel label → label.count ≡ count
+    → IsWordOf count (field_word label mark)
+word_is count label mark valid same =
+    record { fields = record { label = valid; flag = flag_agrees label.count }; user = lit< tt; counted = same }
 
 -- each of the words is one
 abbrev AreWordsOf : Count → List VitcWord → Type 0
@@ -65,12 +71,14 @@ frames_are law label valid start (suc frames) =
     let word = λ (mark : Bool). word_is label.count (step label (pos start)) mark there.0 there.1 in
     (word false, (word true, frames_are law label valid (start + 1) frames))
 
-words_are : StepsAreValid → (label : Address) (frames : ℕ) → IsLabel label → AreWordsOf label.count (words_from label frames)
+words_are : StepsAreValid → (label : Address) (frames : ℕ) → IsLabel label
+    → AreWordsOf label.count (words_from label frames)
 unfolding words_from
 words_are law label frames valid = frames_are law label valid 0 frames
 
 -- two fields a frame
-frames_count : (label : Address) (start frames : ℕ) → length (flat_map (λ k. words_of_frame (step label (pos k))) (range_with_len start frames)) ≡ 2 * frames
+frames_count : (label : Address) (start frames : ℕ)
+    → length (flat_map (λ k. words_of_frame (step label (pos k))) (range_with_len start frames)) ≡ 2 * frames
 frames_count label start zero = refl
 frames_count label start (suc frames) = let h = frames_count label (start + 1) frames in omega (arith, h)
 
@@ -88,8 +96,11 @@ said : LinesAreLawful → (count : Count) (n : ℕ) (word : VitcWord) → IsLine
     → IsSaid (system_with count) n (runs_in n (line_of word)) (Ok word)
 said law count n word range is =
     let spelled = law.spelled word is.fields is.user in
-    let odd = law.odd word is.fields is.user in
-    (line_of word, law.stand n (line_of word) range spelled.width odd, subst (λ (c : Count). Spells (system_with c) word (line_of word)) is.counted spelled)
+    let odd = law.odd word is.fields is.user in (
+      line_of word,
+      law.stand n (line_of word) range spelled.width odd,
+      subst (λ (c : Count). Spells (system_with c) word (line_of word)) is.counted spelled,
+    )
 
 agreed : LinesAreLawful → (count : Count) (n : ℕ) (word : VitcWord) → IsLineLength n → IsWordOf count word
     → IsAnswer (system_with count) n (field_lines n word) (Agreed word)
@@ -98,11 +109,14 @@ agreed law count n word range is =
     (Ok word ∷ Ok word ∷ [], (one, (one, tt)), (word ∷ [], refl, (refl, tt)))
 
 answers_are : LinesAreLawful → (count : Count) (n : ℕ) (words : List VitcWord) → IsLineLength n → AreWordsOf count words
-    → AreAnswers (record { system = system_with count; length = n }) (map (field_lines n) words) (map (λ word. Agreed word) words)
+    → AreAnswers (record { system = system_with count; length = n }) (map (field_lines n) words)
+    (map (λ word. Agreed word) words)
 answers_are law count n [] range are = tt
-answers_are law count n (word ∷ words) range are = (agreed law count n word range are.0, answers_are law count n words range are.1)
+answers_are law count n (word ∷ words) range are =
+    (agreed law count n word range are.0, answers_are law count n words range are.1)
 
-fields_are : LinesAreLawful → (count : Count) (n : ℕ) (words : List VitcWord) → IsLineLength n → AreWordsOf count words → AreFields (map (field_lines n) words)
+fields_are : LinesAreLawful → (count : Count) (n : ℕ) (words : List VitcWord) → IsLineLength n → AreWordsOf count words
+    → AreFields (map (field_lines n) words)
 fields_are law count n [] range are = tt
 fields_are law count n (word ∷ words) range are =
     let is = are.0 in
@@ -120,7 +134,8 @@ made_lines_are_read law s is =
     let count = words_count s.label s.frames in
     let same = fields_count s.length (made_words s) in
     let most = is.not_too_many in
-    let file = law.file (made_line_header s) (made_fields s) (is.lines, is.length) (fields_are law s.label.count s.length (made_words s) is.length words)
+    let file = law.file (made_line_header s) (made_fields s) (is.lines, is.length)
+    (fields_are law s.label.count s.length (made_words s) is.length words)
     (omega (arith, count, same, most)) in
     record {
       are = refl;

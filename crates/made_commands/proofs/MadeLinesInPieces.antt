@@ -31,7 +31,8 @@ one_and_more k = omega (arith, ints)
 
 -- the words of the first frame, and those from the next label on
 pub words_from-more : NoStep → StepsAddUp → (label : Address) (frames : ℕ) → IsLabel label
-    → words_from label (suc frames) ≡ field_word label false ∷ field_word label true ∷ words_from (step label (pos 1)) frames
+    → words_from label (suc frames) ≡ field_word label false ∷ field_word label true ∷ words_from (step label (pos 1))
+    frames
 unfolding words_from
 words_from-more none sum label frames valid =
     let f : ℕ → List VitcWord = λ k. words_of_frame (step label (pos k)) in
@@ -43,7 +44,8 @@ words_from-more none sum label frames valid =
     ap₂ (λ (x xs : List VitcWord). x ++ xs) first rest
 
 -- a frame was written: its two fields
-pub frame_written : NoStep → StepsAddUp → (length left frames : ℕ) (label : Address) (old middle new : List ℕ) → IsLabel label → left + 1 ≡ frames
+pub frame_written : NoStep → StepsAddUp → (length left frames : ℕ) (label : Address) (old middle new : List ℕ)
+    → IsLabel label → left + 1 ≡ frames
     → middle ≡ old ++ field_bytes (field_lines length (field_word label false))
     → new ≡ middle ++ field_bytes (field_lines length (field_word label true))
     → new ++ frame_bytes length (step label (pos 1)) left ≡ old ++ frame_bytes length label frames
@@ -52,7 +54,8 @@ frame_written none sum length left frames label old middle new valid count first
     let b = field_bytes (field_lines length (field_word label true)) in
     let rest = frame_bytes length (step label (pos 1)) left in
     let one : suc left ≡ frames = omega arith in
-    let all : words_from label frames ≡ field_word label false ∷ field_word label true ∷ words_from (step label (pos 1)) left =
+    let all : words_from label frames ≡ field_word label false ∷ field_word label true ∷ words_from (step label (pos 1))
+    left =
     rw one at (words_from-more none sum label left valid) in
     let bytes : frame_bytes length label frames ≡ a ++ (b ++ rest) =
     ap (λ (words : List VitcWord). flat_map field_bytes (map (field_lines length) words)) all in

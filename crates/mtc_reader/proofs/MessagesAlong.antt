@@ -52,7 +52,8 @@ past_on current byte (inl other) = inl other
 past_on current byte (inr quarter) =
     inr (quarter.0, omega (arith, quarter.1, length-append current.numbers (byte ∷ [])))
 
-in_on : (is_number : Bool) (bytes : List ℕ) (current : Current) (byte : ℕ) → is_data byte ≡ is_number → IsIn bytes current
+in_on : (is_number : Bool) (bytes : List ℕ) (current : Current) (byte : ℕ) → is_data byte ≡ is_number
+    → IsIn bytes current
     → IsIn (bytes_on bytes byte is_number) (with_byte byte current)
 in_on true [] current byte is within = rw is (past_on current byte within)
 in_on true (status ∷ numbers) current byte is within = (

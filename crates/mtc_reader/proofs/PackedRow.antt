@@ -1,5 +1,6 @@
 -- Eight quarter frames in two numbers. One more moves the others up, and the oldest out.
-use Rattle.std.proofs.Common.{◌≡◌, ◌⊎◌, inl, inr, false, ◌&&◌, ◌||◌, ◌==◌, ◌<◌, ◌≤◌, ℕ, ◌+◌, ◌*◌, ◌/◌, ◌%◌, List, [], ◌∷◌, ◌++◌, None, length}
+use Rattle.std.proofs.Common.{◌≡◌, ◌⊎◌, inl, inr, false, ◌&&◌, ◌||◌, ◌==◌, ◌<◌, ◌≤◌, ℕ, ◌+◌, ◌*◌, ◌/◌, ◌%◌, List, []}
+use Rattle.std.proofs.Common.{◌∷◌, ◌++◌, None, length}
 use Rattle.std.proofs.Common.{slice_index, refl, ◌∙◌, ap₂, arith}
 use Rattle.mtc_reader.specs.Events.{latest_eight, piece_of, window_event}
 use Rattle.mtc_reader.specs.StandsFor.{four_in, have_ends}
@@ -25,7 +26,8 @@ one_more first last q row fits small long is =
     (half_moved last q q (omega (arith, small)) (omega (arith, small)))
     ∙ shifted (four_in first ++ four_in last) row q long is
 
-ends_of : (a b : ℕ) → ((a == 0) && (b == 7) || (a == 7) && (b == 0)) ≡ false → ((a ≡ 0) × (b ≡ 7)) ⊎ ((a ≡ 7) × (b ≡ 0)) → ⊥
+ends_of : (a b : ℕ) → ((a == 0) && (b == 7) || (a == 7) && (b == 0)) ≡ false → ((a ≡ 0) × (b ≡ 7)) ⊎ ((a ≡ 7) × (b ≡ 0))
+    → ⊥
 ends_of a b no_end (inl e) = let is = rw (e.0, e.1) at no_end in cc
 ends_of a b no_end (inr e) = let is = rw (e.0, e.1) at no_end in cc
 
@@ -34,4 +36,5 @@ pub no_ends : (xs : List ℕ) (place : ℕ) → have_ends xs ≡ false → windo
 no_ends xs place is =
     let a = piece_of (slice_index xs 0) in
     let b = piece_of (slice_index xs 7) in
-    neither xs place (λ all. ends_of a b is (inl (forward_at xs all))) (λ all. ends_of a b is (inr (backward_at xs all)))
+    neither xs place (λ all. ends_of a b is (inl (forward_at xs all)))
+    (λ all. ends_of a b is (inr (backward_at xs all)))

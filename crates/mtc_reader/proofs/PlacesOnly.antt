@@ -1,5 +1,6 @@
 -- But for its place an event is told by the bytes that are no system real-time bytes.
-use Rattle.std.proofs.Common.{◌≡◌, ℕ, Bool, true, false, List, [], ◌∷◌, ◌++◌, map, length, cond, if◌then◌else◌, Option, Some, None}
+use Rattle.std.proofs.Common.{◌≡◌, ℕ, Bool, true, false, List, [], ◌∷◌, ◌++◌, map, length, cond, if◌then◌else◌, Option}
+use Rattle.std.proofs.Common.{Some, None}
 use Rattle.std.proofs.Common.{refl, sym, ◌∙◌, ap, ap₂, arith, append-nil}
 use Rattle.std.specs.Prelude.{reverse}
 use Rattle.std.specs.Option.{option_map}
@@ -15,17 +16,20 @@ use Rattle.mtc_reader.specs.declared.event.MtcEvent.{MtcEvent}
 use Rattle.mtc_reader.specs.declared.event.MtcEvent.TheVariants.{Full, Quarter, RefusedFull, RefusedQuarter}
 use Rattle.mtc_reader.specs.declared.message.Message.{Message}
 use Rattle.mtc_reader.specs.declared.message.Message.TheVariants.{QuarterFrame, FullMessage}
-use Rattle.mtc_reader.specs.Events.{fault_of, quarter_event, event_with, latest_events, events_in, latest_eight, row_in, piece_of, pieces, quarter_address}
+use Rattle.mtc_reader.specs.Events.{fault_of, quarter_event, event_with, latest_events, events_in, latest_eight, row_in}
+use Rattle.mtc_reader.specs.Events.{piece_of, pieces, quarter_address}
 use Rattle.mtc_reader.specs.Laws.{at_no_place, AreRealTime}
 use Rattle.mtc_reader.specs.Messages.{is_sounding, without_real_time, completed_by, current_in, messages_in}
 
 -- the latest first, of bytes that are no real-time bytes
 abbrev plain_events : List ℕ → List MtcEvent
 plain_events [] = []
-plain_events (byte ∷ before) = cons_option (event_with (completed_by byte (current_in before)) (messages_in before) 0) (plain_events before)
+plain_events (byte ∷ before) = cons_option (event_with (completed_by byte (current_in before)) (messages_in before) 0)
+    (plain_events before)
 
 no_place-full : (b : Bool) (a : Address) (place : ℕ) →
-    at_no_place (cond b (Full a place) (RefusedFull (fault_of a) place)) ≡ cond b (Full a 0) (RefusedFull (fault_of a) 0)
+    at_no_place (cond b (Full a place) (RefusedFull (fault_of a) place)) ≡ cond b (Full a 0)
+    (RefusedFull (fault_of a) 0)
 no_place-full true a place = refl
 no_place-full false a place = refl
 
@@ -36,7 +40,9 @@ no_place-quarter true direction a place = refl
 no_place-quarter false direction a place = refl
 
 no_place-window : (rises falls : Bool) (a b : Address) (place : ℕ) →
-    option_map at_no_place (if rises then Some (quarter_event Forward a place) else if falls then Some (quarter_event Backward b place) else None)
+    option_map at_no_place
+    (if rises then Some (quarter_event Forward a place) else if falls then Some (quarter_event Backward b place)
+    else None)
     ≡ (if rises then Some (quarter_event Forward a 0) else if falls then Some (quarter_event Backward b 0) else None)
 no_place-window true falls a b place = ap (λ event. Some event) (no_place-quarter (is_label a) Forward a place)
 no_place-window false true a b place = ap (λ event. Some event) (no_place-quarter (is_label b) Backward b place)
@@ -45,7 +51,8 @@ no_place-window false false a b place = refl
 no_place : (message : Option Message) (before : List Message) (place : ℕ) →
     option_map at_no_place (event_with message before place) ≡ event_with message before 0
 no_place None before place = refl
-no_place (Some (FullMessage hours minutes seconds frames)) before place = ap (λ event. Some event) (no_place-full _ _ place)
+no_place (Some (FullMessage hours minutes seconds frames)) before place =
+    ap (λ event. Some event) (no_place-full _ _ place)
 no_place (Some (QuarterFrame quarter)) before place =
     let window = latest_eight (row_in before ++ quarter ∷ []) in
     no_place-window (bytes_eq (map piece_of window) pieces) (bytes_eq (map piece_of (reverse window)) pieces)
@@ -78,7 +85,8 @@ map-reverse : (events : List MtcEvent) → map at_no_place (reverse events) ≡ 
 map-reverse [] = refl
 map-reverse (event ∷ more) =
     ap (map at_no_place) (reverse_cons event more) ∙ map-append at_no_place (reverse more) (event ∷ [])
-    ∙ ap (λ events. events ++ at_no_place event ∷ []) (map-reverse more) ∙ sym (reverse_cons (at_no_place event) (map at_no_place more))
+    ∙ ap (λ events. events ++ at_no_place event ∷ []) (map-reverse more)
+    ∙ sym (reverse_cons (at_no_place event) (map at_no_place more))
 
 filter-reverse_by : (sounding : Bool) (byte : ℕ) (more : List ℕ) → is_sounding byte ≡ sounding →
     without_real_time (reverse more) ≡ reverse (without_real_time more) →
@@ -93,11 +101,14 @@ filter-reverse (byte ∷ more) =
     ap without_real_time (reverse_cons byte more) ∙ filter-append is_sounding (reverse more) (byte ∷ [])
     ∙ filter-reverse_by (is_sounding byte) byte more refl (filter-reverse more)
 
-plain_in : (bytes : List ℕ) → map at_no_place (events_in bytes) ≡ reverse (plain_events (reverse (without_real_time bytes)))
+plain_in : (bytes : List ℕ)
+    → map at_no_place (events_in bytes) ≡ reverse (plain_events (reverse (without_real_time bytes)))
 plain_in bytes =
-    map-reverse (latest_events (reverse bytes)) ∙ ap reverse (plain (reverse bytes) ∙ ap plain_events (filter-reverse bytes))
+    map-reverse (latest_events (reverse bytes))
+    ∙ ap reverse (plain (reverse bytes) ∙ ap plain_events (filter-reverse bytes))
 
-pub same_events : (a b : List ℕ) → without_real_time a ≡ without_real_time b → map at_no_place (events_in a) ≡ map at_no_place (events_in b)
+pub same_events : (a b : List ℕ) → without_real_time a ≡ without_real_time b
+    → map at_no_place (events_in a) ≡ map at_no_place (events_in b)
 same_events a b same = plain_in a ∙ ap (λ bytes. reverse (plain_events (reverse bytes))) same ∙ sym (plain_in b)
 
 none_left : (bytes : List ℕ) → AreRealTime bytes → without_real_time bytes ≡ []
@@ -111,5 +122,6 @@ pub same_left : (before inserted after : List ℕ) → AreRealTime inserted →
 same_left before inserted after all =
     let front = filter-append is_sounding before (inserted ++ after) in
     let back : without_real_time (inserted ++ after) ≡ without_real_time after =
-    filter-append is_sounding inserted after ∙ ap (λ bytes. bytes ++ without_real_time after) (none_left inserted all) in
+    filter-append is_sounding inserted after ∙ ap (λ bytes. bytes ++ without_real_time after) (none_left inserted all)
+    in
     front ∙ ap (λ bytes. without_real_time before ++ bytes) back ∙ sym (filter-append is_sounding before after)

@@ -20,13 +20,17 @@ refused_by false fault first a given refused is = let same : fault ≡ first = c
 pub quarter_told : (direction : Direction) (label a : Address) (place : ℕ) → Ok label ≡ label_or_fault a
     → Quarter direction label place ≡ quarter_event direction a place
 quarter_told direction label a place is =
-    told_by (is_label a) label a (fault_of a) (λ l. Quarter direction l place) (RefusedQuarter direction (fault_of a) place) is
+    told_by (is_label a) label a (fault_of a) (λ l. Quarter direction l place)
+    (RefusedQuarter direction (fault_of a) place) is
 
 -- or the first fault
-pub quarter_refused : (direction : Direction) (fault : LabelFault) (a : Address) (place : ℕ) → Err fault ≡ label_or_fault a
+pub quarter_refused : (direction : Direction) (fault : LabelFault) (a : Address) (place : ℕ)
+    → Err fault ≡ label_or_fault a
     → RefusedQuarter direction fault place ≡ quarter_event direction a place
 quarter_refused direction fault a place is =
     refused_by (is_label a) fault (fault_of a) a (Quarter direction a place) (λ f. RefusedQuarter direction f place) is
 
-pub full_refused : (fault : LabelFault) (a : Address) (place : ℕ) → Err fault ≡ label_or_fault a → RefusedFull fault place ≡ full_event a place
-full_refused fault a place is = refused_by (is_label a) fault (fault_of a) a (Full a place) (λ f. RefusedFull f place) is
+pub full_refused : (fault : LabelFault) (a : Address) (place : ℕ) → Err fault ≡ label_or_fault a
+    → RefusedFull fault place ≡ full_event a place
+full_refused fault a place is = refused_by (is_label a) fault (fault_of a) a (Full a place) (λ f. RefusedFull f place)
+    is

@@ -1,4 +1,5 @@
--- What the laws speak of: the events of a run that is sent whole, events but for their places, and system real-time bytes.
+-- What the laws speak of: the events of a run that is sent whole, events but for their places, and system real-time
+-- bytes.
 use Rattle.std.specs.Prelude.{ℕ, ◌+◌, ◌*◌, ◌/◌, ◌%◌, ◌≤◌, List, [], ◌∷◌, reverse, take}
 use Rattle.std.specs.List.{flat_map}
 use Rattle.tc_address.specs.declared.direction.Direction.{Direction}

@@ -143,7 +143,8 @@ all_given judging ticks samples given drain none stand =
     let same : judged ≡ measured_cells sounds cells =
     sym (reverse-reverse judged) ∙ ap reverse order ∙ reverse-reverse (measured_cells sounds cells) in
     let out = at_drain judging.phase
-    (λ more. given ++ [] ≡ intervals_before ticks judging.gate.least judged (judging.gate.ahead ++ more)) drain stand.out in
+    (λ more. given ++ [] ≡ intervals_before ticks judging.gate.least judged (judging.gate.ahead ++ more)) drain
+    stand.out in
     record {
       cells = cells;
       decided = subst (λ p. CellsIn p judging.cells samples cells) drain stand.judging.cells;

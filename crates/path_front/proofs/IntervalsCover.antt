@@ -1,5 +1,6 @@
 -- The intervals of a sound are one list, and they last as long as its steps, but for the last of them: fewer than 25.
-use Rattle.std.proofs.Common.{◌≡◌, ℕ, suc, ◌+◌, ◌-◌, ◌*◌, ◌<◌, ◌≤◌, ◌==◌, min, Bool, true, false, ◌||◌, cond, ltb, ℤ, T, ◌≢◌, Some, None}
+use Rattle.std.proofs.Common.{◌≡◌, ℕ, suc, ◌+◌, ◌-◌, ◌*◌, ◌<◌, ◌≤◌, ◌==◌, min, Bool, true, false, ◌||◌, cond, ltb, ℤ, T}
+use Rattle.std.proofs.Common.{◌≢◌, Some, None}
 use Rattle.std.proofs.Common.{List, [], ◌∷◌, ◌++◌, length, replicate, refl, ap, ap₂, subst, sym, ◌∙◌, arith}
 use Rattle.std.specs.List.{flat_map, sum}
 use Rattle.std.specs.Option.{option_to_list}
@@ -41,7 +42,8 @@ TheyCover = (steps : List Step) (all : List Placed) → AreDecidedInAll steps al
     → AreApart all × (end_behind 0 all ≤ length steps) × (length steps ≤ end_behind 0 all + 24)
 
 pub one_list : IsOneList → (grid : Grid) (ticks least : ℕ) (samples : List ℤ) (intervals others : List ℕ)
-    → AreIntervals grid ticks least samples intervals → AreIntervals grid ticks least samples others → intervals ≡ others
+    → AreIntervals grid ticks least samples intervals → AreIntervals grid ticks least samples others
+    → intervals ≡ others
 one_list one_in_all grid ticks least samples intervals others are like =
     let sounds = sounds_of grid least samples in
     are.intervals_are
@@ -91,7 +93,8 @@ cells_last ticks least sounds (placed ∷ before) behind some apart =
     let rest = cells_last ticks least sounds before (cell ∷ behind) some apart.1 in
     let one = tiles_last ticks judged some (omega (arith, apart.0)) in
     let all = ap sum (flat_pushed ticks (judgements least others (cell ∷ behind)) judged)
-    ∙ sum_by-append (λ x. x) (flat_map (tiles_of ticks) (judgements least others (cell ∷ behind))) (tiles_of ticks judged)
+    ∙ sum_by-append (λ x. x) (flat_map (tiles_of ticks) (judgements least others (cell ∷ behind)))
+    (tiles_of ticks judged)
     ∙ ap₂ (λ a b. a + b) rest one in
     all ∙ whole_of e placed.end ticks (omega (arith, apart.0))
 
@@ -162,7 +165,8 @@ pushed_length summed latest before false is few so_far =
     (omega (arith, so_far), omega (arith, few, more))
 
 nothing_summed : (summed : ℕ) → 0 < summed
-    → (length (on_grid (Sum summed) []) * summed + length (waiting summed []) ≡ 0) × (length (waiting summed []) < summed)
+    → (length (on_grid (Sum summed) []) * summed + length (waiting summed []) ≡ 0)
+    × (length (waiting summed []) < summed)
 unfolding waiting on_grid
 nothing_summed summed some = (omega arith, some)
 

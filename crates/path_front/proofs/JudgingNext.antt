@@ -1,5 +1,6 @@
 -- A cell more is judged, or waits, and those judged and those ahead stay all that were given, in the order of time.
-use Rattle.std.proofs.Common.{◌≡◌, ◌+◌, ◌<◌, ◌≤◌, ℤ, List, [], ◌∷◌, ◌++◌, length, reverse, Bool, true, false, Option, Some, None, IfSome, refl, ap}
+use Rattle.std.proofs.Common.{◌≡◌, ◌+◌, ◌<◌, ◌≤◌, ℤ, List, [], ◌∷◌, ◌++◌, length, reverse, Bool, true, false, Option}
+use Rattle.std.proofs.Common.{Some, None, IfSome, refl, ap}
 use Rattle.std.proofs.Common.{ap₂, sym, ◌∙◌, arith}
 use Rattle.std.proofs.lemmas.Bool.{false≢true}
 use Rattle.std.proofs.lemmas.List.{append_assoc, append-nil, length-append, reverse-append}
@@ -8,7 +9,8 @@ use Rattle.path_front.specs.declared.gate.Judged.{Judged}
 use Rattle.path_front.specs.declared.judging.Phase.{Phase}
 use Rattle.path_front.specs.declared.judging.Phase.TheVariants.{Sound, Rest, Drain}
 use Rattle.path_front.specs.declared.measured.Measured.{Measured}
-use Rattle.path_front.specs.Cells.{cell_behind, measured_cells, sounds_in, CellsEndFor, CellsState, CellsStandFor, GivesCell}
+use Rattle.path_front.specs.Cells.{cell_behind, measured_cells, sounds_in, CellsEndFor, CellsState, CellsStandFor}
+use Rattle.path_front.specs.Cells.{GivesCell}
 use Rattle.path_front.specs.Cells.{cells_left, GivesLastCell, SameSound}
 use Rattle.path_front.specs.Gate.{breaks, GateState, GateStandsFor, Judges}
 use Rattle.path_front.specs.Judging.{closed, is_drain, CellsIn, ForMore, GivesJudged, GivesNone, JudgingState}
@@ -27,7 +29,8 @@ same_sounds cells now samples same = ap₂ (λ grid least. sounds_of grid least 
 -- the next cell, as long as some may come
 next_cell : (phase : Phase) (cells now : CellsState) (cell : Measured) (samples : List ℤ) (given : List Placed)
     → is_drain phase ≡ false
-    → ((samples : List ℤ) (given : List Placed) → CellsStandFor cells samples given → GivesCell now samples given (Some cell))
+    → ((samples : List ℤ) (given : List Placed) → CellsStandFor cells samples given
+    → GivesCell now samples given (Some cell))
     → ((samples : List ℤ) (given : List Placed) → CellsEndFor cells samples given
     → GivesLastCell now samples given (Some cell))
     → CellsIn phase cells samples given
@@ -57,13 +60,15 @@ order_next cells now samples given placed cell judged ahead same is order =
     let sounds = sounds_in now samples in
     let before = measured_cells sounds given in
     sym (append_assoc (reverse judged) ahead (cell ∷ []))
-    ∙ ap (λ l. l ++ cell ∷ []) (order ∙ ap (λ s. reverse (measured_cells s given)) (sym (same_sounds cells now samples same)))
+    ∙ ap (λ l. l ++ cell ∷ [])
+    (order ∙ ap (λ s. reverse (measured_cells s given)) (sym (same_sounds cells now samples same)))
     ∙ sym (comes_last before cell)
     ∙ ap (λ c. reverse (c ∷ before)) is
 
 -- a cell waits
 pub waits : (phase : Phase) (cells now : CellsState) (gate next : GateState) (cell : Measured) → is_drain phase ≡ false
-    → ((samples : List ℤ) (given : List Placed) → CellsStandFor cells samples given → GivesCell now samples given (Some cell))
+    → ((samples : List ℤ) (given : List Placed) → CellsStandFor cells samples given
+    → GivesCell now samples given (Some cell))
     → ((samples : List ℤ) (given : List Placed) → CellsEndFor cells samples given
     → GivesLastCell now samples given (Some cell))
     → SameSound cells now → next.least ≡ gate.least → next.ahead ≡ gate.ahead ++ cell ∷ []
@@ -114,7 +119,8 @@ order_judged judged ahead rest all cell front order =
 -- a cell is judged
 pub judges_next : (phase : Phase) (cells now : CellsState) (gate next : GateState) (cell : Measured) (answer : Judged)
     → is_drain phase ≡ false
-    → ((samples : List ℤ) (given : List Placed) → CellsStandFor cells samples given → GivesCell now samples given (Some cell))
+    → ((samples : List ℤ) (given : List Placed) → CellsStandFor cells samples given
+    → GivesCell now samples given (Some cell))
     → ((samples : List ℤ) (given : List Placed) → CellsEndFor cells samples given
     → GivesLastCell now samples given (Some cell))
     → SameSound cells now → next.least ≡ gate.least → gate.ahead ++ cell ∷ [] ≡ answer.cell ∷ next.ahead
@@ -122,39 +128,42 @@ pub judges_next : (phase : Phase) (cells now : CellsState) (gate next : GateStat
     → Judges gate.least (gate.ahead ++ cell ∷ []) next judged more answer)
     → IsMeasured answer.cell → cells_left now + 2 ≤ cells_left cells → length next.ahead ≡ 8
     → GivesJudged (judging cells gate phase) (judging now next phase) answer
-judges_next phase cells now gate next cell answer opened gives rest same least front judges measured less eight = record {
-  less = let many = sym (length-append gate.ahead (cell ∷ [])) ∙ ap length front in omega (arith, many, less);
-  measured = measured;
-  moves = record {
-    came = cell ∷ [];
-    moved = front;
-    drained = λ drain. absurd (false≢true (sym opened ∙ ap is_drain drain));
-    stays = λ sound. sound;
-    goes = λ sound. sound;
-    keeps = λ drain. drain;
-  };
-  judges = λ samples judged stand.
-      for_next phase (λ m. GateStandsFor gate judged m)
-      (λ m. answer.breaks ≡ breaks next.least judged answer.cell (next.ahead ++ m)) cell opened
-      (λ m s. (judges judged m s).breaks_is ∙ ap (λ n. breaks n judged answer.cell (next.ahead ++ m)) (sym least)) stand.gate;
-  stands = λ samples judged stand.
-      let more = next_cell phase cells now cell samples stand.given opened gives rest stand.cells in
-      record {
-        given = more.0 ∷ stand.given;
-        cells = more.2;
-        gate = for_next phase (λ m. GateStandsFor gate judged m) (λ m. GateStandsFor next (answer.cell ∷ judged) m) cell
-            opened (λ m s. (judges judged m s).stands) stand.gate;
-        least = least ∙ stand.least ∙ sym same.least;
-        order = order_judged judged (gate.ahead ++ cell ∷ []) next.ahead
-            (reverse (measured_cells (sounds_in now samples) (more.0 ∷ stand.given))) answer.cell front
-            (order_next cells now samples stand.given more.0 cell judged gate.ahead same more.1 stand.order);
-        few = omega (arith, eight);
-        eight = λ is some. eight;
+judges_next phase cells now gate next cell answer opened gives rest same least front judges measured less eight =
+    record {
+      less = let many = sym (length-append gate.ahead (cell ∷ [])) ∙ ap length front in omega (arith, many, less);
+      measured = measured;
+      moves = record {
+        came = cell ∷ [];
+        moved = front;
+        drained = λ drain. absurd (false≢true (sym opened ∙ ap is_drain drain));
+        stays = λ sound. sound;
+        goes = λ sound. sound;
+        keeps = λ drain. drain;
       };
-}
+      judges = λ samples judged stand.
+          for_next phase (λ m. GateStandsFor gate judged m)
+          (λ m. answer.breaks ≡ breaks next.least judged answer.cell (next.ahead ++ m)) cell opened
+          (λ m s. (judges judged m s).breaks_is ∙ ap (λ n. breaks n judged answer.cell (next.ahead ++ m)) (sym least))
+          stand.gate;
+      stands = λ samples judged stand.
+          let more = next_cell phase cells now cell samples stand.given opened gives rest stand.cells in
+          record {
+            given = more.0 ∷ stand.given;
+            cells = more.2;
+            gate = for_next phase (λ m. GateStandsFor gate judged m) (λ m. GateStandsFor next (answer.cell ∷ judged) m) cell
+                opened (λ m s. (judges judged m s).stands) stand.gate;
+            least = least ∙ stand.least ∙ sym same.least;
+            order = order_judged judged (gate.ahead ++ cell ∷ []) next.ahead
+                (reverse (measured_cells (sounds_in now samples) (more.0 ∷ stand.given))) answer.cell front
+                (order_next cells now samples stand.given more.0 cell judged gate.ahead same more.1 stand.order);
+            few = omega (arith, eight);
+            eight = λ is some. eight;
+          };
+    }
 
 -- there is no cell: where the sound has ended, all have been given
-cells_closed : (phase : Phase) (cells now : CellsState) (samples : List ℤ) (given : List Placed) → is_drain phase ≡ false
+cells_closed : (phase : Phase) (cells now : CellsState) (samples : List ℤ) (given : List Placed)
+    → is_drain phase ≡ false
     → ((samples : List ℤ) (given : List Placed) → CellsStandFor cells samples given → GivesCell now samples given None)
     → ((samples : List ℤ) (given : List Placed) → CellsEndFor cells samples given
     → GivesLastCell now samples given None)
@@ -213,10 +222,12 @@ none_left phase cells now gate opened gives rest same most = record {
 }
 
 -- one after the other
-moves_on : (old now new : JudgingState) (gone : List Measured) → Moves old now [] → Moves now new gone → Moves old new gone
+moves_on : (old now new : JudgingState) (gone : List Measured) → Moves old now [] → Moves now new gone
+    → Moves old new gone
 moves_on old now new gone first second = record {
   came = first.came ++ second.came;
-  moved = sym (append_assoc old.gate.ahead first.came second.came) ∙ ap (λ l. l ++ second.came) first.moved ∙ second.moved;
+  moved = sym (append_assoc old.gate.ahead first.came second.came) ∙ ap (λ l. l ++ second.came) first.moved
+      ∙ second.moved;
   drained = λ drain. ap₂ (λ a b. a ++ b) (first.drained drain) (second.drained (first.keeps drain));
   stays = λ sound. first.stays (second.stays sound);
   goes = λ sound. second.goes (first.goes sound);

@@ -6,7 +6,8 @@ use Rattle.std.proofs.Common.{◌∙◌, arith}
 use Rattle.std.specs.List.{flat_map}
 use Rattle.std.proofs.lemmas.Grind.{flat_map-append}
 use Rattle.std.proofs.lemmas.List.{append_assoc, append-nil, append_cancel_right, drop_all, length-append, length-drop}
-use Rattle.std.proofs.lemmas.List.{length-reverse, length-take, reverse-append, reverse-reverse, take_all, take-append-drop}
+use Rattle.std.proofs.lemmas.List.{length-reverse, length-take, reverse-append, reverse-reverse, take_all}
+use Rattle.std.proofs.lemmas.List.{take-append-drop}
 use Rattle.cell_path.specs.declared.cell.Step.{Step}
 use Rattle.cell_path.specs.declared.placed.Placed.{Placed}
 use Rattle.cell_path.specs.Decided.{end_behind, AreDecided, AreDecidedInAll}
@@ -28,7 +29,8 @@ use Rattle.path_front.specs.Steps.{path_steps, sounds_of}
 use Rattle.path_front.specs.Tiles.{tiles_of}
 use Rattle.path_front.proofs.CellsNext.{cells_more}
 use Rattle.path_front.proofs.GateJudges.{take_fewer}
-use Rattle.path_front.proofs.GivenFirst.{ahead_first, all_sounds, decided_in_all, judged_first, measured_more, path_more}
+use Rattle.path_front.proofs.GivenFirst.{ahead_first, all_sounds, decided_in_all, judged_first, measured_more}
+use Rattle.path_front.proofs.GivenFirst.{path_more}
 use Rattle.path_front.proofs.GivenFirst.{still_decided, written_first, DecidedOnce, DecidedStays}
 
 -- ---- the gate hears no further than eight cells
@@ -101,7 +103,8 @@ one_more_drop (suc n) [] = ([], refl)
 one_more_drop zero (cell ∷ cells) = (cell ∷ [], refl)
 one_more_drop (suc n) (cell ∷ cells) = one_more_drop n cells
 
-drop_behind : (n : ℕ) (new cells : List Measured) → (front : List Measured) × (drop n (new ++ cells) ≡ front ++ drop n cells)
+drop_behind : (n : ℕ) (new cells : List Measured) → (front : List Measured)
+    × (drop n (new ++ cells) ≡ front ++ drop n cells)
 drop_behind n [] cells = ([], refl)
 drop_behind zero (cell ∷ new) cells = (cell ∷ new, refl)
 drop_behind (suc n) (cell ∷ new) cells =
@@ -145,7 +148,8 @@ first_in_all ticks least new cells =
     let written = written_first ticks least (new ++ take 8 cells) (drop 8 cells) in (
       written.0,
       ap (λ c. intervals_before ticks least c []) whole ∙ written.1
-          ∙ ap (λ l. l ++ written.0) (judged_come_first ticks least cells new (reverse (new ++ take 8 cells)) (new ++ cells)
+          ∙ ap (λ l. l ++ written.0)
+          (judged_come_first ticks least cells new (reverse (new ++ take 8 cells)) (new ++ cells)
           (sym whole) refl),
     )
 
@@ -166,7 +170,8 @@ first_so_far ticks least new cells =
       flat_map (tiles_of ticks) first.0,
       ap (λ c. intervals_before ticks least c (reverse (take 8 all))) tail.1
           ∙ ap (flat_map (tiles_of ticks)) first.1
-          ∙ flat_map-append (tiles_of ticks) (judgements least (drop 8 cells) (reverse tail.0 ++ reverse (take 8 all))) first.0
+          ∙ flat_map-append (tiles_of ticks) (judgements least (drop 8 cells) (reverse tail.0 ++ reverse (take 8 all)))
+          first.0
           ∙ ap (λ l. l ++ flat_map (tiles_of ticks) first.0)
           (judged_come_first ticks least cells new (reverse tail.0 ++ reverse (take 8 all)) all
           (append_assoc new (take 8 cells) (drop 8 cells) ∙ ap (λ l. new ++ l) (take-append-drop 8 cells)) order),
@@ -312,7 +317,8 @@ given_so_far state samples given ready stand =
 -- and one that is asked now and then has given a front of them
 pub given_first_so_far : DecidedStays → DecidedOnce → (state : FrontState) (samples : List ℤ) (given intervals : List ℕ)
     → state.judging.phase ≡ Sound → FrontStandsFor state samples given
-    → AreIntervalsSoFar state.judging.cells.steps.grid state.ticks state.judging.cells.steps.hold.least samples intervals
+    → AreIntervalsSoFar state.judging.cells.steps.grid state.ticks state.judging.cells.steps.hold.least samples
+    intervals
     → (rest : List ℕ) × (intervals ≡ given ++ rest)
 given_first_so_far stays once state samples given intervals phase stand are =
     let grid = state.judging.cells.steps.grid in
@@ -346,7 +352,8 @@ DecidedInAllOnce = (steps : List Step) (all others : List Placed) → AreDecided
 -- by the cells that come in front of those that were given
 with_cells : (state : FrontState) (samples : List ℤ) (given intervals : List ℕ) (new : List Placed)
     (stand : FrontStandsFor state samples given)
-    (are : AreIntervals state.judging.cells.steps.grid state.ticks state.judging.cells.steps.hold.least samples intervals)
+    (are : AreIntervals state.judging.cells.steps.grid state.ticks state.judging.cells.steps.hold.least samples
+    intervals)
     → are.cells ≡ new ++ stand.judging.given
     → ((cells : List Measured) → measured_cells (sounds_in state.judging.cells samples) (new ++ stand.judging.given)
     ≡ cells ++ measured_cells (sounds_in state.judging.cells samples) stand.judging.given
@@ -382,7 +389,8 @@ no_cells (cell ∷ cells) all is =
 
 by_phase : DecidedInAllOnce → (state : FrontState) (samples : List ℤ) (given intervals : List ℕ)
     (stand : FrontStandsFor state samples given)
-    (are : AreIntervals state.judging.cells.steps.grid state.ticks state.judging.cells.steps.hold.least samples intervals)
+    (are : AreIntervals state.judging.cells.steps.grid state.ticks state.judging.cells.steps.hold.least samples
+    intervals)
     → (phase : Phase) → state.judging.phase ≡ phase → (state.judging.phase ≡ Sound → ⊥)
     → (rest : List ℕ) × (intervals ≡ given ++ rest)
 by_phase once state samples given intervals stand are Sound is ended = absurd (ended is)
@@ -392,7 +400,8 @@ by_phase once state samples given intervals stand are Rest is ended =
     let cells : CellsEndFor state.judging.cells samples so_far =
     subst (λ p. CellsIn p state.judging.cells samples so_far) is stand.judging.cells in
     let out = subst (λ p. ForMore p (λ m. given ++ state.tiles
-    ≡ intervals_before state.ticks state.judging.gate.least stand.judged (state.judging.gate.ahead ++ m))) is stand.out in
+    ≡ intervals_before state.ticks state.judging.gate.least stand.judged (state.judging.gate.ahead ++ m))) is stand.out
+    in
     with_cells state samples given intervals waiting stand are
     (once (path_steps (sounds_in state.judging.cells samples)) are.cells (waiting ++ so_far) are.decided
     cells.decisions.decided) (λ more same. out (reverse more))
@@ -403,7 +412,8 @@ by_phase once state samples given intervals stand are Drain is ended =
     subst (λ p. CellsIn p state.judging.cells samples so_far) is stand.judging.cells in
     let out : given ++ state.tiles ≡ intervals_before state.ticks state.judging.gate.least stand.judged
     (state.judging.gate.ahead ++ []) = subst (λ p. ForMore p (λ m. given ++ state.tiles
-    ≡ intervals_before state.ticks state.judging.gate.least stand.judged (state.judging.gate.ahead ++ m))) is stand.out in
+    ≡ intervals_before state.ticks state.judging.gate.least stand.judged (state.judging.gate.ahead ++ m))) is stand.out
+    in
     with_cells state samples given intervals [] stand are (once (path_steps now) are.cells so_far are.decided cells)
     (λ more same. out ∙ ap (λ m. intervals_before state.ticks state.judging.gate.least stand.judged
     (state.judging.gate.ahead ++ m)) (sym (ap reverse (no_cells more (measured_cells now so_far) same))))

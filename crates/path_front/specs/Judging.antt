@@ -9,7 +9,8 @@ use Rattle.path_front.specs.declared.judging.Phase.TheVariants.{Sound, Rest, Dra
 use Rattle.path_front.specs.declared.judging.Taken.{Taken}
 use Rattle.path_front.specs.declared.judging.Taken.TheVariants.{Judges, Waits, Nothing}
 use Rattle.path_front.specs.declared.measured.Measured.{Measured}
-use Rattle.path_front.specs.Cells.{cells_left, measured_cells, sounds_in, CellsEndFor, CellsState, CellsStandFor, IsIdle}
+use Rattle.path_front.specs.Cells.{cells_left, measured_cells, sounds_in, CellsEndFor, CellsState, CellsStandFor}
+use Rattle.path_front.specs.Cells.{IsIdle}
 use Rattle.path_front.specs.Gate.{breaks, GateState, GateStandsFor}
 use Rattle.path_front.specs.Measured.{IsMeasured}
 use Rattle.path_front.specs.Steps.{path_steps}

@@ -1,7 +1,9 @@
 //! A sound on its way into the intervals of its best path. Read next: `laws`.
-ghost use Rattle.std.specs.Prelude.{◌≡◌, ℕ, ◌+◌, ◌^◌, ◌<◌, ◌≤◌, ℤ, true, false, IfSome, IfNone, OnSome, List, [], ◌∷◌, ◌++◌, length};
+ghost use Rattle.std.specs.Prelude.{◌≡◌, ℕ, ◌+◌, ◌^◌, ◌<◌, ◌≤◌, ℤ, true, false, IfSome, IfNone, OnSome, List, [], ◌∷◌};
+ghost use Rattle.std.specs.Prelude.{◌++◌, length};
 ghost use Rattle.path_front.specs.Cells.{SameSound};
-ghost use Rattle.path_front.specs.Front.{intervals_left, FrontStandsFor, GivesInterval, GoesOn, IsFrontSettled, IsReady};
+ghost use Rattle.path_front.specs.Front.{intervals_left, FrontStandsFor, GivesInterval, GoesOn, IsFrontSettled};
+ghost use Rattle.path_front.specs.Front.{IsReady};
 ghost use Rattle.path_front.specs.Grid.{IsGrid};
 ghost use Rattle.path_front.specs.declared.judging.Phase.TheVariants.{Rest};
 

@@ -1,5 +1,6 @@
 //! Which cells are code, and which are noise. Read next: `tile`.
-ghost use Rattle.std.specs.Prelude.{◌≡◌, ◌*◌, ◌^◌, ◌<◌, ◌≤◌, ◌/◌, min, max, IfSome, IfNone, OnSome, List, [], ◌∷◌, ◌++◌};
+ghost use Rattle.std.specs.Prelude.{◌≡◌, ◌*◌, ◌^◌, ◌<◌, ◌≤◌, ◌/◌, min, max, IfSome, IfNone, OnSome, List, [], ◌∷◌};
+ghost use Rattle.std.specs.Prelude.{◌++◌};
 ghost use Rattle.std.specs.Prelude.{length, drop, take};
 ghost use Rattle.std.specs.List.{All};
 ghost use Rattle.path_front.specs.Fit.{IsRange, IsUsual};

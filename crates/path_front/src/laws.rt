@@ -65,7 +65,8 @@ pub fn the_intervals_of_a_sound_last_as_long()
 /// What is given of a sound comes first among its intervals, however it goes on, and among those that its samples
 /// bring so far; and once it has ended, too.
 pub fn what_is_given_comes_first()
-    ensures in_all { (state : FrontState) (samples more : List ℤ) (given intervals : List ℕ) → state.judging.phase ≡ Sound
+    ensures in_all { (state : FrontState) (samples more : List ℤ) (given intervals : List ℕ)
+        → state.judging.phase ≡ Sound
         → FrontStandsFor state samples given
         → AreIntervals state.judging.cells.steps.grid state.ticks state.judging.cells.steps.hold.least
         (more ++ samples) intervals → (rest : List ℕ) × (intervals ≡ given ++ rest) }

@@ -47,8 +47,10 @@ gaps_cover (m ∷ ms) all = let leads = gaps_lead m ms all in omega (arith, lead
 
 distances_cover : (start : Start) (fineness smooth : ℕ) (threshold : Threshold) (samples : List ℤ)
     → let s : Settings = record { fineness = fineness; threshold = threshold; smooth = smooth; start = start } in
-    All (λ (d : ℕ). 1 ≤ d) (distances_by s samples) → sum (distances_by s samples) ≡ covered start (moments_by s samples)
-distances_cover Crossing fineness smooth threshold samples all = gaps_cover (moments fineness threshold (sums smooth samples)) all
+    All (λ (d : ℕ). 1 ≤ d) (distances_by s samples)
+    → sum (distances_by s samples) ≡ covered start (moments_by s samples)
+distances_cover Crossing fineness smooth threshold samples all =
+    gaps_cover (moments fineness threshold (sums smooth samples)) all
 distances_cover Tick fineness smooth threshold samples all =
     let leads = gaps_lead 0 (moments fineness threshold (sums smooth samples)) all in omega (arith, leads)
 

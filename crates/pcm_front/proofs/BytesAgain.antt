@@ -1,12 +1,14 @@
 -- Bytes of whole samples are the bytes of these samples.
-use Rattle.std.proofs.Common.{◌≡◌, ℕ, ◌+◌, ◌*◌, ◌/◌, ◌%◌, ◌<◌, ◌^◌, List, [], ◌∷◌, ◌++◌, length, refl, ap, ap₂, ◌∙◌, arith}
+use Rattle.std.proofs.Common.{◌≡◌, ℕ, ◌+◌, ◌*◌, ◌/◌, ◌%◌, ◌<◌, ◌^◌, List, [], ◌∷◌, ◌++◌, length, refl, ap, ap₂, ◌∙◌}
+use Rattle.std.proofs.Common.{arith}
 use Rattle.std.specs.List.{AllByRecursion}
 use Rattle.std.specs.Int.{w16, cast_signed, cast_unsigned}
 use Rattle.std.proofs.lemmas.Int.{of_z-to_z}
 use Rattle.byteorder.specs.Endian.{little_bytes, little_number}
 use Rattle.pcm_front.specs.Samples.{bytes_of, sample_bytes, sample_in, samples_of}
 
-two_bytes : (low high : ℕ) → low < 256 → high < 256 → little_bytes 2 (little_number 2 (low ∷ high ∷ [])) ≡ low ∷ high ∷ []
+two_bytes : (low high : ℕ) → low < 256 → high < 256 → little_bytes 2 (little_number 2 (low ∷ high ∷ [])) ≡ low ∷ high
+    ∷ []
 two_bytes low high least most =
     let first : (low + 256 * (high + 256 * 0)) % 256 ≡ low = omega (arith, least) in
     let second : (low + 256 * (high + 256 * 0)) / 256 % 256 ≡ high = omega (arith, least, most) in

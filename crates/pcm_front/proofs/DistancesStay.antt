@@ -1,5 +1,6 @@
 -- The moments of some samples stay where samples follow, and the later ones stand behind them; so do their distances.
-use Rattle.std.proofs.Common.{◌≡◌, ℕ, ◌-◌, cond, ℤ, List, [], ◌∷◌, ◌++◌, length, refl, ap, sym, ◌∙◌, append_assoc, append-nil}
+use Rattle.std.proofs.Common.{◌≡◌, ℕ, ◌-◌, cond, ℤ, List, [], ◌∷◌, ◌++◌, length, refl, ap, sym, ◌∙◌, append_assoc}
+use Rattle.std.proofs.Common.{append-nil}
 use Rattle.pcm_front.specs.DistanceLemmas.{gaps_after-front, gaps-front}
 use Rattle.pcm_front.specs.declared.start.Start.{Start}
 use Rattle.pcm_front.specs.declared.start.Start.TheVariants.{Crossing, Tick}
@@ -10,7 +11,8 @@ use Rattle.pcm_front.proofs.OneMore.{moments-more}
 
 moments-stay : (f : ℕ) (threshold : Threshold) (xs more : List ℤ) →
     (rest : List ℕ) × (moments f threshold (xs ++ more) ≡ moments f threshold xs ++ rest)
-moments-stay f threshold xs [] = ([], ap (moments f threshold) (append-nil xs) ∙ sym (append-nil (moments f threshold xs)))
+moments-stay f threshold xs [] =
+    ([], ap (moments f threshold) (append-nil xs) ∙ sym (append-nil (moments f threshold xs)))
 moments-stay f threshold xs (s ∷ more) =
     let front : List ℤ = xs ++ s ∷ [] in
     let new : List ℕ = cond (is_crossing threshold front (length xs)) (moment f threshold front (length xs) ∷ []) [] in

@@ -20,7 +20,8 @@ below = neg_ℤ (pos 900)
 
 -- a run of 24 samples and two of 12, between two more runs
 three_runs : distances 1 (Fixed 1_000)
-    (replicate 5 high ++ (replicate 24 low ++ (replicate 12 high ++ (replicate 12 low ++ high ∷ [])))) ≡ 24 ∷ 12 ∷ 12 ∷ []
+    (replicate 5 high ++ (replicate 24 low ++ (replicate 12 high ++ (replicate 12 low ++ high ∷ [])))) ≡ 24 ∷ 12 ∷ 12
+    ∷ []
 unfolding high low
 three_runs = refl
 
@@ -34,7 +35,8 @@ rounded_up : distances 16 (Fixed 1_000) (low ∷ pos 0 ∷ pos 3_000 ∷ neg_ℤ
 unfolding high low
 rounded_up = refl
 
--- the thresholds are 4080, 4074, 4068 and 5536: the second sample lies on no side, and is above the threshold of the third
+-- the thresholds are 4080, 4074, 4068 and 5536: the second sample lies on no side, and is above the threshold of the
+-- third
 followed : distances 16 (Follow 1) (neg_ℤ (pos 32_768) ∷ pos 4_073 ∷ pos 4_080 ∷ neg_ℤ (pos 20_000) ∷ []) ≡ 22 ∷ []
 followed = refl
 

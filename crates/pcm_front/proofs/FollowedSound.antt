@@ -45,7 +45,8 @@ alike_crossings : (one other : Threshold) (samples : List ℤ) → AreAlike one 
     → crossings one samples ≡ crossings other samples
 alike_crossings one other samples alike =
     let same : is_crossing one samples ≡ is_crossing other samples =
-    fun_ext (λ place. ap₂ differs (alike_after one other samples alike place) (alike_side one other samples alike place)) in
+    fun_ext (λ place. ap₂ differs (alike_after one other samples alike place)
+    (alike_side one other samples alike place)) in
     ap (λ crosses. filter crosses (range_with_len 0 (length samples))) same
 
 alike_moment : (fineness : ℕ) (one other : Threshold) (samples : List ℤ) → AreAlike one other samples → (place : ℕ)
@@ -70,7 +71,8 @@ alike_distances fineness one other samples alike =
 abbrev IsWithinSize : ℕ → ℤ → Type 0
 IsWithinSize size sample = unsigned_abs sample ≤ size
 
-runs_within : (size : ℕ) (side : Side) (xs : List ℕ) → AllByRecursion (IsWithinSize size) (joined (sound_runs size side xs))
+runs_within : (size : ℕ) (side : Side) (xs : List ℕ)
+    → AllByRecursion (IsWithinSize size) (joined (sound_runs size side xs))
 runs_within size side [] = (omega (arith, size_of side size), tt)
 runs_within size side (x ∷ xs) =
     all_both (IsWithinSize size) (replicate x (upward side (pos size))) (joined (sound_runs size (other_side side) xs))
@@ -83,7 +85,8 @@ sound_within size xs = (omega (arith, size_of Low size), runs_within size High x
 -- its peak after some samples
 peak_within : (size : ℕ) (xs : List ℕ) (n : ℕ) → (level_of (take n (sound size xs))).peak ≤ size
 peak_within size xs n =
-    (level_of-within size (take n (sound size xs)) (front_keeps (IsWithinSize size) n (sound size xs) (sound_within size xs))).0
+    (level_of-within size (take n (sound size xs))
+    (front_keeps (IsWithinSize size) n (sound size xs) (sound_within size xs))).0
 
 half_below : (size t : ℕ) (level : Level) → level.peak ≤ size → size ≤ 2 * t → half_height level ≤ t
 half_below size t level peak half = omega (arith, peak, half)
@@ -113,5 +116,6 @@ gaps_behind : (ms : List ℕ) → drop 1 (gaps_after 0 ms) ≡ gaps ms
 gaps_behind [] = refl
 gaps_behind (m ∷ ms) = refl
 
-pub behind_the_first : (f : ℕ) (t : Threshold) (samples : List ℤ) → drop 1 (distances_from_start f t samples) ≡ distances f t samples
+pub behind_the_first : (f : ℕ) (t : Threshold) (samples : List ℤ) → drop 1 (distances_from_start f t samples)
+    ≡ distances f t samples
 behind_the_first f t samples = gaps_behind (moments f t samples)

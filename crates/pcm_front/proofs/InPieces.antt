@@ -26,7 +26,8 @@ rest_is n d some some_too = rw (mul_comm n (whole_pieces n d)) (rest_within n d 
 sum-pieces : (n x rest : ℕ) → sum (replicate n x ++ rest ∷ []) ≡ n * x + rest
 sum-pieces zero x rest = omega arith
 sum-pieces (suc n) x rest =
-    sum_by-cons (λ k. k) x (replicate n x ++ rest ∷ []) ∙ ap (λ k. x + k) (sum-pieces n x rest) ∙ omega (arith, suc-mul n x)
+    sum_by-cons (λ k. k) x (replicate n x ++ rest ∷ []) ∙ ap (λ k. x + k) (sum-pieces n x rest)
+    ∙ omega (arith, suc-mul n x)
 
 pub sum-pieces_in : (n d : ℕ) → 1 ≤ n → 1 ≤ d → sum (pieces_in n d) ≡ d
 sum-pieces_in n d some some_too =
@@ -41,7 +42,8 @@ all-pieces m (suc n) x rest is is_too = (is, all-pieces m n x rest is is_too)
 pub pieces_in-range : (n d : ℕ) → 1 ≤ n → 1 ≤ d → AllByRecursion (IsPiece n) (pieces_in n d)
 pieces_in-range n d some some_too =
     let rest = rest_is n d some some_too in
-    all-pieces n (whole_pieces n d) n (d - n * whole_pieces n d) (some, omega arith) (omega (arith, rest.0), omega (arith, rest.1))
+    all-pieces n (whole_pieces n d) n (d - n * whole_pieces n d) (some, omega arith)
+    (omega (arith, rest.0), omega (arith, rest.1))
 
 -- ---- the greatest intervals
 

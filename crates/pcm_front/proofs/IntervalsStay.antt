@@ -42,24 +42,29 @@ use Rattle.pcm_front.proofs.SumsStay.{sums-stay}
 one_value : (x m : ℕ) → Some x ≡ Some m → x ≡ m
 one_value x m e = cc
 
-crossing-by : (b : Bool) (before now : Option Side) (tick f t : ℕ) (x y : ℤ) (m : ℕ) → 1 ≤ f → side_of t y ≡ now → differs before now ≡ b
+crossing-by : (b : Bool) (before now : Option Side) (tick f t : ℕ) (x y : ℤ) (m : ℕ) → 1 ≤ f → side_of t y ≡ now
+    → differs before now ≡ b
     → cond b (Some (tick + tick_to now f t x y)) None ≡ Some m → tick < m
 crossing-by false before now tick f t x y m some side is e = absurd cc
 crossing-by true before now tick f t x y m some side is e =
     let found = side_of_crossing before now is in
     let within = tick_to-within found.0 f t x y some (side ∙ found.1) in
-    let same = one_value (tick + tick_to (Some found.0) f t x y) m (subst (λ o. Some (tick + tick_to o f t x y) ≡ Some m) found.1 e) in
+    let same = one_value (tick + tick_to (Some found.0) f t x y) m
+    (subst (λ o. Some (tick + tick_to o f t x y) ≡ Some m) found.1 e) in
     omega (arith, within.0, same)
 
 -- its moment lies behind the tick of the samples so far
-crossing-later : (state : FinderState) (y : ℤ) (m : ℕ) → 1 ≤ state.fineness → crossing_in state y ≡ Some m → state.tick < m
+crossing-later : (state : FinderState) (y : ℤ) (m : ℕ) → 1 ≤ state.fineness → crossing_in state y ≡ Some m
+    → state.tick < m
 crossing-later state y m some e =
     let t = threshold_by state.threshold (level_in state y) in
-    crossing-by (differs state.side (side_of t y)) state.side (side_of t y) state.tick state.fineness t state.before y m some refl refl e
+    crossing-by (differs state.side (side_of t y)) state.side (side_of t y) state.tick state.fineness t state.before y m
+    some refl refl e
 
 -- a distance that ends is longer than what has passed
 later_than : (latest crossing : Option ℕ) (tick f : ℕ) → ((m : ℕ) → crossing ≡ Some m → tick < m)
-    → (ticks_since latest tick ≡ 0) ⊎ Passes (ticks_since latest tick) (between latest crossing) (ticks_since (option_or crossing latest) (tick + f))
+    → (ticks_since latest tick ≡ 0) ⊎ Passes (ticks_since latest tick) (between latest crossing)
+    (ticks_since (option_or crossing latest) (tick + f))
 later_than None crossing tick f later = inl refl
 later_than (Some l) None tick f later = inr (omega arith)
 later_than (Some l) (Some m) tick f later = by_order (cases_lt l tick)
@@ -80,7 +85,8 @@ ahead state xs y finds = by_fineness (cases_lt 0 state.fineness)
     by_fineness : (0 < state.fineness) ⊎ (state.fineness ≤ 0)
         → (passed_in state ≡ 0) ⊎ Passes (passed_in state) (distance_at state y) (passed_in (state_after state y))
     by_fineness (inl some) =
-        later_than state.latest (crossing_in state y) state.tick state.fineness (λ m e. crossing-later state y m (omega (arith, some)) e)
+        later_than state.latest (crossing_in state y) state.tick state.fineness
+        (λ m e. crossing-later state y m (omega (arith, some)) e)
     by_fineness (inr none) =
         let no : state.fineness ≡ 0 = omega (arith, none) in
         let tick : state.tick ≡ 0 = finds.tick ∙ ap (λ f. f * length xs) no ∙ omega arith in
@@ -93,7 +99,8 @@ none_begun Ended = refl
 none_begun (Passing n) = zero-div n
 
 passing : (pace : Pace) (before : ℕ) (distance : Option ℕ) (now : ℕ) → IsPace pace → Passes before distance now
-    → (rest : List ℕ) × (begun pace before ++ rest ≡ flat_map (pieces_in (longest pace)) (option_to_list distance) ++ begun pace now)
+    → (rest : List ℕ) × (begun pace before ++ rest ≡ flat_map (pieces_in (longest pace)) (option_to_list distance)
+    ++ begun pace now)
 passing pace before None now is more = (_, more_begun pace before now is more)
 passing pace before (Some d) now is less =
     let n = longest pace in
@@ -101,11 +108,14 @@ passing pace before (Some d) now is less =
       left ++ begun pace now,
       sym (append_assoc (begun pace before) left (begun pace now))
           ∙ ap (λ (l : List ℕ). l ++ begun pace now)
-          (sym (begun_first n (begun_in pace before) d is.0 (begun-below pace before d less)) ∙ sym (append-nil (pieces_in n d))),
+          (sym (begun_first n (begun_in pace before) d is.0 (begun-below pace before d less))
+          ∙ sym (append-nil (pieces_in n d))),
     )
 
-due : (pace : Pace) (before : ℕ) (distance : Option ℕ) (now : ℕ) → IsPace pace → (before ≡ 0) ⊎ Passes before distance now
-    → (rest : List ℕ) × (begun pace before ++ rest ≡ flat_map (pieces_in (longest pace)) (option_to_list distance) ++ begun pace now)
+due : (pace : Pace) (before : ℕ) (distance : Option ℕ) (now : ℕ) → IsPace pace → (before ≡ 0)
+    ⊎ Passes before distance now
+    → (rest : List ℕ) × (begun pace before ++ rest ≡ flat_map (pieces_in (longest pace)) (option_to_list distance)
+    ++ begun pace now)
 due pace before distance now is (inl none) =
     let cut = pieces_in (longest pace) in (
       flat_map cut (option_to_list distance) ++ begun pace now,
@@ -125,7 +135,8 @@ one_more : (pace : Pace) (state : FinderState) (xs : List ℤ) (y : ℤ) → IsP
     ≡ intervals_since pace state.start state.fineness state.threshold xs ++ rest)
 one_more pace state xs y is finds =
     let next = stands_still state xs y finds in
-    let comes = due pace (passed_in state) (distance_at state y) (passed_in (state_after state y)) is (ahead state xs y finds) in
+    let comes = due pace (passed_in state) (distance_at state y) (passed_in (state_after state y)) is
+    (ahead state xs y finds) in
     let ds = distances_since state.start state.fineness state.threshold xs in (
       comes.0,
       ap₂ (λ (ds : List ℕ) n. flat_map (pieces_in (longest pace)) ds ++ begun pace n) (brings_distance state xs y finds)
@@ -138,7 +149,8 @@ sums_more : (pace : Pace) (state : FinderState) (xs more : List ℤ) → IsPace 
     → (rest : List ℕ) × (intervals_since pace state.start state.fineness state.threshold (xs ++ more)
     ≡ intervals_since pace state.start state.fineness state.threshold xs ++ rest)
 sums_more pace state xs [] is finds =
-    let how = intervals_since pace state.start state.fineness state.threshold in ([], ap how (append-nil xs) ∙ sym (append-nil (how xs)))
+    let how = intervals_since pace state.start state.fineness state.threshold in
+    ([], ap how (append-nil xs) ∙ sym (append-nil (how xs)))
 sums_more pace state xs (y ∷ more) is finds =
     let how = intervals_since pace state.start state.fineness state.threshold in
     let first = one_more pace state xs y is finds in
@@ -158,20 +170,33 @@ late_zero : (f : ℕ) → Some f ≡ Some (0 + f)
 late_zero f = ap (λ m. Some m) (sym (zero-add f))
 
 silent_so_far : (t : Threshold) (f : ℕ) (start : Start) → Finds (fresh f t start) []
-silent_so_far (Fixed t) f Crossing = record { tick = omega arith; before = refl; level = tt; side = refl; latest = refl }
-silent_so_far (Fixed t) f Tick = record { tick = omega arith; before = refl; level = tt; side = refl; latest = late_zero f }
-silent_so_far (Follow t) f Crossing = record { tick = omega arith; before = refl; level = refl; side = refl; latest = refl }
-silent_so_far (Follow t) f Tick = record { tick = omega arith; before = refl; level = refl; side = refl; latest = late_zero f }
-silent_so_far (Deep t) f Crossing = record { tick = omega arith; before = refl; level = refl; side = refl; latest = refl }
-silent_so_far (Deep t) f Tick = record { tick = omega arith; before = refl; level = refl; side = refl; latest = late_zero f }
+silent_so_far (Fixed t) f Crossing =
+    record { tick = omega arith; before = refl; level = tt; side = refl; latest = refl }
+silent_so_far (Fixed t) f Tick =
+    record { tick = omega arith; before = refl; level = tt; side = refl; latest = late_zero f }
+silent_so_far (Follow t) f Crossing =
+    record { tick = omega arith; before = refl; level = refl; side = refl; latest = refl }
+silent_so_far (Follow t) f Tick =
+    record { tick = omega arith; before = refl; level = refl; side = refl; latest = late_zero f }
+silent_so_far (Deep t) f Crossing =
+    record { tick = omega arith; before = refl; level = refl; side = refl; latest = refl }
+silent_so_far (Deep t) f Tick =
+    record { tick = omega arith; before = refl; level = refl; side = refl; latest = late_zero f }
 
-found_on : (f : ℕ) (t : Threshold) (start : Start) (xs more : List ℤ) → Found f t start xs → Found f t start (xs ++ more)
+found_on : (f : ℕ) (t : Threshold) (start : Start) (xs more : List ℤ) → Found f t start xs
+    → Found f t start (xs ++ more)
 found_on f t start xs [] found = subst (Found f t start) (sym (append-nil xs)) found
 found_on f t start xs (y ∷ more) (tick, before, level, side, latest, finds) =
     let next = state_after (state_of f t start tick before level side latest) y in
     subst (Found f t start) (append_assoc xs (y ∷ []) more)
-    (found_on f t start (xs ++ y ∷ []) more
-    (next.tick, next.before, next.level, next.side, next.latest, stands_still (state_of f t start tick before level side latest) xs y finds))
+    (found_on f t start (xs ++ y ∷ []) more (
+      next.tick,
+      next.before,
+      next.level,
+      next.side,
+      next.latest,
+      stands_still (state_of f t start tick before level side latest) xs y finds,
+    ))
 
 found : (f : ℕ) (t : Threshold) (start : Start) (xs : List ℤ) → Found f t start xs
 found f t start xs = found_on f t start [] xs (0, pos 0, silent, None, late_start start f, silent_so_far t f start)
@@ -183,7 +208,8 @@ intervals-stay pace s xs more is =
     let zs = sums s.smooth xs in
     let later = sums-stay s.smooth xs more in
     let (tick, before, level, side, latest, finds) = found s.fineness s.threshold s.start zs in
-    let rest = sums_more pace (state_of s.fineness s.threshold s.start tick before level side latest) zs later.0 is finds in
+    let rest = sums_more pace (state_of s.fineness s.threshold s.start tick before level side latest) zs later.0 is
+    finds in
     (rest.0, ap (intervals_since pace s.start s.fineness s.threshold) later.1 ∙ rest.1)
 
 -- ---- what the pieces are
@@ -202,7 +228,8 @@ pub joined_so : (n : ℕ) (s : Settings) (xs : List ℤ) → 1 ≤ n → 1 ≤ s
 joined_so n s xs some fine =
     each_joined n (distances_by s xs) some (recursion_from_All (λ d. 1 ≤ d) (distances_by s xs) (sliced-some s xs fine))
 
-both : (n : ℕ) (ds : List ℕ) → AllByRecursion (λ d. 1 ≤ d) ds → AllByRecursion (λ d. d ≤ n) ds → AllByRecursion (λ d. (1 ≤ d) × (d ≤ n)) ds
+both : (n : ℕ) (ds : List ℕ) → AllByRecursion (λ d. 1 ≤ d) ds → AllByRecursion (λ d. d ≤ n) ds
+    → AllByRecursion (λ d. (1 ≤ d) × (d ≤ n)) ds
 both n [] some most = tt
 both n (d ∷ ds) some most = ((some.0, most.0), both n ds some.1 most.1)
 
@@ -211,7 +238,8 @@ within_more n m [] more are = tt
 within_more n m (d ∷ ds) more are = (omega (arith, more, are.0), within_more n m ds more are.1)
 
 -- where no distance is longer than a piece, and none has begun that is, nothing changes
-pub short_so : (n : ℕ) (s : Settings) (xs : List ℤ) → IsInterval n → 1 ≤ s.fineness → AllByRecursion (λ d. d ≤ n) (distances_by s xs)
+pub short_so : (n : ℕ) (s : Settings) (xs : List ℤ) → IsInterval n → 1 ≤ s.fineness
+    → AllByRecursion (λ d. d ≤ n) (distances_by s xs)
     → passed_by s xs < n → intervals_at (Passing n) s xs ≡ intervals_by s xs
 short_so n s xs is fine most few =
     let ds = distances_by s xs in

@@ -1,5 +1,6 @@
 -- What the samples so far give does not depend on the samples that follow: one sample more brings one moment at most.
-use Rattle.std.proofs.Common.{◌≡◌, ℕ, zero, suc, ◌+◌, ◌-◌, ◌*◌, ◌<◌, ◌≤◌, Bool, true, false, cond, max, ℤ, pos, List, [], ◌∷◌, ◌++◌, length, map}
+use Rattle.std.proofs.Common.{◌≡◌, ℕ, zero, suc, ◌+◌, ◌-◌, ◌*◌, ◌<◌, ◌≤◌, Bool, true, false, cond, max, ℤ, pos, List}
+use Rattle.std.proofs.Common.{[], ◌∷◌, ◌++◌, length, map}
 use Rattle.std.proofs.Common.{Option, Some, None, refl, ap, ap₂, sym, ◌∙◌, zero-add, add-zero, add-one, arith}
 use Rattle.std.specs.List.{filter, range_with_len, last_or}
 use Rattle.std.specs.Option.{option_or, option_to_list}
@@ -17,13 +18,16 @@ use Rattle.pcm_front.specs.State.{between}
 threshold_at-front : (threshold : Threshold) (xs ys : List ℤ) (i : ℕ) → i < length xs →
     threshold_at threshold (xs ++ ys) i ≡ threshold_at threshold xs i
 threshold_at-front (Fixed t) xs ys i h = refl
-threshold_at-front (Follow t) xs ys i h = ap (λ front. max t (half_height (level_of front))) (take-append-le (i + 1) xs ys (omega arith))
-threshold_at-front (Deep t) xs ys i h = ap (λ front. max t (quarter_height (level_of front))) (take-append-le (i + 1) xs ys (omega arith))
+threshold_at-front (Follow t) xs ys i h = ap (λ front. max t (half_height (level_of front)))
+    (take-append-le (i + 1) xs ys (omega arith))
+threshold_at-front (Deep t) xs ys i h = ap (λ front. max t (quarter_height (level_of front)))
+    (take-append-le (i + 1) xs ys (omega arith))
 
 sample_at-front : (xs ys : List ℤ) (i : ℕ) → i < length xs → sample_at (xs ++ ys) i ≡ sample_at xs i
 sample_at-front xs ys i h = get_or_append_left xs ys (pos 0) i h
 
-side_at-front : (threshold : Threshold) (xs ys : List ℤ) (i : ℕ) → i < length xs → side_at threshold (xs ++ ys) i ≡ side_at threshold xs i
+side_at-front : (threshold : Threshold) (xs ys : List ℤ) (i : ℕ) → i < length xs
+    → side_at threshold (xs ++ ys) i ≡ side_at threshold xs i
 side_at-front threshold xs ys i h = rw (threshold_at-front threshold xs ys i h, sample_at-front xs ys i h) refl
 
 pub side_after-front : (threshold : Threshold) (xs ys : List ℤ) (n : ℕ) → n ≤ length xs →
@@ -48,12 +52,14 @@ moment-front f threshold xs ys i h = ap (λ tick. f * (i - 1) + tick)
     (same_tick f _ _ _ _ _ _ _ _ (side_at-front threshold xs ys i h) (threshold_at-front threshold xs ys i h)
     (sample_at-front xs ys (i - 1) (omega arith)) (sample_at-front xs ys i h))
 
-map_cond : (g : ℕ → ℕ) (b : Bool) (x : ℕ) (xs : List ℕ) → map g (cond b (x ∷ xs) xs) ≡ cond b (g x ∷ map g xs) (map g xs)
+map_cond : (g : ℕ → ℕ) (b : Bool) (x : ℕ) (xs : List ℕ) → map g (cond b (x ∷ xs) xs) ≡ cond b (g x ∷ map g xs)
+    (map g xs)
 map_cond g true x xs = refl
 map_cond g false x xs = refl
 
 -- two tests and two functions that agree at the first places make the same of them
-same_in_range : (p q : ℕ → Bool) (f g : ℕ → ℕ) (a n : ℕ) → ((i : ℕ) → i < a + n → p i ≡ q i) → ((i : ℕ) → i < a + n → f i ≡ g i) →
+same_in_range : (p q : ℕ → Bool) (f g : ℕ → ℕ) (a n : ℕ) → ((i : ℕ) → i < a + n → p i ≡ q i)
+    → ((i : ℕ) → i < a + n → f i ≡ g i) →
     map f (filter p (range_with_len a n)) ≡ map g (filter q (range_with_len a n))
 same_in_range p q f g a zero tests values = refl
 same_in_range p q f g a (suc n) tests values =
@@ -81,7 +87,8 @@ moments-more f threshold xs s =
     ap (range_with_len 0) long ∙ range_with_len-more 0 n ∙ ap (λ k. range_with_len 0 n ++ k ∷ []) (zero-add n) in
     let front : map g (filter p (range_with_len 0 n)) ≡ moments f threshold xs =
     same_in_range p (is_crossing threshold xs) g (moment f threshold xs) 0 n
-    (λ i l. is_crossing-front threshold xs (s ∷ []) i (omega arith)) (λ i l. moment-front f threshold xs (s ∷ []) i (omega arith)) in
+    (λ i l. is_crossing-front threshold xs (s ∷ []) i (omega arith))
+    (λ i l. moment-front f threshold xs (s ∷ []) i (omega arith)) in
     ap (λ is. map g (filter p is)) places
     ∙ ap (map g) (filter-append p (range_with_len 0 n) (n ∷ []))
     ∙ map-append g (filter p (range_with_len 0 n)) (filter p (n ∷ []))
@@ -97,6 +104,7 @@ gaps_after-more x [] m = refl
 gaps_after-more x (y ∷ ms) m = ap (λ more. (y - x) ∷ more) (gaps_after-more y ms m)
 
 -- the distance that one moment more brings, if it does
-pub gaps-more : (ms : List ℕ) (m : ℕ) → gaps (ms ++ m ∷ []) ≡ gaps ms ++ option_to_list (between (last_or None ms) (Some m))
+pub gaps-more : (ms : List ℕ) (m : ℕ) → gaps (ms ++ m ∷ []) ≡ gaps ms
+    ++ option_to_list (between (last_or None ms) (Some m))
 gaps-more [] m = refl
 gaps-more (x ∷ ms) m = gaps_after-more x ms m

@@ -1,5 +1,6 @@
 -- Sound that is turned over, each sample into its negative, has the same crossings at the same moments.
-use Rattle.std.proofs.Common.{◌≡◌, ℕ, zero, suc, ◌+◌, ◌-◌, ◌*◌, ◌≤◌, Bool, true, false, cond, ℤ, pos, negsuc, neg_ℤ, ◌+ℤ◌, int_le}
+use Rattle.std.proofs.Common.{◌≡◌, ℕ, zero, suc, ◌+◌, ◌-◌, ◌*◌, ◌≤◌, Bool, true, false, cond, ℤ, pos, negsuc, neg_ℤ}
+use Rattle.std.proofs.Common.{◌+ℤ◌, int_le}
 use Rattle.std.proofs.Common.{List, [], ◌∷◌, ◌++◌, length, map, take, drop, get_or, replicate, Option, Some, None}
 use Rattle.std.proofs.Common.{refl, sym, ap, ap₂, ◌∙◌, subst, arith}
 use Rattle.std.specs.Prelude.{unsigned_abs}
@@ -61,7 +62,8 @@ take_over (suc n) (x ∷ xs) = ap (λ (l : List ℤ). neg_ℤ x ∷ l) (take_ove
 threshold_over : (threshold : Threshold) (samples : List ℤ) (place : ℕ)
     → threshold_at threshold (over samples) place ≡ threshold_at threshold samples place
 threshold_over threshold samples place =
-    ap (threshold_by threshold) (ap level_of (take_over (place + 1) samples) ∙ level_over silent (take (place + 1) samples))
+    ap (threshold_by threshold) (ap level_of (take_over (place + 1) samples)
+    ∙ level_over silent (take (place + 1) samples))
 
 some_threshold : (threshold : Threshold) (level : Level) → 1 ≤ least_of threshold → 1 ≤ threshold_by threshold level
 some_threshold (Fixed t) level some = some
@@ -151,7 +153,8 @@ moment_over fineness threshold samples place some =
     (sample_at (over samples) (place - 1)) (sample_at (over samples) place)) (at_over threshold samples place some)
     ∙ ap (λ (t : ℕ). tick_to (turned (side_at threshold samples place)) fineness t
     (sample_at (over samples) (place - 1)) (sample_at (over samples) place)) (threshold_over threshold samples place)
-    ∙ ap₂ (λ (a b : ℤ). tick_to (turned (side_at threshold samples place)) fineness (threshold_at threshold samples place)
+    ∙ ap₂ (λ (a b : ℤ). tick_to (turned (side_at threshold samples place)) fineness
+    (threshold_at threshold samples place)
     a b) (sample_over samples (place - 1)) (sample_over samples place)
     ∙ tick_over (side_at threshold samples place) fineness (threshold_at threshold samples place)
     (sample_at samples (place - 1)) (sample_at samples place))
@@ -193,7 +196,8 @@ joined_over : (xs ys : List ℤ) → over (xs ++ ys) ≡ over xs ++ over ys
 joined_over [] ys = refl
 joined_over (x ∷ xs) ys = ap (λ (l : List ℤ). neg_ℤ x ∷ l) (joined_over xs ys)
 
-up_to_over : (smooth : ℕ) (samples : List ℤ) (place : ℕ) → up_to smooth (over samples) place ≡ over (up_to smooth samples place)
+up_to_over : (smooth : ℕ) (samples : List ℤ) (place : ℕ)
+    → up_to smooth (over samples) place ≡ over (up_to smooth samples place)
 up_to_over smooth samples place =
     ap₂ (λ (a b : List ℤ). a ++ b) (sym (zeros_over smooth)) (take_over (place + 1) samples)
     ∙ sym (joined_over (replicate smooth (pos 0)) (take (place + 1) samples))
@@ -202,10 +206,12 @@ latest_over : (n : ℕ) (numbers : List ℤ) → latest n (over numbers) ≡ ove
 latest_over n numbers =
     ap (λ (k : ℕ). drop (k - n) (over numbers)) (length_over numbers) ∙ drop-map neg_ℤ (length numbers - n) numbers
 
-sum_over : (smooth : ℕ) (samples : List ℤ) (place : ℕ) → sum_at smooth (over samples) place ≡ neg_ℤ (sum_at smooth samples place)
+sum_over : (smooth : ℕ) (samples : List ℤ) (place : ℕ)
+    → sum_at smooth (over samples) place ≡ neg_ℤ (sum_at smooth samples place)
 sum_over smooth samples place =
     ap (λ (l : List ℤ). total (latest smooth l)) (up_to_over smooth samples place)
-    ∙ ap total (latest_over smooth (up_to smooth samples place)) ∙ total_over (latest smooth (up_to smooth samples place))
+    ∙ ap total (latest_over smooth (up_to smooth samples place))
+    ∙ total_over (latest smooth (up_to smooth samples place))
 
 all_sums : (f g : ℕ → ℤ) → ((n : ℕ) → f n ≡ neg_ℤ (g n)) → (ns : List ℕ) → map f ns ≡ over (map g ns)
 all_sums f g same [] = refl

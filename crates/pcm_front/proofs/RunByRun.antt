@@ -1,6 +1,8 @@
 -- Runs of samples on alternating sides have a crossing at the first sample of each run but the first one.
-use Rattle.std.proofs.Common.{◌≡◌, ℕ, zero, suc, ◌+◌, ◌-◌, ◌*◌, ◌≤◌, true, false, cond, ℤ, pos, neg_ℤ, int_le, List, [], ◌∷◌, ◌++◌, length, map, Some}
-use Rattle.std.proofs.Common.{None, refl, ap, ap₂, subst, sym, ◌∙◌, append-nil, append_assoc, add-one, mul-add, one-mul, arith}
+use Rattle.std.proofs.Common.{◌≡◌, ℕ, zero, suc, ◌+◌, ◌-◌, ◌*◌, ◌≤◌, true, false, cond, ℤ, pos, neg_ℤ, int_le, List, []}
+use Rattle.std.proofs.Common.{◌∷◌, ◌++◌, length, map, Some}
+use Rattle.std.proofs.Common.{None, refl, ap, ap₂, subst, sym, ◌∙◌, append-nil, append_assoc, add-one, mul-add, one-mul}
+use Rattle.std.proofs.Common.{arith}
 use Rattle.std.specs.List.{AllByRecursion}
 use Rattle.std.specs.Option.{option_or}
 use Rattle.std.proofs.lemmas.Int.{ints}
@@ -29,7 +31,8 @@ record Ends (f t : ℕ) (fits : Side → ℤ → Type 0) (xs : List ℤ) (side :
   moments_are : moments f (Fixed t) xs ≡ ms
 
 -- one sample more, on a side
-pushed : (f t c : ℕ) (fits : Side → ℤ → Type 0) (xs : List ℤ) (side next : Side) (ms : List ℕ) (s : ℤ) → Rule f t c fits →
+pushed : (f t c : ℕ) (fits : Side → ℤ → Type 0) (xs : List ℤ) (side next : Side) (ms : List ℕ) (s : ℤ)
+    → Rule f t c fits →
     Ends f t fits xs side ms → fits next s →
     Ends f t fits (xs ++ s ∷ []) next
     (ms ++ cond (differs (Some side) (Some next)) (moment f (Fixed t) (xs ++ s ∷ []) (length xs) ∷ []) [])
@@ -40,7 +43,8 @@ pushed f t c fits xs side next ms s rule ends fit =
     let side_here : side_at (Fixed t) (xs ++ s ∷ []) n ≡ Some next = ap (side_of t) here ∙ rule.on_side next s fit in
     let before : side_after (Fixed t) (xs ++ s ∷ []) n ≡ Some side =
     side_after-front (Fixed t) xs (s ∷ []) n (omega arith) ∙ ends.side_is in
-    let crosses : is_crossing (Fixed t) (xs ++ s ∷ []) n ≡ differs (Some side) (Some next) = ap₂ differs before side_here in
+    let crosses : is_crossing (Fixed t) (xs ++ s ∷ []) n ≡ differs (Some side) (Some next) =
+    ap₂ differs before side_here in
     let last_place : length (xs ++ s ∷ []) - 1 ≡ n = omega (arith, long) in
     record {
       some = omega (arith, long);
@@ -60,15 +64,18 @@ differs_other High = refl
 differs_other Low = refl
 
 -- on the same side, there is no crossing
-pushed_same : (f t c : ℕ) (fits : Side → ℤ → Type 0) (xs : List ℤ) (side : Side) (ms : List ℕ) (s : ℤ) → Rule f t c fits →
+pushed_same : (f t c : ℕ) (fits : Side → ℤ → Type 0) (xs : List ℤ) (side : Side) (ms : List ℕ) (s : ℤ)
+    → Rule f t c fits →
     Ends f t fits xs side ms → fits side s → Ends f t fits (xs ++ s ∷ []) side ms
 pushed_same f t c fits xs side ms s rule ends fit =
-    let all : ms ++ cond (differs (Some side) (Some side)) (moment f (Fixed t) (xs ++ s ∷ []) (length xs) ∷ []) [] ≡ ms =
+    let all : ms ++ cond (differs (Some side) (Some side)) (moment f (Fixed t) (xs ++ s ∷ []) (length xs) ∷ []) []
+    ≡ ms =
     ap (λ b. ms ++ cond b (moment f (Fixed t) (xs ++ s ∷ []) (length xs) ∷ []) []) (differs_not side) ∙ append-nil ms in
     subst (Ends f t fits (xs ++ s ∷ []) side) all (pushed f t c fits xs side side ms s rule ends fit)
 
 -- on the other side, there is one
-pushed_other : (f t c : ℕ) (fits : Side → ℤ → Type 0) (xs : List ℤ) (side : Side) (ms : List ℕ) (s : ℤ) → Rule f t c fits →
+pushed_other : (f t c : ℕ) (fits : Side → ℤ → Type 0) (xs : List ℤ) (side : Side) (ms : List ℕ) (s : ℤ)
+    → Rule f t c fits →
     Ends f t fits xs side ms → fits (other_side side) s →
     Ends f t fits (xs ++ s ∷ []) (other_side side) (ms ++ (f * (length xs - 1) + c) ∷ [])
 pushed_other f t c fits xs side ms s rule ends fit =
@@ -77,16 +84,19 @@ pushed_other f t c fits xs side ms s rule ends fit =
     let before : sample_at (xs ++ s ∷ []) (n - 1) ≡ sample_at xs (n - 1) =
     get_or_append_left xs (s ∷ []) (pos 0) (n - 1) (omega (arith, ends.some)) in
     let tick : tick_at f (Fixed t) (xs ++ s ∷ []) n ≡ c =
-    same_tick f _ (Some (other_side side)) t t _ _ (sample_at xs (n - 1)) s (ap (side_of t) here ∙ rule.on_side (other_side side) s fit) refl before here
+    same_tick f _ (Some (other_side side)) t t _ _ (sample_at xs (n - 1)) s
+    (ap (side_of t) here ∙ rule.on_side (other_side side) s fit) refl before here
     ∙ rule.tick side (sample_at xs (n - 1)) s ends.last fit in
     let all : ms ++ cond (differs (Some side) (Some (other_side side))) (moment f (Fixed t) (xs ++ s ∷ []) n ∷ []) []
     ≡ ms ++ (f * (n - 1) + c) ∷ [] =
     ap (λ b. ms ++ cond b (moment f (Fixed t) (xs ++ s ∷ []) n ∷ []) []) (differs_other side)
     ∙ ap (λ tick. ms ++ (f * (n - 1) + tick) ∷ []) tick in
-    subst (Ends f t fits (xs ++ s ∷ []) (other_side side)) all (pushed f t c fits xs side (other_side side) ms s rule ends fit)
+    subst (Ends f t fits (xs ++ s ∷ []) (other_side side)) all
+    (pushed f t c fits xs side (other_side side) ms s rule ends fit)
 
 -- the rest of a run
-run_same : (f t c : ℕ) (fits : Side → ℤ → Type 0) (xs : List ℤ) (side : Side) (ms : List ℕ) (run : List ℤ) → Rule f t c fits →
+run_same : (f t c : ℕ) (fits : Side → ℤ → Type 0) (xs : List ℤ) (side : Side) (ms : List ℕ) (run : List ℤ)
+    → Rule f t c fits →
     Ends f t fits xs side ms → AllByRecursion (fits side) run → Ends f t fits (xs ++ run) side ms
 run_same f t c fits xs side ms [] rule ends all = subst (λ ys. Ends f t fits ys side ms) (sym (append-nil xs)) ends
 run_same f t c fits xs side ms (s ∷ run) rule ends all =
@@ -98,10 +108,12 @@ abbrev starts : ℕ → ℕ → ℕ → List ℕ → List ℕ
 starts f c n [] = []
 starts f c n (k ∷ ks) = (f * (n - 1) + c) ∷ starts f c (n + k) ks
 
-runs_on : (f t c : ℕ) (fits : Side → ℤ → Type 0) (xs : List ℤ) (side : Side) (ms : List ℕ) (runs : List (List ℤ)) → Rule f t c fits →
+runs_on : (f t c : ℕ) (fits : Side → ℤ → Type 0) (xs : List ℤ) (side : Side) (ms : List ℕ) (runs : List (List ℤ))
+    → Rule f t c fits →
     Ends f t fits xs side ms → Alternate fits (other_side side) runs →
     moments f (Fixed t) (xs ++ joined runs) ≡ ms ++ starts f c (length xs) (map length runs)
-runs_on f t c fits xs side ms [] rule ends turns = ap (moments f (Fixed t)) (append-nil xs) ∙ ends.moments_are ∙ sym (append-nil ms)
+runs_on f t c fits xs side ms [] rule ends turns = ap (moments f (Fixed t)) (append-nil xs) ∙ ends.moments_are
+    ∙ sym (append-nil ms)
 runs_on f t c fits xs side ms ([] ∷ runs) rule ends turns = absurd (omega (arith, turns.0))
 runs_on f t c fits xs side ms ((s ∷ run) ∷ runs) rule ends turns =
     let n : ℕ = length xs in
@@ -134,7 +146,8 @@ gaps-starts f c n [] l h = refl
 gaps-starts f c n (k ∷ ks) l h = gaps_after-starts f c n k ks l h
 
 -- one sample has no crossing
-first_ends : (f t c : ℕ) (fits : Side → ℤ → Type 0) (side : Side) (s : ℤ) → Rule f t c fits → fits side s → Ends f t fits (s ∷ []) side []
+first_ends : (f t c : ℕ) (fits : Side → ℤ → Type 0) (side : Side) (s : ℤ) → Rule f t c fits → fits side s
+    → Ends f t fits (s ∷ []) side []
 first_ends f t c fits side s rule fit = record {
   some = omega arith;
   side_is = ap (λ o. option_or o None) (rule.on_side side s fit);
@@ -142,7 +155,8 @@ first_ends f t c fits side s rule fit = record {
   moments_are = refl;
 }
 
-distances_of_runs : (f t c : ℕ) (fits : Side → ℤ → Type 0) (side : Side) (first : List ℤ) (runs : List (List ℤ)) (last : List ℤ) →
+distances_of_runs : (f t c : ℕ) (fits : Side → ℤ → Type 0) (side : Side) (first : List ℤ) (runs : List (List ℤ))
+    (last : List ℤ) →
     Rule f t c fits → Alternate fits side (first ∷ (runs ++ last ∷ [])) →
     distances f (Fixed t) (joined (first ∷ (runs ++ last ∷ []))) ≡ map (λ k. f * k) (map length runs)
 distances_of_runs f t c fits side [] runs last rule turns = absurd (omega (arith, turns.0))
@@ -150,8 +164,10 @@ distances_of_runs f t c fits side (s ∷ run) runs last rule turns =
     let begun = first_ends f t c fits side s rule turns.1.0 in
     let ends = run_same f t c fits (s ∷ []) side [] run rule begun turns.1.1 in
     let all = runs_on f t c fits (s ∷ run) side [] (runs ++ last ∷ []) rule ends turns.2 in
-    let lengths : map length (runs ++ last ∷ []) ≡ map length runs ++ length last ∷ [] = map-append length runs (last ∷ []) in
-    ap gaps (all ∙ ap (starts f c (suc (length run))) lengths) ∙ gaps-starts f c (suc (length run)) (map length runs) (length last) (omega arith)
+    let lengths : map length (runs ++ last ∷ []) ≡ map length runs ++ length last ∷ [] =
+    map-append length runs (last ∷ []) in
+    ap gaps (all ∙ ap (starts f c (suc (length run))) lengths) ∙ gaps-starts f c (suc (length run)) (map length runs)
+    (length last) (omega arith)
 
 ones : (ks : List ℕ) → map (λ k. 1 * k) ks ≡ ks
 ones [] = refl
@@ -164,7 +180,8 @@ pub whole_runs : (t : ℕ) (side : Side) (first : List ℤ) (runs : List (List �
 whole_runs t side first runs last turns =
     let rule : Rule 1 t 1 (LiesOn t) = record {
       on_side = λ side s lies. lies;
-      tick = λ side a b lies lies_too. let within = tick_to-within (other_side side) 1 t a b (omega arith) lies_too in omega (arith, within.0, within.1);
+      tick = λ side a b lies lies_too. let within = tick_to-within (other_side side) 1 t a b (omega arith) lies_too in
+          omega (arith, within.0, within.1);
     } in
     distances_of_runs 1 t 1 (LiesOn t) side first runs last rule turns ∙ ones (map length runs)
 
@@ -195,4 +212,5 @@ runs_of_size f t h side first runs last some above turns =
       on_side = λ side s is. size_on_side t h side s some above is;
       tick = λ side a b is is_too. size_tick f t h side a b is is_too;
     } in
-    distances_of_runs f t (tick_in_step f t (neg_ℤ (pos h)) (pos h)) (IsOfSize h) side first runs last rule turns ∙ map_twice f runs
+    distances_of_runs f t (tick_in_step f t (neg_ℤ (pos h)) (pos h)) (IsOfSize h) side first runs last rule turns
+    ∙ map_twice f runs

@@ -1,5 +1,6 @@
 -- A sound that is made of intervals is a list of runs of one size, so it is sliced into the intervals again.
-use Rattle.std.proofs.Common.{◌≡◌, ℕ, zero, suc, ◌*◌, ◌≤◌, ℤ, pos, List, [], ◌∷◌, ◌++◌, length, map, replicate, refl, ap, ap₂, subst, sym, ◌∙◌, one-mul, arith}
+use Rattle.std.proofs.Common.{◌≡◌, ℕ, zero, suc, ◌*◌, ◌≤◌, ℤ, pos, List, [], ◌∷◌, ◌++◌, length, map, replicate, refl}
+use Rattle.std.proofs.Common.{ap, ap₂, subst, sym, ◌∙◌, one-mul, arith}
 use Rattle.std.specs.List.{AllByRecursion}
 use Rattle.std.proofs.lemmas.List.{length-replicate}
 use Rattle.pcm_front.specs.declared.side.Side.{Side}
@@ -20,11 +21,14 @@ abbrev last_run : ℕ → Side → List ℕ → List ℤ
 last_run size side [] = upward side (pos size) ∷ []
 last_run size side (x ∷ xs) = last_run size (other_side side) xs
 
-sound_runs-split : (size : ℕ) (side : Side) (xs : List ℕ) → inner size side xs ++ last_run size side xs ∷ [] ≡ sound_runs size side xs
+sound_runs-split : (size : ℕ) (side : Side) (xs : List ℕ) → inner size side xs ++ last_run size side xs
+    ∷ [] ≡ sound_runs size side xs
 sound_runs-split size side [] = refl
-sound_runs-split size side (x ∷ xs) = ap (λ more. replicate x (upward side (pos size)) ∷ more) (sound_runs-split size (other_side side) xs)
+sound_runs-split size side (x ∷ xs) = ap (λ more. replicate x (upward side (pos size)) ∷ more)
+    (sound_runs-split size (other_side side) xs)
 
-all_of_size : (size : ℕ) (side : Side) (n : ℕ) → AllByRecursion (IsOfSize size side) (replicate n (upward side (pos size)))
+all_of_size : (size : ℕ) (side : Side) (n : ℕ)
+    → AllByRecursion (IsOfSize size side) (replicate n (upward side (pos size)))
 all_of_size size side zero = tt
 all_of_size size side (suc n) = (refl, all_of_size size side n)
 
@@ -35,7 +39,8 @@ in_turn size side (x ∷ xs) are =
     let long : length (replicate x (upward side (pos size))) ≡ x = length-replicate x (upward side (pos size)) in
     (subst (λ n. 1 ≤ n) (sym long) are.0.0, all_of_size size side x, in_turn size (other_side side) xs are.1)
 
-lengths : (f size : ℕ) (side : Side) (xs : List ℕ) → map (λ run. f * length run) (inner size side xs) ≡ map (λ x. f * x) xs
+lengths : (f size : ℕ) (side : Side) (xs : List ℕ) → map (λ run. f * length run) (inner size side xs) ≡ map (λ x. f * x)
+    xs
 lengths f size side [] = refl
 lengths f size side (x ∷ xs) =
     ap₂ (λ n more. (f * n) ∷ more) (length-replicate x (upward side (pos size))) (lengths f size (other_side side) xs)

@@ -1,4 +1,5 @@
--- What is kept stays in its range, where time passes and where the sound goes over to a side; and the ticks of some of the samples
+-- What is kept stays in its range, where time passes and where the sound goes over to a side; and the ticks of some
+-- of the samples
 -- have room where those of all have.
 use Rattle.std.proofs.Common.{ℕ, ◌+◌, ◌-◌, ◌*◌, ◌≤◌, ℤ, Option, Some, None, mul-le-mul_left, arith}
 use Rattle.std.specs.Prelude.{IfSome}
@@ -11,12 +12,14 @@ later : (moment : Option ℕ) (a b : ℕ) → a ≤ b → IfSome moment (λ m. m
 later None a b more h = h
 later (Some m) a b more h = omega (arith, more, h)
 
-behind_later : (side : Option Side) (moment : Option ℕ) (a b : ℕ) → a ≤ b → IfSome side (λ s. IfSome moment (λ m. m ≤ a))
+behind_later : (side : Option Side) (moment : Option ℕ) (a b : ℕ) → a ≤ b
+    → IfSome side (λ s. IfSome moment (λ m. m ≤ a))
     → IfSome side (λ s. IfSome moment (λ m. m ≤ b))
 behind_later None moment a b more h = h
 behind_later (Some s) moment a b more h = later moment a b more h
 
-pub kept_later : (state : FinderState) (tick : ℕ) (before : ℤ) (level : Level) → IsKept state → state.tick ≤ tick → IsSum before → IsInRange level
+pub kept_later : (state : FinderState) (tick : ℕ) (before : ℤ) (level : Level) → IsKept state → state.tick ≤ tick
+    → IsSum before → IsInRange level
     → IsKept (record state { tick = tick; before = before; level = level })
 kept_later state tick before level kept more size range = record {
   least = kept.least;
@@ -28,7 +31,8 @@ kept_later state tick before level kept more size range = record {
   behind = behind_later state.side state.latest state.tick tick more kept.behind;
 }
 
-pub kept_crossed : (state : FinderState) (tick moment : ℕ) (before : ℤ) (side : Side) → IsKept state → moment ≤ tick → IsSum before
+pub kept_crossed : (state : FinderState) (tick moment : ℕ) (before : ℤ) (side : Side) → IsKept state → moment ≤ tick
+    → IsSum before
     → IsKept (record state { tick = tick; before = before; side = Some side; latest = Some moment })
 kept_crossed state tick moment before side kept passed size = record {
   least = kept.least;
@@ -41,7 +45,8 @@ kept_crossed state tick moment before side kept passed size = record {
 }
 
 -- there is room for the ticks up to an end
-pub ticks_within : (tick fineness at end long most : ℕ) → end ≤ long → tick + fineness * (long - at) ≤ most → tick + fineness * (end - at) ≤ most
+pub ticks_within : (tick fineness at end long most : ℕ) → end ≤ long → tick + fineness * (long - at) ≤ most
+    → tick + fineness * (end - at) ≤ most
 ticks_within tick fineness at end long most within room =
     let few : end - at ≤ long - at = omega (arith, within) in
     let ticks : fineness * (end - at) ≤ fineness * (long - at) = mul-le-mul_left fineness few in

@@ -12,9 +12,11 @@ use Rattle.pcm_front.specs.Sums.{latest, sum_at, sums, total}
 use Rattle.pcm_front.proofs.DistancesStay.{distances-stay}
 use Rattle.pcm_front.proofs.OneMore.{range_with_len-more}
 
-map_same : (f g : ℕ → ℤ) (a n : ℕ) → ((i : ℕ) → i < a + n → f i ≡ g i) → map f (range_with_len a n) ≡ map g (range_with_len a n)
+map_same : (f g : ℕ → ℤ) (a n : ℕ) → ((i : ℕ) → i < a + n → f i ≡ g i)
+    → map f (range_with_len a n) ≡ map g (range_with_len a n)
 map_same f g a zero same = refl
-map_same f g a (suc n) same = ap₂ (λ x more. x ∷ more) (same a (omega arith)) (map_same f g (a + 1) n (λ i l. same i (omega arith)))
+map_same f g a (suc n) same = ap₂ (λ x more. x ∷ more) (same a (omega arith))
+    (map_same f g (a + 1) n (λ i l. same i (omega arith)))
 
 -- some samples, behind the zeros before the first
 abbrev pub padded : ℕ → List ℤ → List ℤ
@@ -52,7 +54,8 @@ sums-stay n xs (s ∷ more) =
     )
 
 -- so the distances of some samples come first
-pub sliced-stay : (s : Settings) (xs more : List ℤ) → (rest : List ℕ) × (distances_by s (xs ++ more) ≡ distances_by s xs ++ rest)
+pub sliced-stay : (s : Settings) (xs more : List ℤ) → (rest : List ℕ)
+    × (distances_by s (xs ++ more) ≡ distances_by s xs ++ rest)
 sliced-stay s xs more =
     let later = sums-stay s.smooth xs more in
     let ds = distances-stay s.start s.fineness s.threshold (sums s.smooth xs) later.0 in
@@ -85,7 +88,8 @@ ones-from front [] = refl
 ones-from front (x ∷ xs) =
     let next : (front ++ x ∷ []) ++ xs ≡ front ++ x ∷ xs = append_assoc front (x ∷ []) xs in
     ap₂ (λ y more. y ∷ more) (one-at front xs x)
-    (ap₂ (λ zs n. map (sum_at 1 zs) (range_with_len n (length xs))) (sym next) (sym (length_push front x)) ∙ ones-from (front ++ x ∷ []) xs)
+    (ap₂ (λ zs n. map (sum_at 1 zs) (range_with_len n (length xs))) (sym next) (sym (length_push front x))
+    ∙ ones-from (front ++ x ∷ []) xs)
 
 pub sums-one : (xs : List ℤ) → sums 1 xs ≡ xs
 sums-one xs = ones-from [] xs

@@ -1,6 +1,8 @@
 -- Samples that were taken one after another, and the distance that they brought.
-use Rattle.std.proofs.Common.{◌≡◌, true, ℕ, zero, suc, ◌+◌, ◌*◌, ◌<◌, ◌≤◌, ℤ, pos, List, [], ◌∷◌, ◌++◌, length, take, drop, get_or, ◌^◌, Option, None, Some}
-use Rattle.std.proofs.Common.{refl, ap, subst, sym, ◌∙◌, append-nil, append_assoc, add-one, mul-add, mul-suc, mul-le-mul_left, arith}
+use Rattle.std.proofs.Common.{◌≡◌, true, ℕ, zero, suc, ◌+◌, ◌*◌, ◌<◌, ◌≤◌, ℤ, pos, List, [], ◌∷◌, ◌++◌, length, take}
+use Rattle.std.proofs.Common.{drop, get_or, ◌^◌, Option, None, Some}
+use Rattle.std.proofs.Common.{refl, ap, subst, sym, ◌∙◌, append-nil, append_assoc, add-one, mul-add, mul-suc}
+use Rattle.std.proofs.Common.{mul-le-mul_left, arith}
 use Rattle.std.specs.Option.{option_to_list}
 use Rattle.std.proofs.lemmas.List.{length-append, length-take-le}
 use Rattle.pcm_front.specs.Distance.{distances_since}
@@ -8,7 +10,8 @@ use Rattle.pcm_front.specs.KeptRuns.{RunsTo}
 use Rattle.pcm_front.specs.Level.{threshold_by}
 use Rattle.pcm_front.specs.Side.{side_of, stays}
 use Rattle.pcm_front.specs.StandsFor.{distances_in, Finds, Stand}
-use Rattle.pcm_front.specs.State.{between, distance_at, level_in, state_after, state_of, window_after, FinderState, IsAlone, WindowState}
+use Rattle.pcm_front.specs.State.{between, distance_at, level_in, state_after, state_of, window_after, FinderState}
+use Rattle.pcm_front.specs.State.{IsAlone, WindowState}
 use Rattle.pcm_front.specs.Sums.{sums, total}
 use Rattle.pcm_front.proofs.Sides.{stays_apart, stays_there}
 use Rattle.pcm_front.proofs.StandsStill.{brings_distance, stands_still, between-none}
@@ -24,18 +27,22 @@ none_yet state window = record {
   smooth = refl;
   tick = omega arith;
   stands = λ front stands. subst (Stand state window) (sym (append-nil front)) stands;
-  brings = λ front stands. ap (distances_in state window) (append-nil front) ∙ sym (append-nil (distances_in state window front));
+  brings = λ front stands. ap (distances_in state window) (append-nil front)
+      ∙ sym (append-nil (distances_in state window front));
 }
 
 -- the sums with one sample more
-one_sum : (window : WindowState) (front : List ℤ) (s y : ℤ) (state : FinderState) → 1 ≤ window.smooth → y ≡ total (window.kept ++ s ∷ [])
+one_sum : (window : WindowState) (front : List ℤ) (s y : ℤ) (state : FinderState) → 1 ≤ window.smooth
+    → y ≡ total (window.kept ++ s ∷ [])
     → Stand state window front → sums window.smooth (front ++ s ∷ []) ≡ sums window.smooth front ++ y ∷ []
 one_sum window front s y state some is stands =
     sums-more window.smooth front s
-    ∙ ap (λ sum. sums window.smooth front ++ sum ∷ []) (sym (is ∙ sum-now window.smooth window.kept front s some stands.kept))
+    ∙ ap (λ sum. sums window.smooth front ++ sum ∷ [])
+    (sym (is ∙ sum-now window.smooth window.kept front s some stands.kept))
 
 -- one sample
-pub one_step : (state : FinderState) (window : WindowState) (s y : ℤ) → 1 ≤ window.smooth → y ≡ total (window.kept ++ s ∷ [])
+pub one_step : (state : FinderState) (window : WindowState) (s y : ℤ) → 1 ≤ window.smooth
+    → y ≡ total (window.kept ++ s ∷ [])
     → RunsTo state (state_after state y) window (window_after window s) (s ∷ []) (distance_at state y)
 one_step state window s y some is = record {
   fineness = refl;
@@ -54,29 +61,35 @@ one_step state window s y some is = record {
 }
 
 -- the distances are found alike
-same_distances : (a b : FinderState) (w v : WindowState) (xs : List ℤ) → b.fineness ≡ a.fineness → b.threshold ≡ a.threshold → b.start ≡ a.start
+same_distances : (a b : FinderState) (w v : WindowState) (xs : List ℤ) → b.fineness ≡ a.fineness
+    → b.threshold ≡ a.threshold → b.start ≡ a.start
     → v.smooth ≡ w.smooth → distances_in b v xs ≡ distances_in a w xs
 same_distances a b w v xs fineness threshold start smooth = rw (fineness, threshold, start, smooth) refl
 
 -- samples that brought nothing, and then more
-pub runs_then : (a b c : FinderState) (w v u : WindowState) (first second : List ℤ) (distance : Option ℕ) → RunsTo a b w v first None
+pub runs_then : (a b c : FinderState) (w v u : WindowState) (first second : List ℤ) (distance : Option ℕ)
+    → RunsTo a b w v first None
     → RunsTo b c v u second distance → RunsTo a c w u (first ++ second) distance
 runs_then a b c w v u first second distance runs more =
     let same : (xs : List ℤ) → distances_in b v xs ≡ distances_in a w xs =
     λ xs. same_distances a b w v xs runs.fineness runs.threshold runs.start runs.smooth in
-    let joined : (front : List ℤ) → front ++ (first ++ second) ≡ (front ++ first) ++ second = λ front. sym (append_assoc front first second) in
+    let joined : (front : List ℤ) → front ++ (first ++ second) ≡ (front ++ first) ++ second =
+    λ front. sym (append_assoc front first second) in
     let long : a.fineness * length (first ++ second) ≡ a.fineness * length first + a.fineness * length second =
     ap (λ n. a.fineness * n) (length-append first second) ∙ mul-add a.fineness (length first) (length second) in
-    let later : c.tick ≡ b.tick + a.fineness * length second = more.tick ∙ ap (λ f. b.tick + f * length second) runs.fineness in
+    let later : c.tick ≡ b.tick + a.fineness * length second = more.tick
+    ∙ ap (λ f. b.tick + f * length second) runs.fineness in
     record {
       fineness = more.fineness ∙ runs.fineness;
       threshold = more.threshold ∙ runs.threshold;
       start = more.start ∙ runs.start;
       smooth = more.smooth ∙ runs.smooth;
       tick = omega (arith, runs.tick, later, long);
-      stands = λ front stands. subst (Stand c u) (sym (joined front)) (more.stands (front ++ first) (runs.stands front stands));
+      stands = λ front stands. subst (Stand c u) (sym (joined front))
+          (more.stands (front ++ first) (runs.stands front stands));
       brings = λ front stands.
-          ap (distances_in a w) (joined front) ∙ sym (same ((front ++ first) ++ second)) ∙ more.brings (front ++ first) (runs.stands front stands)
+          ap (distances_in a w) (joined front) ∙ sym (same ((front ++ first) ++ second))
+          ∙ more.brings (front ++ first) (runs.stands front stands)
           ∙ ap (λ ds. ds ++ option_to_list distance)
           (same (front ++ first) ∙ runs.brings front stands ∙ append-nil (distances_in a w front));
     }
@@ -89,7 +102,8 @@ IsStill state sum = stays state.side (side_of (threshold_by state.threshold (lev
 
 -- what is kept then
 abbrev pub still_after : FinderState → ℤ → FinderState
-still_after state sum = state_of state.fineness state.threshold state.start (state.tick + state.fineness) sum (level_in state sum) state.side state.latest
+still_after state sum = state_of state.fineness state.threshold state.start (state.tick + state.fineness) sum
+    (level_in state sum) state.side state.latest
 
 state_still : (state : FinderState) (sum : ℤ) → IsStill state sum → state_after state sum ≡ still_after state sum
 state_still state sum is =
@@ -120,7 +134,8 @@ take-more (suc at) (x ∷ xs) within =
     ap (λ n. take n (x ∷ xs)) one ∙ ap (λ more. x ∷ more) (take-more at xs (omega arith))
 
 -- after so many of them there is room for one more
-pub room_for_one : (f tick start at : ℕ) (xs : List ℤ) → at < length xs → tick ≡ start + f * length (take at xs) → start + f * length xs ≤ 2 ^ 62
+pub room_for_one : (f tick start at : ℕ) (xs : List ℤ) → at < length xs → tick ≡ start + f * length (take at xs)
+    → start + f * length xs ≤ 2 ^ 62
     → tick + f ≤ 2 ^ 62
 room_for_one f tick start at xs within is room =
     let all : f * (at + 1) ≤ f * length xs = mul-le-mul_left f (omega (arith, within)) in
@@ -129,8 +144,10 @@ room_for_one f tick start at xs within is room =
     omega (arith, all, one, now, room)
 
 -- one sample, as a step takes it
-pub one_taken : (state now : FinderState) (window pushed : WindowState) (s y : ℤ) (distance : Option ℕ) → 1 ≤ window.smooth
-    → y ≡ total (window.kept ++ s ∷ []) → pushed ≡ window_after window s → now ≡ state_after state y → distance ≡ distance_at state y
+pub one_taken : (state now : FinderState) (window pushed : WindowState) (s y : ℤ) (distance : Option ℕ)
+    → 1 ≤ window.smooth
+    → y ≡ total (window.kept ++ s ∷ []) → pushed ≡ window_after window s → now ≡ state_after state y
+    → distance ≡ distance_at state y
     → RunsTo state now window pushed (s ∷ []) distance
 one_taken state now window pushed s y distance some is pushed_is now_is distance_is =
     rw (pushed_is, now_is, distance_is) (one_step state window s y some is)

@@ -86,7 +86,8 @@ abbrev AreAll : (ℕ → Bool) → ℕ → List ℕ → Type 0
 AreAll p a [] = ⊤
 AreAll p a (i ∷ is) = (a ≤ i) × (p i ≡ true) × ((j : ℕ) → a ≤ j → j < i → p j ≡ false) × AreAll p (i + 1) is
 
-all_cond : (p : ℕ → Bool) (b : Bool) (a : ℕ) (is : List ℕ) → p a ≡ b → AreAll p (a + 1) is → AreAll p a (cond b (a ∷ is) is)
+all_cond : (p : ℕ → Bool) (b : Bool) (a : ℕ) (is : List ℕ) → p a ≡ b → AreAll p (a + 1) is
+    → AreAll p a (cond b (a ∷ is) is)
 all_cond p true a is here all = (omega arith, here, λ j least below. absurd (omega (arith, least, below)), all)
 all_cond p false a [] here all = tt
 all_cond p false a (i ∷ is) here all = (
@@ -155,7 +156,8 @@ turns threshold samples first second is next later none =
       later = omega (arith, later);
       first_is = sides.1;
       second_is =
-          let was = on_side threshold samples first side sides.1 (second - (first + 1)) second (omega (arith, later)) none in
+          let was = on_side threshold samples first side sides.1 (second - (first + 1)) second (omega (arith, later))
+          none in
           turns_by (side_at threshold samples second) side
           (ap (λ (o : Option Side). differs o (side_at threshold samples second)) (sym was) ∙ next);
       none_between = λ i behind before.
@@ -175,7 +177,8 @@ turns_behind threshold samples first (next ∷ more) is all = (
   turns_behind threshold samples next more all.1 all.3,
 )
 
-all_turn : (threshold : Threshold) (samples : List ℤ) (places : List ℕ) → AreAll (is_crossing threshold samples) 0 places
+all_turn : (threshold : Threshold) (samples : List ℤ) (places : List ℕ)
+    → AreAll (is_crossing threshold samples) 0 places
     → TurnByTurn threshold samples places
 all_turn threshold samples [] all = tt
 all_turn threshold samples (first ∷ more) all = turns_behind threshold samples first more all.1 all.3

@@ -1,5 +1,6 @@
 -- Samples that bring nothing up to a place, and one more: what was taken runs on.
-use Rattle.std.proofs.Common.{◌≡◌, false, ℕ, ◌+◌, ◌-◌, ◌*◌, ◌^◌, ◌<◌, ◌≤◌, ℤ, pos, List, [], ◌∷◌, ◌++◌, length, take, get_or, IfSome, Option, None, Some}
+use Rattle.std.proofs.Common.{◌≡◌, false, ℕ, ◌+◌, ◌-◌, ◌*◌, ◌^◌, ◌<◌, ◌≤◌, ℤ, pos, List, [], ◌∷◌, ◌++◌, length, take}
+use Rattle.std.proofs.Common.{get_or, IfSome, Option, None, Some}
 use Rattle.std.proofs.Common.{refl, ap, subst, sym, ◌∙◌, append-nil, mul-add, take-add, arith}
 use Rattle.std.specs.Option.{is_some}
 use Rattle.std.specs.Prelude.{slice_range}
@@ -15,11 +16,14 @@ ticks_more None a b later = omega arith
 ticks_more (Some moment) a b later = omega (arith, later)
 
 -- more have passed where the tick is later
-pub passed_more : (before now : FinderState) → now.latest ≡ before.latest → before.tick ≤ now.tick → passed_in before ≤ passed_in now
+pub passed_more : (before now : FinderState) → now.latest ≡ before.latest → before.tick ≤ now.tick
+    → passed_in before ≤ passed_in now
 passed_more before now same later =
-    subst (λ o. ticks_since before.latest before.tick ≤ ticks_since o now.tick) (sym same) (ticks_more before.latest before.tick now.tick later)
+    subst (λ o. ticks_since before.latest before.tick ≤ ticks_since o now.tick) (sym same)
+    (ticks_more before.latest before.tick now.tick later)
 
-pub run_passes : (before now : FinderState) (w v : WindowState) (taken : List ℤ) → now.latest ≡ before.latest → RunsTo before now w v taken None
+pub run_passes : (before now : FinderState) (w v : WindowState) (taken : List ℤ) → now.latest ≡ before.latest
+    → RunsTo before now w v taken None
     → passed_in before ≤ passed_in now
 run_passes before now w v taken same runs = passed_more before now same (omega (arith, runs.tick))
 
@@ -29,14 +33,18 @@ take-range xs at end order =
     sym (take-add at (end - at) xs) ∙ ap (λ k. take k xs) all
 
 -- samples up to a place, and on to another
-pub passed_to : (a b c : FinderState) (w v u : WindowState) (xs : List ℤ) (at end : ℕ) → at ≤ end → RunsTo a b w v (take at xs) None
+pub passed_to : (a b c : FinderState) (w v u : WindowState) (xs : List ℤ) (at end : ℕ) → at ≤ end
+    → RunsTo a b w v (take at xs) None
     → RunsTo b c v u (slice_range xs at end) None → RunsTo a c w u (take end xs) None
 passed_to a b c w v u xs at end order first more =
-    subst (λ l. RunsTo a c w u l None) (take-range xs at end order) (runs_then a b c w v u (take at xs) (slice_range xs at end) None first more)
+    subst (λ l. RunsTo a c w u l None) (take-range xs at end order)
+    (runs_then a b c w v u (take at xs) (slice_range xs at end) None first more)
 
 -- and the one there
-pub one_more_to : (a b c : FinderState) (w v u : WindowState) (xs : List ℤ) (end : ℕ) (s : ℤ) (distance : Option ℕ) → end < length xs
-    → s ≡ get_or xs end (pos 0) → RunsTo a b w v (take end xs) None → RunsTo b c v u (s ∷ []) distance → RunsTo a c w u (take (end + 1) xs) distance
+pub one_more_to : (a b c : FinderState) (w v u : WindowState) (xs : List ℤ) (end : ℕ) (s : ℤ) (distance : Option ℕ)
+    → end < length xs
+    → s ≡ get_or xs end (pos 0) → RunsTo a b w v (take end xs) None → RunsTo b c v u (s ∷ []) distance
+    → RunsTo a c w u (take (end + 1) xs) distance
 one_more_to a b c w v u xs end s distance within is first one =
     rw (take-more end xs within, sym is) (runs_then a b c w v u (take end xs) (s ∷ []) distance first one)
 
@@ -50,11 +58,13 @@ room_left f g tick start at xs same within is room =
     rw same (omega (arith, all, now, room))
 
 -- before it nothing came
-pub none_before : (a b : FinderState) (w v : WindowState) (xs : List ℤ) (end : ℕ) → RunsTo a b w v (take end xs) None → (front : List ℤ)
+pub none_before : (a b : FinderState) (w v : WindowState) (xs : List ℤ) (end : ℕ) → RunsTo a b w v (take end xs) None
+    → (front : List ℤ)
     → Stand a w front → distances_in a w (front ++ take ((end + 1) - 1) xs) ≡ distances_in a w front
 none_before a b w v xs end runs front stands =
     let back : (end + 1) - 1 ≡ end = omega arith in
-    ap (λ k. distances_in a w (front ++ take k xs)) back ∙ runs.brings front stands ∙ append-nil (distances_in a w front)
+    ap (λ k. distances_in a w (front ++ take k xs)) back ∙ runs.brings front stands
+    ∙ append-nil (distances_in a w front)
 
 -- ---- a distance that came or not
 

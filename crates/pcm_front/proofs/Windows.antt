@@ -1,5 +1,7 @@
--- The latest samples but one, with the sample that comes: their sum is the sum there, and without the oldest they are the latest again.
-use Rattle.std.proofs.Common.{◌≡◌, ℕ, zero, suc, ◌+◌, ◌-◌, ◌*◌, ◌≤◌, ℤ, pos, ◌+ℤ◌, List, [], ◌∷◌, ◌++◌, length, replicate, drop, unsigned_abs}
+-- The latest samples but one, with the sample that comes: their sum is the sum there, and without the oldest they are
+-- the latest again.
+use Rattle.std.proofs.Common.{◌≡◌, ℕ, zero, suc, ◌+◌, ◌-◌, ◌*◌, ◌≤◌, ℤ, pos, ◌+ℤ◌, List, [], ◌∷◌, ◌++◌, length}
+use Rattle.std.proofs.Common.{replicate, drop, unsigned_abs}
 use Rattle.std.proofs.Common.{refl, ap, ap₂, sym, ◌∙◌, append_assoc, arith}
 use Rattle.std.specs.List.{AllByRecursion}
 use Rattle.std.proofs.lemmas.Int.{ints}
@@ -32,10 +34,12 @@ behind n xs s = append_assoc (replicate n (pos 0)) xs (s ∷ [])
 pub kept-more : (n : ℕ) (kept xs : List ℤ) (s : ℤ) → kept ≡ latest (n - 1) (padded n xs)
     → drop 1 (kept ++ s ∷ []) ≡ latest (n - 1) (padded n (xs ++ s ∷ []))
 kept-more n kept xs s is =
-    ap (λ l. drop 1 (l ++ s ∷ [])) is ∙ latest-next (n - 1) (padded n xs) s (enough n xs) ∙ ap (latest (n - 1)) (behind n xs s)
+    ap (λ l. drop 1 (l ++ s ∷ [])) is ∙ latest-next (n - 1) (padded n xs) s (enough n xs)
+    ∙ ap (latest (n - 1)) (behind n xs s)
 
 -- and the sum there
-pub sum-now : (n : ℕ) (kept xs : List ℤ) (s : ℤ) → 1 ≤ n → kept ≡ latest (n - 1) (padded n xs) → total (kept ++ s ∷ []) ≡ sum_of n (xs ++ s ∷ [])
+pub sum-now : (n : ℕ) (kept xs : List ℤ) (s : ℤ) → 1 ≤ n → kept ≡ latest (n - 1) (padded n xs)
+    → total (kept ++ s ∷ []) ≡ sum_of n (xs ++ s ∷ [])
 sum-now n kept xs s some is =
     let all : (n - 1) + 1 ≡ n = omega arith in
     ap (λ l. total (l ++ s ∷ [])) is ∙ ap total (latest-push (n - 1) (padded n xs) s (enough n xs))
@@ -62,7 +66,8 @@ unfolding total
 zeros-sum zero = refl
 zeros-sum (suc n) = let more = zeros-sum n in grind (arith, ints)
 
-push-fits : (xs : List ℤ) (s : ℤ) → AllByRecursion HasSixteenBits xs → HasSixteenBits s → AllByRecursion HasSixteenBits (xs ++ s ∷ [])
+push-fits : (xs : List ℤ) (s : ℤ) → AllByRecursion HasSixteenBits xs → HasSixteenBits s
+    → AllByRecursion HasSixteenBits (xs ++ s ∷ [])
 push-fits [] s bits one = (one, tt)
 push-fits (x ∷ xs) s bits one = (bits.0, push-fits xs s bits.1 one)
 
@@ -70,12 +75,14 @@ rest-fits : (xs : List ℤ) → AllByRecursion HasSixteenBits xs → AllByRecurs
 rest-fits [] bits = tt
 rest-fits (x ∷ xs) bits = bits.1
 
-next-fits : (xs : List ℤ) (s : ℤ) → AllByRecursion HasSixteenBits xs → HasSixteenBits s → AllByRecursion HasSixteenBits (drop 1 (xs ++ s ∷ []))
+next-fits : (xs : List ℤ) (s : ℤ) → AllByRecursion HasSixteenBits xs → HasSixteenBits s
+    → AllByRecursion HasSixteenBits (drop 1 (xs ++ s ∷ []))
 next-fits xs s bits one = rest-fits (xs ++ s ∷ []) (push-fits xs s bits one)
 
 -- ---- what a window keeps is in its range
 
-pub window-stays : (window : WindowState) (s : ℤ) → IsWindow window → HasSixteenBits s → IsWindow (window_after window s)
+pub window-stays : (window : WindowState) (s : ℤ) → IsWindow window → HasSixteenBits s
+    → IsWindow (window_after window s)
 window-stays window s is bits = record {
   least = is.least;
   most = is.most;
@@ -84,7 +91,8 @@ window-stays window s is bits = record {
 }
 
 -- and so is its sum
-pub window-within : (window : WindowState) (sum : ℤ) → IsWindow window → sum ≡ total window.kept → unsigned_abs sum ≤ 32_768 * 15
+pub window-within : (window : WindowState) (sum : ℤ) → IsWindow window → sum ≡ total window.kept
+    → unsigned_abs sum ≤ 32_768 * 15
 window-within window sum is sum_is =
     let within = total-within window.kept is.bits in
     let same : unsigned_abs sum ≡ unsigned_abs (total window.kept) = ap unsigned_abs sum_is in

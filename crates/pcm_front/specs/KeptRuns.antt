@@ -9,7 +9,8 @@ use Rattle.pcm_front.specs.StandsFor.{distances_in, Stand}
 use Rattle.pcm_front.specs.State.{FinderState, WindowState}
 
 -- from what was kept before to what is kept now, these samples were taken, and they brought this distance
-pub record RunsTo (before now : FinderState) (window after : WindowState) (taken : List ℤ) (distance : Option ℕ) : Type 0 where
+pub record RunsTo (before now : FinderState) (window after : WindowState) (taken : List ℤ) (distance : Option ℕ) : Type
+    0 where
   pub fineness : now.fineness ≡ before.fineness
   pub threshold : now.threshold ≡ before.threshold
   pub start : now.start ≡ before.start
@@ -24,11 +25,12 @@ abbrev pub latest : ℤ → ℤ → ℤ
 latest before sample = sample
 
 -- finding crossings stands on this side, after this sum, at this level
-pub record IsAt (state : FinderState) (side : Option Side) (threshold : Threshold) (before : ℤ) (level : Level) : Type 0 where
-  pub side_is : state.side ≡ side
-  pub threshold_is : state.threshold ≡ threshold
-  pub before_is : state.before ≡ before
-  pub level_is : state.level ≡ level
+pub record IsAt (state : FinderState) (side : Option Side) (threshold : Threshold) (before : ℤ) (level : Level) : Type 0
+  where
+    pub side_is : state.side ≡ side
+    pub threshold_is : state.threshold ≡ threshold
+    pub before_is : state.before ≡ before
+    pub level_is : state.level ≡ level
 
 -- and after so many samples more, where the sound stayed on its side
 abbrev pub still_at : FinderState → ℕ → ℤ → Level → FinderState
@@ -39,4 +41,5 @@ still_at state count before level =
 abbrev pub PassesTo : Option Side → Threshold → List ℤ → Passed → Passed → WindowState → WindowState → Type 0
 PassesTo side threshold samples from now window after =
     (state : FinderState) → IsAt state side threshold from.before from.level
-    → RunsTo state (still_at state (now.end - from.end) now.before now.level) window after (slice_range samples from.end now.end) None
+    → RunsTo state (still_at state (now.end - from.end) now.before now.level) window after
+    (slice_range samples from.end now.end) None

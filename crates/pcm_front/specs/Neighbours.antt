@@ -4,7 +4,8 @@ use Rattle.pcm_front.specs.declared.side.Side.{Side}
 use Rattle.pcm_front.specs.declared.threshold.Threshold.{Threshold}
 use Rattle.pcm_front.specs.Side.{other_side, side_at}
 
--- the sample in a place lies on a side, and the latest one before it that lies on any lies on the other: each of the two
+-- the sample in a place lies on a side, and the latest one before it that lies on any lies on the other: each of the
+-- two
 -- is beyond the threshold of its own sample
 pub record Crosses (threshold : Threshold) (samples : List ℤ) (place : ℕ) : Type 0 where
   pub side : Side

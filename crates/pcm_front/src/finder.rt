@@ -1,12 +1,14 @@
 //! The crossings in a list of sums. Read next: `slicer`.
-ghost use Rattle.std.specs.Prelude.{◌≡◌, ◌+◌, ◌-◌, ◌*◌, ◌<◌, ◌≤◌, ◌^◌, true, false, Some, None, length, slice_range, IfSome};
+ghost use Rattle.std.specs.Prelude.{◌≡◌, ◌+◌, ◌-◌, ◌*◌, ◌<◌, ◌≤◌, ◌^◌, true, false, Some, None, length, slice_range};
+ghost use Rattle.std.specs.Prelude.{IfSome};
 ghost use Rattle.std.specs.List.{fold};
 ghost use Rattle.pcm_front.specs.KeptRuns.{latest, RunsTo};
 ghost use Rattle.pcm_front.specs.Level.{IsSum};
 ghost use Rattle.pcm_front.specs.Pace.{Passes};
 ghost use Rattle.pcm_front.specs.Side.{differs, side_of};
 ghost use Rattle.pcm_front.specs.StandsFor.{passed_in};
-ghost use Rattle.pcm_front.specs.State.{after_sum, between, crossing_after, distance_at, fresh, late_start, level_in, state_after, IsAlone};
+ghost use Rattle.pcm_front.specs.State.{after_sum, between, crossing_after, distance_at, fresh, late_start, level_in};
+ghost use Rattle.pcm_front.specs.State.{state_after, IsAlone};
 ghost use Rattle.pcm_front.specs.State.{IsThreshold, WindowState};
 
 use crate::crossing::tick_to;

@@ -176,8 +176,10 @@ pub fn pieces_add_up_to_their_distance()
         → AllByRecursion (λ piece. (1 ≤ piece) × (piece ≤ length)) (pieces_in length distance) }
 {}
 
-/// The intervals of samples tell their crossings: each leads from one side to the other, neighbours lie on opposite sides
-/// with none between them, the ticks from the first, or from tick 0, to the last are covered, and the sign of the samples
+/// The intervals of samples tell their crossings: each leads from one side to the other, neighbours lie on opposite
+/// sides
+/// with none between them, the ticks from the first, or from tick 0, to the last are covered, and the sign of the
+/// samples
 /// changes nothing.
 pub fn intervals_tell_the_crossings()
     ensures { (pace : Pace) (s : Settings) (samples : List ℤ) → IsPace pace → 1 ≤ s.fineness → 1 ≤ least_of s.threshold

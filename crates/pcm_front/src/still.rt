@@ -39,7 +39,8 @@ pub(crate) fn pass_ring<S: Samples>(
     ensures within { result.1.end ≤ length (S.list samples.now) }
     ensures before { IsSum result.1.before }
     ensures level { IsInRange result.1.level }
-    ensures passes { PassesTo side threshold (S.list samples.now) from result.1 (window_of turn.smooth ring.old turn.oldest)
+    ensures passes { PassesTo side threshold (S.list samples.now) from result.1
+        (window_of turn.smooth ring.old turn.oldest)
         (window_of result.0.smooth ring.new result.0.oldest) }
 {
     let (count, least) = (samples.count(), threshold.least());

@@ -125,7 +125,8 @@ frames_are_read r l limit last words are =
 -- ---- two frames that follow each other
 
 neighbours_in : Laws → (since : Option Placed) (front rest : List Frame) (first second : Frame)
-    → GoOn since (front ++ first ∷ second ∷ rest) → goes_on second ≡ true → (a b : Placed) × (placed first ≡ a ∷ []) × (placed second ≡ b ∷ []) × IsNeighbour a b
+    → GoOn since (front ++ first ∷ second ∷ rest) → goes_on second ≡ true → (a b : Placed) × (placed first ≡ a ∷ [])
+    × (placed second ≡ b ∷ []) × IsNeighbour a b
 neighbours_in l since [] rest (Heard label direction joined tick) (Heard next way other later) go on =
     (placed_at label direction, placed_at next way, refl, refl, one_before l _ _ go.0 (go.2.1 on))
 neighbours_in l since [] rest (Heard label direction joined tick) (Invented next way k later) go on =
@@ -146,7 +147,8 @@ neighbours_in l since (Invented label direction k tick ∷ front) rest first sec
 neighbours_in l since (Gone tick ∷ front) rest first second go on = neighbours_in l _ front rest first second go on
 
 pub frames_are_neighbours : Laws → (limit last : ℕ) (words : List HeardWord) (front rest : List Frame)
-    (first second : Frame) → AreLabelled words → frames limit words last ≡ front ++ first ∷ second ∷ rest → goes_on second ≡ true
+    (first second : Frame) → AreLabelled words → frames limit words last ≡ front ++ first ∷ second ∷ rest
+    → goes_on second ≡ true
     → (a b : Placed) × (placed first ≡ a ∷ []) × (placed second ≡ b ∷ []) × IsNeighbour a b
 frames_are_neighbours l limit last words front rest first second are is on =
     neighbours_in l None front rest first second

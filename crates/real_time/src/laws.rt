@@ -37,8 +37,10 @@ pub fn a_frame_comes_back_from_a_faster_rate()
         → IsWholeOf ((there + 1) * seconds_of other * frames_in rate) (seconds_of rate * frames_in other) frame }
 {}
 
-/// Moments at the edges, by hand: the second frame of 24 a second begins 41.667 ms after midnight; an hour of frames that
-/// are counted at 30 a second and pulled down lasts 3.6 s more than an hour; the 107,892 labels of an hour of drop-frame
+/// Moments at the edges, by hand: the second frame of 24 a second begins 41.667 ms after midnight; an hour of frames
+/// that
+/// are counted at 30 a second and pulled down lasts 3.6 s more than an hour; the 107,892 labels of an hour of
+/// drop-frame
 /// counting take 3,599.9964 s; frame 12 of 24 a second begins in the middle of frame 12 of 25.
 pub fn moments_by_hand()
     ensures second { IsMillisecondOf R24 1 42 }

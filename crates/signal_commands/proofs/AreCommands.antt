@@ -1,4 +1,5 @@
--- What `mtc-read`, `pcm-ltc` and `vitc-read` write of some bytes comes first, whatever bytes follow, so each is a command as any other.
+-- What `mtc-read`, `pcm-ltc` and `vitc-read` write of some bytes comes first, whatever bytes follow, so each is a
+-- command as any other.
 use Rattle.std.proofs.Common.{◌≡◌, ℕ, ◌+◌, ◌*◌, ℤ, List, [], ◌∷◌, ◌++◌, take, drop, refl, sym, ◌∙◌, ap}
 use Rattle.std.proofs.Common.{subst, append_assoc}
 use Rattle.std.proofs.lemmas.Bool.{false≢true}
@@ -39,9 +40,11 @@ use Rattle.tc_command.specs.declared.input_fault.InputFault.TheVariants.{Lines}
 
 -- the events of some bytes come first
 abbrev pub EarlierEventsStay : Type 0
-EarlierEventsStay = (before more : List ℕ) → (later : List MtcEvent) × (events_in (before ++ more) ≡ events_in before ++ later)
+EarlierEventsStay = (before more : List ℕ) → (later : List MtcEvent)
+    × (events_in (before ++ more) ≡ events_in before ++ later)
 
-labels_first : EarlierEventsStay → (front more : List ℕ) → IsFront (event_lines (events_in front)) (event_lines (events_in (front ++ more)))
+labels_first : EarlierEventsStay → (front more : List ℕ)
+    → IsFront (event_lines (events_in front)) (event_lines (events_in (front ++ more)))
 labels_first laws front more =
     let later = laws front more in
     (event_lines later.0, ap event_lines later.1 ∙ flat_map-append mtc_line (events_in front) later.0)
@@ -60,7 +63,8 @@ midi_is_command laws = record {
         ap (λ l. l ++ more) (sym (take-append-drop MAX_BYTES front)) ∙ append_assoc first (drop MAX_BYTES front) more in
         let lines = labels_first laws first behind in
         subst (IsFront a) (sym all)
-        (front_of_more a (event_lines (events_in (front ++ more))) lines.0 (last_mtc_line (front ++ more) (events_in (front ++ more)))
+        (front_of_more a (event_lines (events_in (front ++ more))) lines.0
+        (last_mtc_line (front ++ more) (events_in (front ++ more)))
         (ap (λ l. event_lines (events_in l)) joined ∙ lines.1 ∙ ap (λ l. l ++ lines.0) (sym one)));
     stays = λ front more spent. spent;
     limit = λ front more a b spent one all. absurd spent;
@@ -94,7 +98,8 @@ samples_first (low ∷ high ∷ front) more =
     let rest = samples_first front more in
     (rest.0, ap (λ l. sample_in (low ∷ high ∷ []) ∷ l) rest.1)
 
-sliced_first : IntervalsComeFirst → (s : Slices) (front more : List ℤ) → IsFront (sliced s front) (sliced s (front ++ more))
+sliced_first : IntervalsComeFirst → (s : Slices) (front more : List ℤ)
+    → IsFront (sliced s front) (sliced s (front ++ more))
 sliced_first laws s front more =
     let rest = laws (pace_for s) (settings_for s) front more (is_pace s.live s.system (s.rate * s.fineness)) in
     let before = intervals_at (pace_for s) (settings_for s) front in
@@ -107,8 +112,11 @@ samples_are_command laws s = record {
     part = λ front more a b one all.
         let samples = samples_first front more in
         let within = first_items MAX_SAMPLES (samples_of front) samples.0 in
-        let file = sliced_first laws s (take MAX_SAMPLES (samples_of front)) within.0 in
-        (file.0, all ∙ ap (λ l. sliced s (take MAX_SAMPLES l)) samples.1 ∙ ap (sliced s) within.1 ∙ file.1 ∙ ap (λ l. l ++ file.0) (sym one));
+        let file = sliced_first laws s (take MAX_SAMPLES (samples_of front)) within.0 in (
+          file.0,
+          all ∙ ap (λ l. sliced s (take MAX_SAMPLES l)) samples.1 ∙ ap (sliced s) within.1 ∙ file.1
+              ∙ ap (λ l. l ++ file.0) (sym one),
+        );
     output = λ front more a b one all.
         let samples = samples_first front more in
         let first = take MAX_SAMPLES (samples_of front) in
@@ -137,14 +145,18 @@ samples_are_command laws s = record {
 
 -- ---- fields
 
--- what the laws of a line file say: what bytes show stays, and there are their answers, which come first and are one list
+-- what the laws of a line file say: what bytes show stays, and there are their answers, which come first and are one
+-- list
 pub record FieldLaws : Type 0 where
-  pub fault : (bytes more : List ℕ) (f : LineFileFault) → (reading_of bytes).verdict ≡ refused f → (reading_of (bytes ++ more)).verdict ≡ refused f
-  pub limit : (bytes more : List ℕ) → (reading_of bytes).verdict ≡ past_limit → (reading_of (bytes ++ more)).verdict ≡ past_limit
+  pub fault : (bytes more : List ℕ) (f : LineFileFault) → (reading_of bytes).verdict ≡ refused f
+      → (reading_of (bytes ++ more)).verdict ≡ refused f
+  pub limit : (bytes more : List ℕ) → (reading_of bytes).verdict ≡ past_limit
+      → (reading_of (bytes ++ more)).verdict ≡ past_limit
   pub answers : (bytes more : List ℕ) (answers all : List FieldAnswer) → AreAnswersOf (reading_of bytes) answers
       → AreAnswersOf (reading_of (bytes ++ more)) all → (rest : List FieldAnswer) × (all ≡ answers ++ rest)
   pub some : (bytes : List ℕ) → (answers : List FieldAnswer) × AreAnswersOf (reading_of bytes) answers
-  pub one : (bytes : List ℕ) (a b : List FieldAnswer) → AreAnswersOf (reading_of bytes) a → AreAnswersOf (reading_of bytes) b → a ≡ b
+  pub one : (bytes : List ℕ) (a b : List FieldAnswer) → AreAnswersOf (reading_of bytes) a
+      → AreAnswersOf (reading_of bytes) b → a ≡ b
 
 field_lines_first : (field : ℕ) (answers more : List FieldAnswer) → (rest : List ℕ)
     × (answer_lines field (answers ++ more) ≡ answer_lines field answers ++ rest)

@@ -1,5 +1,6 @@
 -- The bytes that samples bring are those that each run of them brings, one run after another.
-use Rattle.std.proofs.Common.{◌≡◌, ℕ, zero, suc, ◌+◌, ◌-◌, ◌*◌, ◌^◌, ◌≤◌, ap₂, ℤ, List, [], ◌++◌, length, take, drop, sym, ◌∙◌, ap, subst, append_assoc, append-nil, arith}
+use Rattle.std.proofs.Common.{◌≡◌, ℕ, zero, suc, ◌+◌, ◌-◌, ◌*◌, ◌^◌, ◌≤◌, ap₂, ℤ, List, [], ◌++◌, length, take, drop}
+use Rattle.std.proofs.Common.{sym, ◌∙◌, ap, subst, append_assoc, append-nil, arith}
 use Rattle.std.specs.declared.option.Option.{Option}
 use Rattle.std.proofs.lemmas.Grind.{common_steps, flat_map-append}
 use Rattle.std.proofs.lemmas.List.{take-append-drop, drop-take}
@@ -21,7 +22,8 @@ abbrev pub due_at : Intervals → List ℕ
 due_at brought = intervals_bytes One (intervals_in brought)
 
 -- a run more
-pub due_more : (pace : Pace) (s : Settings) (front before run : List ℤ) (due : List ℕ) (brought : Intervals) → AreDue pace s front before due
+pub due_more : (pace : Pace) (s : Settings) (front before run : List ℤ) (due : List ℕ) (brought : Intervals)
+    → AreDue pace s front before due
     → intervals_at pace s ((front ++ before) ++ run) ≡ intervals_at pace s (front ++ before) ++ intervals_in brought
     → AreDue pace s front (before ++ run) (due ++ due_at brought)
 due_more pace s front before run due brought are brings =
@@ -31,10 +33,12 @@ due_more pace s front before run due brought are brings =
     ∙ ap (λ (l : List ℕ). l ++ due_at brought) are ∙ append_assoc (spelled pace s front) due (due_at brought)
 
 -- and what the others bring behind it
-pub due_behind : (pace : Pace) (s : Settings) (front before rest all : List ℤ) (due more : List ℕ) → before ++ rest ≡ all → AreDue pace s front before due
+pub due_behind : (pace : Pace) (s : Settings) (front before rest all : List ℤ) (due more : List ℕ)
+    → before ++ rest ≡ all → AreDue pace s front before due
     → AreDue pace s (front ++ before) rest more → AreDue pace s front all (due ++ more)
 due_behind pace s front before rest all due more split are behind =
-    ap (λ (l : List ℤ). spelled pace s (front ++ l)) (sym split) ∙ ap (spelled pace s) (sym (append_assoc front before rest)) ∙ behind
+    ap (λ (l : List ℤ). spelled pace s (front ++ l)) (sym split)
+    ∙ ap (spelled pace s) (sym (append_assoc front before rest)) ∙ behind
     ∙ ap (λ (l : List ℕ). l ++ more) are ∙ append_assoc (spelled pace s front) due more
 
 -- a run behind those before a place
@@ -48,7 +52,8 @@ cut_run k n xs within less =
     rw (all, ← behind, ← front) cut
 
 -- what was not taken of some bytes was not taken of more
-pub front_of_longer : (old new : Option (List ℕ)) (room a b : List ℕ) → AppendsFront old new (room ++ a) → AppendsFront old new (room ++ (a ++ b))
+pub front_of_longer : (old new : Option (List ℕ)) (room a b : List ℕ) → AppendsFront old new (room ++ a)
+    → AppendsFront old new (room ++ (a ++ b))
 front_of_longer old new room a b f = (
   f.0,
   (f.1.0 ++ b, sym (append_assoc room a b) ∙ ap (λ (l : List ℕ). l ++ b) f.1.1 ∙ append_assoc f.0 f.1.0 b),
@@ -60,7 +65,8 @@ front_of_longer old new room a b f = (
 rest_length : (k : ℕ) (xs : List ℤ) → length (take (length xs - k) (drop k xs)) ≡ length xs - k
 rest_length k xs = grind (arith, common_steps)
 
-pub run_within : (k n : ℕ) (xs : List ℤ) → k ≤ length xs → n ≤ length (take (length xs - k) (drop k xs)) → k + n ≤ length xs
+pub run_within : (k n : ℕ) (xs : List ℤ) → k ≤ length xs → n ≤ length (take (length xs - k) (drop k xs))
+    → k + n ≤ length xs
 run_within k n xs within less = let rest = rest_length k xs in omega (arith, within, less, rest)
 
 sum_times : (n a b : ℕ) → n * (a + b) ≡ n * a + n * b
@@ -72,16 +78,20 @@ sum_times (suc n) a b =
     let rest = sum_times n a b in omega (arith, all, first, then, rest)
 
 -- the ticks of what is left are as few as those of all
-pub rest_fits : (tick fineness k now other : ℕ) (xs : List ℤ) → now ≡ tick + fineness * k → other ≡ fineness → k ≤ length xs
+pub rest_fits : (tick fineness k now other : ℕ) (xs : List ℤ) → now ≡ tick + fineness * k → other ≡ fineness
+    → k ≤ length xs
     → tick + fineness * length xs ≤ 2 ^ 62 → now + other * length (take (length xs - k) (drop k xs)) ≤ 2 ^ 62
 rest_fits tick fineness k now other xs is same within fits =
     let rest = rest_length k xs in
-    let left : other * length (take (length xs - k) (drop k xs)) ≡ fineness * (length xs - k) = ap₂ (λ (a b : ℕ). a * b) same rest in
-    let all : fineness * length xs ≡ fineness * (k + (length xs - k)) = ap (λ (n : ℕ). fineness * n) (omega (arith, within)) in
+    let left : other * length (take (length xs - k) (drop k xs)) ≡ fineness * (length xs - k) =
+    ap₂ (λ (a b : ℕ). a * b) same rest in
+    let all : fineness * length xs ≡ fineness * (k + (length xs - k)) =
+    ap (λ (n : ℕ). fineness * n) (omega (arith, within)) in
     let both = sum_times fineness k (length xs - k) in
     omega (arith, is, left, all, both, fits)
 
-pub next_tick : (tick fineness k n now new other : ℕ) → now ≡ tick + fineness * k → other ≡ fineness → new ≡ now + other * n
+pub next_tick : (tick fineness k n now new other : ℕ) → now ≡ tick + fineness * k → other ≡ fineness
+    → new ≡ now + other * n
     → new ≡ tick + fineness * (k + n)
 next_tick tick fineness k n now new other is same next =
     let both = sum_times fineness k n in
@@ -90,23 +100,27 @@ next_tick tick fineness k n now new other is same next =
 -- the samples of a run stand behind those before it
 pub joined : (k n : ℕ) (front xs : List ℤ) → k ≤ length xs → k + n ≤ length xs
     → (front ++ take k xs) ++ take n (take (length xs - k) (drop k xs)) ≡ front ++ take (k + n) xs
-joined k n front xs within less = append_assoc front (take k xs) _ ∙ ap (λ (l : List ℤ). front ++ l) (cut_run k n xs within less)
+joined k n front xs within less = append_assoc front (take k xs) _
+    ∙ ap (λ (l : List ℤ). front ++ l) (cut_run k n xs within less)
 
 -- what the samples up to the end of a run bring
-pub run_due : (pace : Pace) (s other : Settings) (k n : ℕ) (front xs : List ℤ) (due : List ℕ) (brought : Intervals) → other ≡ s → k ≤ length xs
+pub run_due : (pace : Pace) (s other : Settings) (k n : ℕ) (front xs : List ℤ) (due : List ℕ) (brought : Intervals)
+    → other ≡ s → k ≤ length xs
     → k + n ≤ length xs → AreDue pace s front (take k xs) due
     → intervals_at pace other ((front ++ take k xs) ++ take n (take (length xs - k) (drop k xs)))
     ≡ intervals_at pace other (front ++ take k xs) ++ intervals_in brought
     → AreDue pace s front (take (k + n) xs) (due ++ due_at brought)
 run_due pace s other k n front xs due brought same within less are brings =
     let run = take n (take (length xs - k) (drop k xs)) in
-    let here = subst (λ (x : Settings). intervals_at pace x ((front ++ take k xs) ++ run) ≡ intervals_at pace x (front ++ take k xs) ++ intervals_in brought)
+    let here = subst (λ (x : Settings). intervals_at pace x ((front ++ take k xs) ++ run) ≡ intervals_at pace x
+    (front ++ take k xs) ++ intervals_in brought)
     same brings in
     subst (λ (l : List ℤ). AreDue pace s front l (due ++ due_at brought)) (cut_run k n xs within less)
     (due_more pace s front (take k xs) run due brought are here)
 
 -- what was put before, and a front of what is put then
-pub put_then_front : (a b c : Option (List ℕ)) (first bytes room piece : List ℕ) → IsPut a b first bytes room → AppendsFront b c (room ++ piece)
+pub put_then_front : (a b c : Option (List ℕ)) (first bytes room piece : List ℕ) → IsPut a b first bytes room
+    → AppendsFront b c (room ++ piece)
     → AppendsFront a c (first ++ (bytes ++ piece))
 put_then_front a b c first bytes room piece p f = (
   p.0 ++ f.0,

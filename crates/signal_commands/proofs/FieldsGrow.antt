@@ -21,32 +21,40 @@ use Rattle.signal_commands.specs.declared.vitc_read.FieldReport.{FieldReport}
 use Rattle.tc_command.specs.declared.stop.Stop.TheVariants as stops
 use Rattle.signal_commands.specs.KeptFields.{FitsFields, Stands, counted, most_bytes}
 use Rattle.tc_command.specs.Stops.{Stops}
-use Rattle.signal_commands.specs.VitcRead.{along_fields, answer_lines, is_agreed, is_conflict, is_nothing, last_field_line}
+use Rattle.signal_commands.specs.VitcRead.{along_fields, answer_lines, is_agreed, is_conflict, is_nothing}
+use Rattle.signal_commands.specs.VitcRead.{last_field_line}
 
 -- what the law of the decoder says
 abbrev pub TellsTheFile : Type 0
-TellsTheFile = (d : Decoding) (bytes : List ℕ) (answers : List FieldAnswer) → reads.StandsFor d bytes answers → IsTold (reading_of bytes) good answers
+TellsTheFile = (d : Decoding) (bytes : List ℕ) (answers : List FieldAnswer) → reads.StandsFor d bytes answers
+    → IsTold (reading_of bytes) good answers
 
 -- ---- the fault at the end
 
 pub ends_well : {fault : Option LineFileFault} → fault ≡ None → option_map Lines fault ≡ None
 ends_well e = ap (λ (f : Option LineFileFault). option_map Lines f) e
 
-pub ends_badly : {fault : Option LineFileFault} {first : LineFileFault} → fault ≡ Some first → option_map Lines fault ≡ Some (Lines first)
+pub ends_badly : {fault : Option LineFileFault} {first : LineFileFault} → fault ≡ Some first
+    → option_map Lines fault ≡ Some (Lines first)
 ends_badly e = ap (λ (f : Option LineFileFault). option_map Lines f) e
 
 -- ---- lines
 
 pub lines_last : (field : ℕ) (answers : List FieldAnswer) (answer : FieldAnswer)
-    → answer_lines field (answers ++ answer ∷ []) ≡ answer_lines field answers ++ field_line (field + length answers) answer
-lines_last field [] answer = let e : field + 0 ≡ field = omega arith in append-nil (field_line field answer) ∙ ap (λ (n : ℕ). field_line n answer) (sym e)
+    → answer_lines field (answers ++ answer ∷ []) ≡ answer_lines field answers ++ field_line (field + length answers)
+    answer
+lines_last field [] answer = let e : field + 0 ≡ field = omega arith in append-nil (field_line field answer)
+    ∙ ap (λ (n : ℕ). field_line n answer) (sym e)
 lines_last field (first ∷ answers) answer =
     let rest = lines_last (field + 1) answers answer in
     let e : field + 1 + length answers ≡ field + length (first ∷ answers) = omega arith in
-    ap (λ (l : List ℕ). field_line field first ++ l) (rest ∙ ap (λ (n : ℕ). answer_lines (field + 1) answers ++ field_line n answer) e)
-    ∙ sym (append_assoc (field_line field first) (answer_lines (field + 1) answers) (field_line (field + length (first ∷ answers)) answer))
+    ap (λ (l : List ℕ). field_line field first ++ l)
+    (rest ∙ ap (λ (n : ℕ). answer_lines (field + 1) answers ++ field_line n answer) e)
+    ∙ sym (append_assoc (field_line field first) (answer_lines (field + 1) answers)
+    (field_line (field + length (first ∷ answers)) answer))
 
-lines_now : (written : List ℕ) (field : ℕ) (answers : List FieldAnswer) (answer : FieldAnswer) → written ≡ answer_lines 0 answers → field ≡ length answers
+lines_now : (written : List ℕ) (field : ℕ) (answers : List FieldAnswer) (answer : FieldAnswer)
+    → written ≡ answer_lines 0 answers → field ≡ length answers
     → written ++ field_line field answer ≡ answer_lines 0 (answers ++ answer ∷ [])
 lines_now written field answers answer are number =
     let e : field ≡ 0 + length answers = omega (arith, number) in
@@ -63,8 +71,10 @@ count_last kind answers answer =
 
 -- ---- a field more
 
-same_answers : (d : Decoding) (bytes : List ℕ) (answers : List FieldAnswer) → reads.StandsFor d bytes (answers ++ []) → reads.StandsFor d bytes answers
-same_answers d bytes answers s = subst (λ (told : List FieldAnswer). reads.StandsFor d bytes told) (append-nil answers) s
+same_answers : (d : Decoding) (bytes : List ℕ) (answers : List FieldAnswer) → reads.StandsFor d bytes (answers ++ [])
+    → reads.StandsFor d bytes answers
+same_answers d bytes answers s = subst (λ (told : List FieldAnswer). reads.StandsFor d bytes told) (append-nil answers)
+    s
 
 -- bytes that complete no field
 pub none_more : TellsTheFile → (r next : FieldReport) (front written taken : List ℕ) → (s : Stands r front written)
@@ -90,13 +100,16 @@ pub record Counts (before after : FieldReport) (answer : FieldAnswer) : Type 0 w
   pub conflict : after.conflict ≡ before.conflict + cond (is_conflict answer) 1 0
   pub nothing : after.nothing ≡ before.nothing + cond (is_nothing answer) 1 0
 
-pub one_counted : (before mid after : FieldReport) (answer : FieldAnswer) → mid ≡ record before { decoder = mid.decoder } → after ≡ counted answer mid
+pub one_counted : (before mid after : FieldReport) (answer : FieldAnswer)
+    → mid ≡ record before { decoder = mid.decoder } → after ≡ counted answer mid
     → Counts before after answer
 one_counted before mid after answer same is =
-    by_kind answer (ap (λ (x : FieldReport). x.fields) same) (ap (λ (x : FieldReport). x.agreed) same) (ap (λ (x : FieldReport). x.conflict) same)
+    by_kind answer (ap (λ (x : FieldReport). x.fields) same) (ap (λ (x : FieldReport). x.agreed) same)
+    (ap (λ (x : FieldReport). x.conflict) same)
     (ap (λ (x : FieldReport). x.nothing) same) is
   where
-    by_kind : (answer : FieldAnswer) → mid.fields ≡ before.fields → mid.agreed ≡ before.agreed → mid.conflict ≡ before.conflict → mid.nothing ≡ before.nothing
+    by_kind : (answer : FieldAnswer) → mid.fields ≡ before.fields → mid.agreed ≡ before.agreed
+        → mid.conflict ≡ before.conflict → mid.nothing ≡ before.nothing
         → after ≡ counted answer mid → Counts before after answer
     by_kind (Agreed word) f a k n e = rw e (record {
       fields = omega (arith, f);
@@ -110,7 +123,14 @@ one_counted before mid after answer same is =
       conflict = omega (arith, k);
       nothing = omega (arith, n);
     })
-    by_kind NoLine f a k n e = rw e (record { fields = omega (arith, f); agreed = omega (arith, a); conflict = omega (arith, k); nothing = omega (arith, n) })
+    by_kind NoLine f a k n e =
+        rw e (record {
+          fields = omega (arith, f);
+          agreed = omega (arith, a);
+          conflict = omega (arith, k);
+          nothing =
+              omega (arith, n);
+        })
     by_kind (Nothing fault) f a k n e = rw e (record {
       fields = omega (arith, f);
       agreed = omega (arith, a);
@@ -118,12 +138,15 @@ one_counted before mid after answer same is =
       nothing = omega (arith, n);
     })
 
-count_now : (kind : FieldAnswer → Bool) (before after : ℕ) (answers : List FieldAnswer) (answer : FieldAnswer) → before ≡ count_by kind answers
+count_now : (kind : FieldAnswer → Bool) (before after : ℕ) (answers : List FieldAnswer) (answer : FieldAnswer)
+    → before ≡ count_by kind answers
     → after ≡ before + cond (kind answer) 1 0 → after ≡ count_by kind (answers ++ answer ∷ [])
-count_now kind before after answers answer is more = more ∙ ap (λ (n : ℕ). n + cond (kind answer) 1 0) is ∙ sym (count_last kind answers answer)
+count_now kind before after answers answer is more = more ∙ ap (λ (n : ℕ). n + cond (kind answer) 1 0) is
+    ∙ sym (count_last kind answers answer)
 
 -- bytes that complete a field
-pub one_more : TellsTheFile → (r next : FieldReport) (front written taken : List ℕ) (answer : FieldAnswer) → (s : Stands r front written)
+pub one_more : TellsTheFile → (r next : FieldReport) (front written taken : List ℕ) (answer : FieldAnswer)
+    → (s : Stands r front written)
     → reads.StandsFor next.decoder (front ++ taken) (s.answers ++ answer ∷ []) → Counts r next answer
     → Stands next (front ++ taken) (written ++ field_line r.fields answer)
 one_more law r next front written taken answer s reads_on counts =
@@ -141,9 +164,11 @@ one_more law r next front written taken answer s reads_on counts =
     }
 
 -- a front of the line of a field was written
-pub one_more_part : TellsTheFile → (r : FieldReport) (d : Decoding) (front written bytes taken behind : List ℕ) (answer : FieldAnswer)
+pub one_more_part : TellsTheFile → (r : FieldReport) (d : Decoding) (front written bytes taken behind : List ℕ)
+    (answer : FieldAnswer)
     (old new : Option (List ℕ)) → (s : Stands r front written)
-    → reads.StandsFor d (front ++ taken) (s.answers ++ answer ∷ []) → bytes ≡ taken ++ behind → AppendsFront old new (field_line r.fields answer)
+    → reads.StandsFor d (front ++ taken) (s.answers ++ answer ∷ []) → bytes ≡ taken ++ behind
+    → AppendsFront old new (field_line r.fields answer)
     → Stops along_fields stops.WriteFault old new (front ++ bytes) written
 one_more_part law r d front written bytes taken behind answer old new s reads_on split f = (
   f.0,
@@ -155,36 +180,43 @@ one_more_part law r d front written bytes taken behind answer old new s reads_on
     (s.answers ++ answer ∷ [], (law d (front ++ taken) (s.answers ++ answer ∷ []) reads_on).1, refl),
     (
       f.1.0,
-      sym (lines_now written r.fields s.answers answer s.are s.fields) ∙ ap (λ (l : List ℕ). written ++ l) f.1.1 ∙ sym (append_assoc written f.0 f.1.0),
+      sym (lines_now written r.fields s.answers answer s.are s.fields) ∙ ap (λ (l : List ℕ). written ++ l) f.1.1
+          ∙ sym (append_assoc written f.0 f.1.0),
     ),
   ),
 )
 
 -- ---- the last line
 
-pub last_line_is : (r : FieldReport) (bytes written line : List ℕ) → (s : Stands r bytes written) → line ≡ field_end_line r.fields r.agreed r.conflict r.nothing
+pub last_line_is : (r : FieldReport) (bytes written line : List ℕ) → (s : Stands r bytes written)
+    → line ≡ field_end_line r.fields r.agreed r.conflict r.nothing
     → line ≡ last_field_line s.answers
 last_line_is r bytes written line s is =
     is ∙ ap (λ (n : ℕ). field_end_line n r.agreed r.conflict r.nothing) s.fields
     ∙ ap (λ (n : ℕ). field_end_line (length s.answers) n r.conflict r.nothing) s.agreed
     ∙ ap (λ (n : ℕ). field_end_line (length s.answers) (count_by is_agreed s.answers) n r.nothing) s.conflict
-    ∙ ap (λ (n : ℕ). field_end_line (length s.answers) (count_by is_agreed s.answers) (count_by is_conflict s.answers) n) s.nothing
+    ∙ ap (λ (n : ℕ). field_end_line (length s.answers) (count_by is_agreed s.answers) (count_by is_conflict s.answers)
+    n) s.nothing
 
 -- ---- the decoder of a report with a field more
 
-pub same_decoder : (mid after : FieldReport) (answer : FieldAnswer) → after ≡ counted answer mid → after.decoder ≡ mid.decoder
+pub same_decoder : (mid after : FieldReport) (answer : FieldAnswer) → after ≡ counted answer mid
+    → after.decoder ≡ mid.decoder
 same_decoder mid after (Agreed word) e = ap (λ (x : FieldReport). x.decoder) e
 same_decoder mid after (Conflict word other) e = ap (λ (x : FieldReport). x.decoder) e
 same_decoder mid after NoLine e = ap (λ (x : FieldReport). x.decoder) e
 same_decoder mid after (Nothing fault) e = ap (λ (x : FieldReport). x.decoder) e
 
 -- a field was counted and printed
-pub printed : TellsTheFile → (r mid next : FieldReport) (front written taken : List ℕ) (answer : FieldAnswer) → (s : Stands r front written)
-    → reads.StandsFor mid.decoder (front ++ taken) (s.answers ++ answer ∷ []) → mid ≡ record r { decoder = mid.decoder } → next ≡ counted answer mid
+pub printed : TellsTheFile → (r mid next : FieldReport) (front written taken : List ℕ) (answer : FieldAnswer)
+    → (s : Stands r front written)
+    → reads.StandsFor mid.decoder (front ++ taken) (s.answers ++ answer ∷ []) → mid ≡ record r { decoder = mid.decoder }
+    → next ≡ counted answer mid
     → Stands next (front ++ taken) (written ++ field_line r.fields answer)
 printed law r mid next front written taken answer s reads_on same is =
     one_more law r next front written taken answer s
-    (subst (λ (d : Decoding). reads.StandsFor d (front ++ taken) (s.answers ++ answer ∷ [])) (sym (same_decoder mid next answer is)) reads_on)
+    (subst (λ (d : Decoding). reads.StandsFor d (front ++ taken) (s.answers ++ answer ∷ []))
+    (sym (same_decoder mid next answer is)) reads_on)
     (one_counted r mid next answer same is)
 
 -- ---- what the engine keeps, with a field more

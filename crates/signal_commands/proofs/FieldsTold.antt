@@ -63,7 +63,8 @@ tell laws header is (lines ∷ fields) (answer ∷ answers) are = (
   tell laws header is fields answers are.1,
 )
 
-one_list : (header : LineHeader) (fields : List (List (List ℕ))) (a b : List FieldAnswer) → TellTheFields header fields a
+one_list : (header : LineHeader) (fields : List (List (List ℕ))) (a b : List FieldAnswer)
+    → TellTheFields header fields a
     → TellTheFields header fields b → a ≡ b
 one_list header [] [] [] p q = refl
 one_list header [] [] (answer ∷ b) p q = absurd q

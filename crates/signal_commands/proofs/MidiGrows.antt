@@ -1,5 +1,6 @@
 -- The lines of MIDI bytes grow by the line of the event that a byte gives, and the last line counts all of them.
-use Rattle.std.proofs.Common.{◌≡◌, ℕ, ◌+◌, ◌≤◌, List, [], ◌∷◌, ◌++◌, length, take, drop, count_by, Bool, cond, sym, ◌∙◌, ap, arith, append_assoc, append-nil}
+use Rattle.std.proofs.Common.{◌≡◌, ℕ, ◌+◌, ◌≤◌, List, [], ◌∷◌, ◌++◌, length, take, drop, count_by, Bool, cond, sym, ◌∙◌}
+use Rattle.std.proofs.Common.{ap, arith, append_assoc, append-nil}
 use Rattle.std.specs.declared.option.Option.{Option}
 use Rattle.std.proofs.lemmas.Grind.{flat_map-append}
 use Rattle.std.proofs.lemmas.List.{take-append-drop}
@@ -30,7 +31,8 @@ pub record Counts (before after : MtcReport) (more : List MtcEvent) : Type 0 whe
 one_of : (kind : MtcEvent → Bool) (event : MtcEvent) → count_by kind (event ∷ []) ≡ cond (kind event) 1 0
 one_of kind event = omega (arith, sum_by-cons (λ (e : MtcEvent). cond (kind e) 1 0) event [])
 
-pub one_counted : (before mid after : MtcReport) (event : MtcEvent) → mid.full ≡ before.full → mid.quarter ≡ before.quarter → mid.refused ≡ before.refused
+pub one_counted : (before mid after : MtcReport) (event : MtcEvent) → mid.full ≡ before.full
+    → mid.quarter ≡ before.quarter → mid.refused ≡ before.refused
     → after ≡ counted event mid → Counts before after (event ∷ [])
 one_counted before mid after (Full l p) f q r e =
     rw e (record {
@@ -57,11 +59,14 @@ one_counted before mid after (RefusedQuarter d l p) f q r e =
       refused = omega (arith, r, one_of is_refused (RefusedQuarter d l p));
     })
 
-pub none_counted : (before after : MtcReport) → after.full ≡ before.full → after.quarter ≡ before.quarter → after.refused ≡ before.refused
+pub none_counted : (before after : MtcReport) → after.full ≡ before.full → after.quarter ≡ before.quarter
+    → after.refused ≡ before.refused
     → Counts before after []
-none_counted before after f q r = record { full = omega (arith, f); quarter = omega (arith, q); refused = omega (arith, r) }
+none_counted before after f q r =
+    record { full = omega (arith, f); quarter = omega (arith, q); refused = omega (arith, r) }
 
-both : (kind : MtcEvent → Bool) (a b : ℕ) (first more all : List MtcEvent) → all ≡ first ++ more → a ≡ count_by kind first → b ≡ a + count_by kind more
+both : (kind : MtcEvent → Bool) (a b : ℕ) (first more all : List MtcEvent) → all ≡ first ++ more
+    → a ≡ count_by kind first → b ≡ a + count_by kind more
     → b ≡ count_by kind all
 both kind a b first more all is before after =
     after ∙ ap (λ (n : ℕ). n + count_by kind more) before
@@ -71,26 +76,34 @@ both kind a b first more all is before after =
 
 -- the lines of the bytes with more
 lines_now : (front written bytes : List ℕ) (events : List MtcEvent) → written ≡ event_lines (events_in front)
-    → events_in (front ++ bytes) ≡ events_in front ++ events → written ++ event_lines events ≡ event_lines (events_in (front ++ bytes))
+    → events_in (front ++ bytes) ≡ events_in front ++ events
+    → written ++ event_lines events ≡ event_lines (events_in (front ++ bytes))
 lines_now front written bytes events is grows =
-    ap (λ (l : List ℕ). l ++ event_lines events) is ∙ sym (ap event_lines grows ∙ flat_map-append event_line (events_in front) events)
+    ap (λ (l : List ℕ). l ++ event_lines events) is
+    ∙ sym (ap event_lines grows ∙ flat_map-append event_line (events_in front) events)
 
 -- more bytes
-pub grown : (r next : MtcReport) (front written bytes : List ℕ) (events : List MtcEvent) → Stands r front written → next.reader.bytes ≤ MAX_BYTES
-    → reads.StandsFor next.reader (front ++ bytes) → events_in (front ++ bytes) ≡ events_in front ++ events → Counts r next events
+pub grown : (r next : MtcReport) (front written bytes : List ℕ) (events : List MtcEvent) → Stands r front written
+    → next.reader.bytes ≤ MAX_BYTES
+    → reads.StandsFor next.reader (front ++ bytes) → events_in (front ++ bytes) ≡ events_in front ++ events
+    → Counts r next events
     → Stands next (front ++ bytes) (written ++ event_lines events)
 grown r next front written bytes events s within reader grows counts = record {
   within = omega (arith, within, reader.count);
   reader = reader;
   are = lines_now front written bytes events s.are grows;
   full = both is_full r.full next.full (events_in front) events (events_in (front ++ bytes)) grows s.full counts.full;
-  quarter = both is_quarter r.quarter next.quarter (events_in front) events (events_in (front ++ bytes)) grows s.quarter counts.quarter;
-  refused = both is_refused r.refused next.refused (events_in front) events (events_in (front ++ bytes)) grows s.refused counts.refused;
+  quarter = both is_quarter r.quarter next.quarter (events_in front) events (events_in (front ++ bytes)) grows s.quarter
+      counts.quarter;
+  refused = both is_refused r.refused next.refused (events_in front) events (events_in (front ++ bytes)) grows s.refused
+      counts.refused;
 }
 
 -- a front of the line of an event was written
-pub grown_part : (r : MtcReport) (front written bytes : List ℕ) (count : ℕ) (event : MtcEvent) (old new : Option (List ℕ)) → Stands r front written
-    → length (front ++ take count bytes) ≤ MAX_BYTES → events_in (front ++ take count bytes) ≡ events_in front ++ event ∷ []
+pub grown_part : (r : MtcReport) (front written bytes : List ℕ) (count : ℕ) (event : MtcEvent)
+    (old new : Option (List ℕ)) → Stands r front written
+    → length (front ++ take count bytes) ≤ MAX_BYTES → events_in (front ++ take count bytes) ≡ events_in front ++ event
+    ∷ []
     → AppendsFront old new (event_line event) → Stops along_midi stops.WriteFault old new (front ++ bytes) written
 grown_part r front written bytes count event old new s within grows f =
     let taken = take count bytes in (
@@ -99,12 +112,17 @@ grown_part r front written bytes count event old new s within grows f =
       (
         front ++ taken,
         event_lines (events_in (front ++ taken)),
-        (drop count bytes, ap (λ (l : List ℕ). front ++ l) (sym (take-append-drop count bytes)) ∙ sym (append_assoc front taken (drop count bytes))),
+        (
+          drop count bytes,
+          ap (λ (l : List ℕ). front ++ l) (sym (take-append-drop count bytes))
+              ∙ sym (append_assoc front taken (drop count bytes)),
+        ),
         sym (lines_of_all MAX_BYTES (front ++ taken) within),
         (
           f.1.0,
           sym (lines_now front written taken (event ∷ []) s.are grows)
-              ∙ ap (λ (l : List ℕ). written ++ l) (append-nil (event_line event) ∙ f.1.1) ∙ sym (append_assoc written f.0 f.1.0),
+              ∙ ap (λ (l : List ℕ). written ++ l) (append-nil (event_line event) ∙ f.1.1)
+              ∙ sym (append_assoc written f.0 f.1.0),
         ),
       ),
     )
@@ -113,9 +131,11 @@ grown_part r front written bytes count event old new s within grows f =
 
 same_line : (b f q r b' f' q' r' : ℕ) → b ≡ b' → f ≡ f' → q ≡ q' → r ≡ r' → end_line b f q r ≡ end_line b' f' q' r'
 same_line b f q r b' f' q' r' same_b same_f same_q same_r =
-    ap (λ (n : ℕ). end_line n f q r) same_b ∙ ap (λ (n : ℕ). end_line b' n q r) same_f ∙ ap (λ (n : ℕ). end_line b' f' n r) same_q
+    ap (λ (n : ℕ). end_line n f q r) same_b ∙ ap (λ (n : ℕ). end_line b' n q r) same_f
+    ∙ ap (λ (n : ℕ). end_line b' f' n r) same_q
     ∙ ap (λ (n : ℕ). end_line b' f' q' n) same_r
 
-pub last_line_is : (r : MtcReport) (bytes written line : List ℕ) → Stands r bytes written → line ≡ end_line r.reader.bytes r.full r.quarter r.refused
+pub last_line_is : (r : MtcReport) (bytes written line : List ℕ) → Stands r bytes written
+    → line ≡ end_line r.reader.bytes r.full r.quarter r.refused
     → line ≡ last_mtc_line bytes (events_in bytes)
 last_line_is r bytes written line s is = is ∙ same_line _ _ _ _ _ _ _ _ s.reader.count s.full s.quarter s.refused

@@ -1,5 +1,6 @@
 -- Bytes past the limit stay past it whatever follows, and within it all of them count.
-use Rattle.std.proofs.Common.{◌≡◌, ℕ, List, ◌++◌, ◌<◌, ◌≤◌, ◌∙◌, length, nat_lt, cond, Bool, true, false, refl, ap, arith}
+use Rattle.std.proofs.Common.{◌≡◌, ℕ, List, ◌++◌, ◌<◌, ◌≤◌, ◌∙◌, length, nat_lt, cond, Bool, true, false, refl, ap}
+use Rattle.std.proofs.Common.{arith}
 use Rattle.std.proofs.lemmas.Bool.{ltb-true, lt-ltb}
 use Rattle.std.proofs.lemmas.List.{length-append, take_all, take-append-le}
 use Rattle.tc_command.specs.declared.input_fault.InputFault.{InputFault}
@@ -27,16 +28,20 @@ pub is_past : (most : ℕ) (bytes : List ℕ) → most < length bytes → verdic
 is_past most bytes more = ap verdict_by (lt-ltb most (length bytes) more)
 
 -- what is past the limit stays so
-pub past_within : (most : ℕ) (front rest : List ℕ) → verdict_within most front ≡ past_limit → verdict_within most (front ++ rest) ≡ past_limit
+pub past_within : (most : ℕ) (front rest : List ℕ) → verdict_within most front ≡ past_limit
+    → verdict_within most (front ++ rest) ≡ past_limit
 past_within most front rest e =
     let more = past_by most (length front) (nat_lt most (length front)) refl e in
     is_past most (front ++ rest) (omega (arith, length-append front rest))
 
 -- the part of bytes within the limit are the lines of all of their events
-pub lines_of_all : (most : ℕ) (bytes : List ℕ) → length bytes ≤ most → lines_within most bytes ≡ event_lines (events_in bytes)
+pub lines_of_all : (most : ℕ) (bytes : List ℕ) → length bytes ≤ most
+    → lines_within most bytes ≡ event_lines (events_in bytes)
 lines_of_all most bytes within = ap (λ (l : List ℕ). event_lines (events_in l)) (take_all most bytes within)
 
 -- and where the bytes reach it, whatever follows
-pub lines_at_limit : (most : ℕ) (front more : List ℕ) → length front ≡ most → lines_within most (front ++ more) ≡ event_lines (events_in front)
+pub lines_at_limit : (most : ℕ) (front more : List ℕ) → length front ≡ most
+    → lines_within most (front ++ more) ≡ event_lines (events_in front)
 lines_at_limit most front more is =
-    ap (λ (l : List ℕ). event_lines (events_in l)) (take-append-le most front more (omega (arith, is)) ∙ take_all most front (omega (arith, is)))
+    ap (λ (l : List ℕ). event_lines (events_in l)) (take-append-le most front more (omega (arith, is))
+    ∙ take_all most front (omega (arith, is)))

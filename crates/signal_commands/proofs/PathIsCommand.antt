@@ -60,7 +60,8 @@ whole_grows laws p front more a b one all =
     files_grow p one.intervals rest.0 a b one.file (all.file ∙ ap (file_of (path_header p)) rest.1)
 
 -- there is such a file, and one
-pub path_so_far : PathLaws → (p : SlicesPath) (samples : List ℤ) → (written : List ℕ) × IsPathFileSoFar p samples written
+pub path_so_far : PathLaws → (p : SlicesPath) (samples : List ℤ) → (written : List ℕ)
+    × IsPathFileSoFar p samples written
 path_so_far laws p samples =
     let some = laws.some p.grid p.ticks p.least (reverse samples) in
     (file_of (path_header p) some.0, record { intervals = some.0; are = some.1; file = refl })

@@ -46,7 +46,8 @@ pub hears_pair : (s next : PcmSound) (whole pair written later : List ℕ) → H
 hears_pair s next whole pair written later hears two count within sound = record {
   within = within;
   count = let many = length-append whole pair in omega (arith, many, two, hears.count, count);
-  sound = subst (λ (l : List ℤ). HearsSamples next.sound l later) (sym (sample_more s.samples whole pair hears.count two))
+  sound = subst (λ (l : List ℤ). HearsSamples next.sound l later)
+      (sym (sample_more s.samples whole pair hears.count two))
       sound;
 }
 

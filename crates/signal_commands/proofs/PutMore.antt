@@ -1,4 +1,5 @@
--- Bytes that are put one after another were pushed or are gathered, all of them in order; and a push that fails leaves a front of them.
+-- Bytes that are put one after another were pushed or are gathered, all of them in order; and a push that fails
+-- leaves a front of them.
 use Rattle.std.proofs.Common.{◌≡◌, ℕ, ◌+◌, ◌-◌, ◌≤◌, Bool, true, false, List, [], ◌∷◌, ◌++◌, replicate, refl, sym}
 use Rattle.std.proofs.Common.{◌∙◌, ap, arith}
 use Rattle.std.proofs.lemmas.Grind.{flat_map-append}
@@ -27,7 +28,8 @@ pieces_from length count whole within =
     ∙ flat_map-append (spelling One) (replicate count length) (replicate (whole - count) length)
 
 -- one more
-pub one_piece : (length count : ℕ) → intervals_bytes One (replicate (count + 1) length) ≡ intervals_bytes One (replicate count length) ++ spelling One length
+pub one_piece : (length count : ℕ) → intervals_bytes One (replicate (count + 1) length) ≡ intervals_bytes One
+    (replicate count length) ++ spelling One length
 one_piece length count =
     ap (intervals_bytes One) (sym (replicate-append-replicate count 1 length))
     ∙ flat_map-append (spelling One) (replicate count length) (length ∷ [])
@@ -41,7 +43,8 @@ pub three_parts : (p : Intervals) → intervals_bytes One (intervals_in p)
 three_parts p =
     let first = replicate p.whole p.length in
     flat_map-append (spelling One) first (option_to_list p.rest ++ replicate p.begun p.length)
-    ∙ ap (λ (l : List ℕ). intervals_bytes One first ++ l) (flat_map-append (spelling One) (option_to_list p.rest) (replicate p.begun p.length))
+    ∙ ap (λ (l : List ℕ). intervals_bytes One first ++ l)
+    (flat_map-append (spelling One) (option_to_list p.rest) (replicate p.begun p.length))
 
 -- nothing has begun where nothing has passed
 pub none_begun : (pace : Pace) → begun pace 0 ≡ []

@@ -1,11 +1,14 @@
 -- A file of sliced sound grows by the intervals that more samples bring, and past the limit nothing more is taken.
-use Rattle.std.proofs.Common.{◌≡◌, inl, ℕ, ◌+◌, ◌-◌, ◌*◌, ◌/◌, ◌^◌, ◌%◌, ◌==◌, ap₂, get_or, mul-add, mul-le-mul, ◌<◌, ◌≤◌, nat_lt, cond, ℤ}
-use Rattle.std.proofs.Common.{List, [], ◌∷◌, ◌++◌, length, take, drop, Some, None, sym, ◌∙◌, ap, refl, subst, append_assoc, append-nil, arith}
+use Rattle.std.proofs.Common.{◌≡◌, inl, ℕ, ◌+◌, ◌-◌, ◌*◌, ◌/◌, ◌^◌, ◌%◌, ◌==◌, ap₂, get_or, mul-add, mul-le-mul, ◌<◌}
+use Rattle.std.proofs.Common.{◌≤◌, nat_lt, cond, ℤ}
+use Rattle.std.proofs.Common.{List, [], ◌∷◌, ◌++◌, length, take, drop, Some, None, sym, ◌∙◌, ap, refl, subst}
+use Rattle.std.proofs.Common.{append_assoc, append-nil, arith}
 use Rattle.std.specs.declared.option.Option.{Option}
 use Rattle.std.specs.Option.{option_to_list}
 use Rattle.std.proofs.lemmas.Bool.{lt-ltb}
 use Rattle.std.proofs.lemmas.Grind.{flat_map-append}
-use Rattle.std.proofs.lemmas.List.{length-append, length-take, length-take-le, take-append-drop, take-append-le, take-take, take_all}
+use Rattle.std.proofs.lemmas.List.{length-append, length-take, length-take-le, take-append-drop, take-append-le}
+use Rattle.std.proofs.lemmas.List.{take-take, take_all}
 use Rattle.pcm_front.specs.declared.interval.Intervals.{Intervals}
 use Rattle.pcm_front.specs.declared.pace.Pace.{Pace}
 use Rattle.pcm_front.specs.Pace.{intervals_at, intervals_in}
@@ -53,7 +56,8 @@ no_fewer (low ∷ []) rest = omega arith
 no_fewer (low ∷ high ∷ more) rest = let fewer = no_fewer more rest in omega (arith, fewer)
 
 -- what is past the limit stays so
-pub past_within : (most : ℕ) (front rest : List ℕ) → samples_within most front ≡ past_limit → samples_within most (front ++ rest) ≡ past_limit
+pub past_within : (most : ℕ) (front rest : List ℕ) → samples_within most front ≡ past_limit
+    → samples_within most (front ++ rest) ≡ past_limit
 past_within most front rest e =
     let more = past_by most (length (samples_of front)) (nat_lt most (length (samples_of front))) refl e in
     is_past most (front ++ rest) (omega (arith, more, no_fewer front rest))
@@ -71,19 +75,22 @@ some_samples (low ∷ high ∷ more) some = omega arith
 pub no_samples : (s : words.Slices) → sliced s (samples_of []) ≡ header_bytes (sliced_header s)
 unfolding samples_of
 no_samples s =
-    ap (λ (l : List ℕ). file_of (sliced_header s) l) (none_begun (pace_for s)) ∙ append-nil (header_bytes (sliced_header s))
+    ap (λ (l : List ℕ). file_of (sliced_header s) l) (none_begun (pace_for s))
+    ∙ append-nil (header_bytes (sliced_header s))
 
 -- what intervals bring
 abbrev pub due : Intervals → List ℕ
 due brought = intervals_bytes One (intervals_in brought)
 
 longer_file : (s : words.Slices) (samples more : List ℤ) (brought : Intervals)
-    → intervals_at (pace_for s) (settings_for s) (samples ++ more) ≡ intervals_at (pace_for s) (settings_for s) samples ++ intervals_in brought
+    → intervals_at (pace_for s) (settings_for s) (samples ++ more) ≡ intervals_at (pace_for s) (settings_for s) samples
+    ++ intervals_in brought
     → sliced s (samples ++ more) ≡ sliced s samples ++ due brought
 longer_file s samples more brought brings =
     let before = intervals_at (pace_for s) (settings_for s) samples in
     ap (λ (xs : List ℕ). file_of (sliced_header s) xs) brings
-    ∙ ap (λ (bytes : List ℕ). header_bytes (sliced_header s) ++ bytes) (flat_map-append (spelling One) before (intervals_in brought))
+    ∙ ap (λ (bytes : List ℕ). header_bytes (sliced_header s) ++ bytes)
+    (flat_map-append (spelling One) before (intervals_in brought))
     ∙ sym (append_assoc (header_bytes (sliced_header s)) (intervals_bytes One before) (due brought))
 
 -- what the slicer says of more bytes
@@ -91,38 +98,47 @@ pub record Grows (s next : SlicedSound) (taken : List ℕ) (brought : Intervals)
   pub count : length taken + 2 * s.samples ≡ 2 * next.samples
   pub within : next.samples ≤ MAX_SAMPLES
   pub slicing : next.slicing ≡ s.slicing
-  pub stands : (samples : List ℤ) → pcm.StandsFor s.slicer samples → pcm.StandsFor next.slicer (samples ++ samples_of taken)
+  pub stands : (samples : List ℤ) → pcm.StandsFor s.slicer samples
+      → pcm.StandsFor next.slicer (samples ++ samples_of taken)
   pub brings : (samples : List ℤ) → pcm.StandsFor s.slicer samples
       → intervals_at (pace_for s.slicing) (settings_for s.slicing) (samples ++ samples_of taken)
       ≡ intervals_at (pace_for s.slicing) (settings_for s.slicing) samples ++ intervals_in brought
 
 -- the file of the bytes with more
-grown_file : (s next : SlicedSound) (whole written taken : List ℕ) (brought : Intervals) → Slices s whole written → Grows s next taken brought
+grown_file : (s next : SlicedSound) (whole written taken : List ℕ) (brought : Intervals) → Slices s whole written
+    → Grows s next taken brought
     → written ++ (s.gathered.room.items ++ due brought) ≡ sliced s.slicing (samples_of (whole ++ taken))
 grown_file s next whole written taken brought slices grows =
     sym (append_assoc written s.gathered.room.items (due brought))
     ∙ ap (λ (l : List ℕ). l ++ due brought) slices.are
-    ∙ sym (longer_file s.slicing (samples_of whole) (samples_of taken) brought (grows.brings (samples_of whole) slices.slicer))
+    ∙ sym (longer_file s.slicing (samples_of whole) (samples_of taken) brought
+    (grows.brings (samples_of whole) slices.slicer))
     ∙ ap (sliced s.slicing) (sym (samples_of-append s.samples whole taken slices.count))
 
 -- more bytes were taken, and what they bring was pushed or is gathered
-pub grown : (s next : SlicedSound) (whole written taken more : List ℕ) (brought : Intervals) → Slices s whole written → Grows s next taken brought
-    → s.gathered.room.items ++ due brought ≡ more ++ next.gathered.room.items → Slices next (whole ++ taken) (written ++ more)
+pub grown : (s next : SlicedSound) (whole written taken more : List ℕ) (brought : Intervals) → Slices s whole written
+    → Grows s next taken brought
+    → s.gathered.room.items ++ due brought ≡ more ++ next.gathered.room.items
+    → Slices next (whole ++ taken) (written ++ more)
 grown s next whole written taken more brought slices grows pushed = record {
   within = grows.within;
   count = omega (arith, length-append whole taken, slices.count, grows.count);
   slicer = rw (samples_of-append s.samples whole taken slices.count) (grows.stands (samples_of whole) slices.slicer);
   are = append_assoc written more next.gathered.room.items ∙ ap (λ (l : List ℕ). written ++ l) (sym pushed)
-      ∙ grown_file s next whole written taken brought slices grows ∙ ap (λ (c : words.Slices). sliced c (samples_of (whole ++ taken))) (sym grows.slicing);
+      ∙ grown_file s next whole written taken brought slices grows
+      ∙ ap (λ (c : words.Slices). sliced c (samples_of (whole ++ taken))) (sym grows.slicing);
 }
 
 -- the part of whole bytes within the limit
-part_of : (slicing : words.Slices) (bytes written : List ℕ) → length (samples_of bytes) ≤ MAX_SAMPLES → written ≡ sliced slicing (samples_of bytes)
+part_of : (slicing : words.Slices) (bytes written : List ℕ) → length (samples_of bytes) ≤ MAX_SAMPLES
+    → written ≡ sliced slicing (samples_of bytes)
     → written ≡ sliced slicing (take MAX_SAMPLES (samples_of bytes))
-part_of slicing bytes written within are = are ∙ ap (sliced slicing) (sym (take_all MAX_SAMPLES (samples_of bytes) within))
+part_of slicing bytes written within are = are
+    ∙ ap (sliced slicing) (sym (take_all MAX_SAMPLES (samples_of bytes) within))
 
 -- a push failed: a front of what is due stands
-pub grown_part : (s next : SlicedSound) (whole written bytes rest : List ℕ) (count : ℕ) (brought : Intervals) (old new : Option (List ℕ))
+pub grown_part : (s next : SlicedSound) (whole written bytes rest : List ℕ) (count : ℕ) (brought : Intervals)
+    (old new : Option (List ℕ))
     → Slices s whole written → Grows s next (take count bytes) brought
     → AppendsFront old new (s.gathered.room.items ++ due brought)
     → Stops (along_samples s.slicing) stops.WriteFault old new (whole ++ (bytes ++ rest)) written
@@ -130,7 +146,8 @@ grown_part s next whole written bytes rest count brought old new slices grows f 
     let taken = take count bytes in
     let front = whole ++ taken in
     let long : length front ≡ 2 * next.samples = omega (arith, length-append whole taken, slices.count, grows.count) in
-    let within : length (samples_of front) ≤ MAX_SAMPLES = omega (arith, length-samples next.samples front long, grows.within) in
+    let within : length (samples_of front) ≤ MAX_SAMPLES =
+    omega (arith, length-samples next.samples front long, grows.within) in
     let behind : bytes ++ rest ≡ taken ++ (drop count bytes ++ rest) =
     ap (λ (l : List ℕ). l ++ rest) (sym (take-append-drop count bytes)) ∙ append_assoc taken (drop count bytes) rest in (
       f.0,
@@ -148,11 +165,13 @@ grown_part s next whole written bytes rest count brought old new slices grows f 
     )
 
 -- what is gathered was not taken
-pub gathered_part : (s : SlicedSound) (whole written bytes : List ℕ) (old new : Option (List ℕ)) → Slices s whole written
+pub gathered_part : (s : SlicedSound) (whole written bytes : List ℕ) (old new : Option (List ℕ))
+    → Slices s whole written
     → AppendsFront old new s.gathered.room.items
     → Stops (along_samples s.slicing) stops.WriteFault old new (whole ++ bytes) written
 gathered_part s whole written bytes old new slices f =
-    let within : length (samples_of whole) ≤ MAX_SAMPLES = omega (arith, length-samples s.samples whole slices.count, slices.within) in (
+    let within : length (samples_of whole) ≤ MAX_SAMPLES =
+    omega (arith, length-samples s.samples whole slices.count, slices.within) in (
       f.0,
       f.2,
       (
@@ -193,30 +212,38 @@ at_limit s whole written bytes stop old new slices full some behind =
 -- ---- the end
 
 -- half a sample more than whole ones
-pub odd_end : (count : ℕ) (bytes : List ℕ) → length bytes ≡ 2 * count + 1 → odd_fault bytes ≡ Some (HalfSample (2 * count + 1))
+pub odd_end : (count : ℕ) (bytes : List ℕ) → length bytes ≡ 2 * count + 1
+    → odd_fault bytes ≡ Some (HalfSample (2 * count + 1))
 odd_end count bytes long =
     let odd : (2 * count + 1) % 2 ≡ 1 = omega arith in
-    ap (λ (n : ℕ). cond (n % 2 == 1) (Some (HalfSample n)) None) long ∙ ap (λ (n : ℕ). cond (n == 1) (Some (HalfSample (2 * count + 1))) None) odd
+    ap (λ (n : ℕ). cond (n % 2 == 1) (Some (HalfSample n)) None) long
+    ∙ ap (λ (n : ℕ). cond (n == 1) (Some (HalfSample (2 * count + 1))) None) odd
 
 pub even_end : (count : ℕ) (bytes : List ℕ) → length bytes ≡ 2 * count → odd_fault bytes ≡ None
 even_end count bytes long =
     let even : (2 * count) % 2 ≡ 0 = omega arith in
-    ap (λ (n : ℕ). cond (n % 2 == 1) (Some (HalfSample n)) None) long ∙ ap (λ (n : ℕ). cond (n == 1) (Some (HalfSample (2 * count))) None) even
+    ap (λ (n : ℕ). cond (n % 2 == 1) (Some (HalfSample n)) None) long
+    ∙ ap (λ (n : ℕ). cond (n == 1) (Some (HalfSample (2 * count))) None) even
 
-pub length-bytes : (s : SlicedSound) (bytes written : List ℕ) → Stands s bytes written → length bytes ≡ 2 * s.samples + length (option_to_list s.half)
+pub length-bytes : (s : SlicedSound) (bytes written : List ℕ) → Stands s bytes written
+    → length bytes ≡ 2 * s.samples + length (option_to_list s.half)
 length-bytes s bytes written stands =
-    ap length stands.are ∙ length-append stands.whole (option_to_list s.half) ∙ ap (λ (n : ℕ). n + length (option_to_list s.half)) stands.slices.count
+    ap length stands.are ∙ length-append stands.whole (option_to_list s.half)
+    ∙ ap (λ (n : ℕ). n + length (option_to_list s.half)) stands.slices.count
 
 -- all of it was written, where nothing is gathered
-pub all_written : (s : SlicedSound) (bytes written : List ℕ) → s.gathered.room.items ≡ [] → Stands s bytes written → written
+pub all_written : (s : SlicedSound) (bytes written : List ℕ) → s.gathered.room.items ≡ [] → Stands s bytes written
+    → written
     ≡ sliced s.slicing (samples_of bytes)
 all_written s bytes written settled stands =
     sym (append-nil written) ∙ ap (λ (l : List ℕ). written ++ l) (sym settled) ∙ stands.slices.are
-    ∙ ap (sliced s.slicing) (sym (ap samples_of stands.are ∙ half_is_none s.samples stands.whole s.half stands.slices.count))
+    ∙ ap (sliced s.slicing)
+    (sym (ap samples_of stands.are ∙ half_is_none s.samples stands.whole s.half stands.slices.count))
 
 -- what is gathered was not taken
 pub gathered_stop : (s : SlicedSound) (bytes written : List ℕ) (old new : Option (List ℕ)) → Stands s bytes written
-    → AppendsFront old new s.gathered.room.items → Stops (along_samples s.slicing) stops.WriteFault old new bytes written
+    → AppendsFront old new s.gathered.room.items → Stops (along_samples s.slicing) stops.WriteFault old new bytes
+    written
 gathered_stop s bytes written old new stands f =
     subst (λ (b : List ℕ). Stops (along_samples s.slicing) stops.WriteFault old new b written) (sym stands.are)
     (gathered_part s stands.whole written (option_to_list s.half) old new stands.slices f)
@@ -224,7 +251,8 @@ gathered_stop s bytes written old new stands f =
 -- ---- bytes that are given to the slicer
 
 -- the ticks of all samples within the limit are few
-pub ticks_fit : (fineness samples tick other length : ℕ) → tick ≡ fineness * samples → other ≡ fineness → fineness ≤ 64 → samples ≤ MAX_SAMPLES
+pub ticks_fit : (fineness samples tick other length : ℕ) → tick ≡ fineness * samples → other ≡ fineness → fineness ≤ 64
+    → samples ≤ MAX_SAMPLES
     → length ≤ 2 * MAX_SAMPLES → tick + other * length ≤ 2 ^ 62
 ticks_fit fineness samples tick other length is same fine within short =
     let before : fineness * samples ≤ 64 * 1_000_000_000 = mul-le-mul fine within in
@@ -237,13 +265,16 @@ pub grows : (s next : SlicedSound) (bytes : List ℕ) (count k : ℕ) (pace : Pa
     → 2 * s.samples + length bytes ≤ 2 * MAX_SAMPLES → count ≤ length bytes → count ≡ 2 * k
     → next.samples ≡ s.samples + count / 2 → next.slicing ≡ s.slicing
     → pcm.settings_of s.slicer ≡ settings_for s.slicing → pace ≡ pace_for s.slicing
-    → ((samples : List ℤ) → pcm.StandsFor s.slicer samples → pcm.StandsFor next.slicer (samples ++ samples_of (take count bytes)))
-    → ((samples : List ℤ) → pcm.StandsFor s.slicer samples → intervals_at pace (pcm.settings_of s.slicer) (samples ++ samples_of (take count bytes))
+    → ((samples : List ℤ) → pcm.StandsFor s.slicer samples
+    → pcm.StandsFor next.slicer (samples ++ samples_of (take count bytes)))
+    → ((samples : List ℤ) → pcm.StandsFor s.slicer samples
+    → intervals_at pace (pcm.settings_of s.slicer) (samples ++ samples_of (take count bytes))
     ≡ intervals_at pace (pcm.settings_of s.slicer) samples ++ intervals_in brought)
     → Grows s next (take count bytes) brought
 grows s next bytes count k pace brought few within whole counted same_slicing same_settings same_pace stands brings =
     let long : length (take count bytes) ≡ count = length-take-le count bytes within in
-    let by_words : (xs : List ℤ) → intervals_at pace (pcm.settings_of s.slicer) xs ≡ intervals_at (pace_for s.slicing) (settings_for s.slicing) xs =
+    let by_words : (xs : List ℤ) → intervals_at pace (pcm.settings_of s.slicer) xs ≡ intervals_at (pace_for s.slicing)
+    (settings_for s.slicing) xs =
     λ xs. ap₂ (λ (p : Pace) (how : Settings). intervals_at p how xs) same_pace same_settings in
     record {
       count = omega (arith, long, whole, counted);
@@ -270,47 +301,58 @@ pub still_going : (s next : SlicedSound) (length count k : ℕ) → IsGoing s
     → pcm.tick_of next.slicer ≡ pcm.tick_of s.slicer + (pcm.settings_of s.slicer).fineness * k → IsGoing next
 still_going s next length count k going few within whole counted same_slicing same_settings later =
     let half : count / 2 ≡ k = omega (arith, whole) in
-    let fine : (pcm.settings_of s.slicer).fineness ≡ s.slicing.fineness = ap (λ (how : Settings). how.fineness) going.settings in
+    let fine : (pcm.settings_of s.slicer).fineness ≡ s.slicing.fineness =
+    ap (λ (how : Settings). how.fineness) going.settings in
     record {
       within = omega (arith, half, whole, counted, within, few);
       fine = rw same_slicing going.fine;
       settings = same_settings ∙ going.settings ∙ ap settings_for (sym same_slicing);
-      tick = later ∙ ap (λ (n : ℕ). pcm.tick_of s.slicer + n * k) fine ∙ ap (λ (n : ℕ). n + s.slicing.fineness * k) going.tick
-          ∙ sym (mul-add s.slicing.fineness s.samples k) ∙ ap₂ (λ (f n : ℕ). f * n) (ap (λ (w : words.Slices). w.fineness) (sym same_slicing))
+      tick = later ∙ ap (λ (n : ℕ). pcm.tick_of s.slicer + n * k) fine
+          ∙ ap (λ (n : ℕ). n + s.slicing.fineness * k) going.tick
+          ∙ sym (mul-add s.slicing.fineness s.samples k)
+          ∙ ap₂ (λ (f n : ℕ). f * n) (ap (λ (w : words.Slices). w.fineness) (sym same_slicing))
           (ap (λ (n : ℕ). s.samples + n) (sym half) ∙ sym counted);
     }
 
 -- ---- bytes of which as many are taken as may still come
 
-pub within_few : (samples : ℕ) (bytes inner : List ℕ) → samples ≤ MAX_SAMPLES → inner ≡ take (2 * (MAX_SAMPLES - samples)) bytes
+pub within_few : (samples : ℕ) (bytes inner : List ℕ) → samples ≤ MAX_SAMPLES
+    → inner ≡ take (2 * (MAX_SAMPLES - samples)) bytes
     → 2 * samples + length inner ≤ 2 * MAX_SAMPLES
-within_few samples bytes inner within is = omega (arith, within, ap length is, length-take (2 * (MAX_SAMPLES - samples)) bytes)
+within_few samples bytes inner within is =
+    omega (arith, within, ap length is, length-take (2 * (MAX_SAMPLES - samples)) bytes)
 
 -- a sample may
-pub within_some : (samples : ℕ) (bytes inner : List ℕ) → samples < MAX_SAMPLES → 2 ≤ length bytes → inner ≡ take (2 * (MAX_SAMPLES - samples)) bytes
+pub within_some : (samples : ℕ) (bytes inner : List ℕ) → samples < MAX_SAMPLES → 2 ≤ length bytes
+    → inner ≡ take (2 * (MAX_SAMPLES - samples)) bytes
     → 2 ≤ length inner
-within_some samples bytes inner more some is = omega (arith, more, some, ap length is, length-take (2 * (MAX_SAMPLES - samples)) bytes)
+within_some samples bytes inner more some is =
+    omega (arith, more, some, ap length is, length-take (2 * (MAX_SAMPLES - samples)) bytes)
 
 -- what is taken of them is taken of all
-pub same_front : (n count : ℕ) (bytes inner : List ℕ) → inner ≡ take n bytes → count ≤ length inner → take count inner ≡ take count bytes
+pub same_front : (n count : ℕ) (bytes inner : List ℕ) → inner ≡ take n bytes → count ≤ length inner
+    → take count inner ≡ take count bytes
 same_front n count bytes inner is within =
     ap (take count) is ∙ take-take count n bytes (omega (arith, within, ap length is, length-take n bytes))
 
 -- ---- a byte that begins or ends a sample
 
-pub any_half : (s : SlicedSound) (half : Option ℕ) (whole written : List ℕ) → Slices s whole written → Slices (record s { half = half }) whole written
+pub any_half : (s : SlicedSound) (half : Option ℕ) (whole written : List ℕ) → Slices s whole written
+    → Slices (record s { half = half }) whole written
 any_half s half whole written slices =
     record { within = slices.within; count = slices.count; slicer = slices.slicer; are = slices.are }
 
 -- all bytes behind half a sample
-pub half_first : (front whole bytes : List ℕ) (half : Option ℕ) (low : ℕ) → front ≡ whole ++ option_to_list half → half ≡ Some low → 0 < length bytes
+pub half_first : (front whole bytes : List ℕ) (half : Option ℕ) (low : ℕ) → front ≡ whole ++ option_to_list half
+    → half ≡ Some low → 0 < length bytes
     → front ++ bytes ≡ whole ++ ((low ∷ get_or bytes 0 0 ∷ []) ++ drop 1 bytes)
 half_first front whole bytes half low are is some =
     ap (λ (l : List ℕ). l ++ bytes) (are ∙ ap (λ (h : Option ℕ). whole ++ option_to_list h) is)
     ∙ append_assoc whole (low ∷ []) bytes ∙ ap (λ (l : List ℕ). whole ++ (low ∷ l)) (sym (first_and_rest bytes some))
 
 -- the one that completes it
-pub half_then : (front whole bytes : List ℕ) (half : Option ℕ) (low : ℕ) → front ≡ whole ++ option_to_list half → half ≡ Some low → 0 < length bytes
+pub half_then : (front whole bytes : List ℕ) (half : Option ℕ) (low : ℕ) → front ≡ whole ++ option_to_list half
+    → half ≡ Some low → 0 < length bytes
     → front ++ take 1 bytes ≡ (whole ++ (low ∷ get_or bytes 0 0 ∷ [])) ++ []
 half_then front whole bytes half low are is some =
     let high = get_or bytes 0 0 in
@@ -319,20 +361,24 @@ half_then front whole bytes half low are is some =
     ∙ append_assoc whole (low ∷ []) (high ∷ []) ∙ sym (append-nil (whole ++ (low ∷ high ∷ [])))
 
 -- no half stands before them
-pub no_half : (front whole : List ℕ) (half : Option ℕ) → front ≡ whole ++ option_to_list half → half ≡ None → front ≡ whole
+pub no_half : (front whole : List ℕ) (half : Option ℕ) → front ≡ whole ++ option_to_list half → half ≡ None
+    → front ≡ whole
 no_half front whole half are is = are ∙ ap (λ (h : Option ℕ). whole ++ option_to_list h) is ∙ append-nil whole
 
 -- a fact of an error that follows from another
-pub err_to : {T : Type 0} {P Q : Stop → Type 0} (result : Result T Stop) → IfErr result P → ((stop : Stop) → P stop → Q stop) → IfErr result Q
+pub err_to : {T : Type 0} {P Q : Stop → Type 0} (result : Result T Stop) → IfErr result P
+    → ((stop : Stop) → P stop → Q stop) → IfErr result Q
 err_to (Ok done) says to = tt
 err_to (Err stop) says to = to stop says
 
 -- and one of what is right
-pub ok_to : {T : Type 0} {P Q : T → Type 0} (result : Result T Stop) → IfOk result P → ((value : T) → P value → Q value) → IfOk result Q
+pub ok_to : {T : Type 0} {P Q : T → Type 0} (result : Result T Stop) → IfOk result P → ((value : T) → P value → Q value)
+    → IfOk result Q
 ok_to (Ok value) says to = to value says
 ok_to (Err stop) says to = tt
 
-pub ok_both : {T : Type 0} (P Q : T → Type 0) (result : Result T Stop) → IfOk result P → IfOk result Q → IfOk result (λ value. P value × Q value)
+pub ok_both : {T : Type 0} (P Q : T → Type 0) (result : Result T Stop) → IfOk result P → IfOk result Q
+    → IfOk result (λ value. P value × Q value)
 ok_both P Q (Ok value) p q = (p, q)
 ok_both P Q (Err stop) p q = tt
 

@@ -1,5 +1,7 @@
--- A file of a track grows by the intervals of the samples that more bytes bring; what stops the reading leaves the file of the samples before it.
-use Rattle.std.proofs.Common.{◌≡◌, ℕ, ◌+◌, ◌-◌, ◌*◌, ◌^◌, ◌≤◌, ◌<◌, ℤ, List, [], ◌∷◌, ◌++◌, Option, Some, None, length, take, drop, inl, refl, sym, ◌∙◌, ap, ap₂}
+-- A file of a track grows by the intervals of the samples that more bytes bring; what stops the reading leaves the
+-- file of the samples before it.
+use Rattle.std.proofs.Common.{◌≡◌, ℕ, ◌+◌, ◌-◌, ◌*◌, ◌^◌, ◌≤◌, ◌<◌, ℤ, List, [], ◌∷◌, ◌++◌, Option, Some, None, length}
+use Rattle.std.proofs.Common.{take, drop, inl, refl, sym, ◌∙◌, ap, ap₂}
 use Rattle.std.proofs.Common.{subst, append_assoc, append-nil, arith}
 use Rattle.std.specs.Io.KnownBytes.{Appends}
 use Rattle.std.specs.Option.{option_map}
@@ -49,12 +51,14 @@ Reads = (asked : Asked) (bytes : List ℕ) → IsWithin asked (reading_of asked 
 
 -- ---- the samples that were read
 
-pub none_yet : Reads → (asked : Asked) (bytes : List ℕ) (format : Option WaveFormat) (samples : List ℤ) (v : Verdict WaveFault)
+pub none_yet : Reads → (asked : Asked) (bytes : List ℕ) (format : Option WaveFormat) (samples : List ℤ)
+    (v : Verdict WaveFault)
     → IsTold (reading_of asked bytes) format samples v → format ≡ None → samples ≡ []
 none_yet reads track bytes format samples v told none =
     sym told.samples_are ∙ (reads track bytes).none (told.format_is ∙ none)
 
-pub few_samples : Reads → (asked : Asked) (bytes : List ℕ) (format : Option WaveFormat) (samples : List ℤ) (v : Verdict WaveFault)
+pub few_samples : Reads → (asked : Asked) (bytes : List ℕ) (format : Option WaveFormat) (samples : List ℤ)
+    (v : Verdict WaveFault)
     → IsTold (reading_of asked bytes) format samples v → length samples ≤ asked.most_samples
 few_samples reads track bytes format samples v told =
     let few = (reads track bytes).few in
@@ -67,15 +71,18 @@ nothing_more [] due e = sym e
 nothing_more (x ∷ xs) due e = nothing_more xs due (ap (drop 1) e)
 
 -- a file grows by what is due
-longer_file : (w : SlicesWave) (format : Option WaveFormat) (samples more : List ℤ) (due : List ℕ) → (format ≡ None → samples ++ more ≡ [])
-    → AreDue (pace_in w format) (track_settings w) samples more due → track_file w format (samples ++ more) ≡ track_file w format samples ++ due
+longer_file : (w : SlicesWave) (format : Option WaveFormat) (samples more : List ℤ) (due : List ℕ)
+    → (format ≡ None → samples ++ more ≡ [])
+    → AreDue (pace_in w format) (track_settings w) samples more due → track_file w format (samples ++ more) ≡ track_file
+    w format samples ++ due
 longer_file w (Some format) samples more due none are = file_with w format samples more due are
 longer_file w None (x ∷ samples) more due none are = let e = none refl in absurd cc
 longer_file w None [] (x ∷ more) due none are = let e = none refl in absurd cc
 longer_file w None [] [] due none are = sym (nothing_more (spelled Ended (track_settings w) []) due are)
 
 -- what was written and what is gathered are the file of the bytes
-file_is : (s : SlicedTrack) (front written : List ℕ) → Stands s front written → written ++ s.gathered.room.items ≡ track_of s.slicing front
+file_is : (s : SlicedTrack) (front written : List ℕ) → Stands s front written
+    → written ++ s.gathered.room.items ≡ track_of s.slicing front
 file_is s front written stands =
     let told = stands.told in stands.are ∙ ap₂ (track_file s.slicing) (sym told.format_is) (sym told.samples_are)
 
@@ -86,7 +93,8 @@ pub record Decodes (s next : SlicedTrack) (bytes : List ℕ) (samples : List ℤ
   pub slicing : next.slicing ≡ s.slicing
   pub track : next.decoder.asked ≡ s.decoder.asked
   pub within : bytes_taken next.decoder ≤ MAX_BYTES
-  pub stands : (front : List ℕ) (before : List ℤ) → StandsFor s.decoder front before → StandsFor next.decoder (front ++ bytes) (before ++ samples)
+  pub stands : (front : List ℕ) (before : List ℤ) → StandsFor s.decoder front before
+      → StandsFor next.decoder (front ++ bytes) (before ++ samples)
   pub told : (all : List ℕ) (given : List ℤ) → StandsFor next.decoder all given
       → IsTold (reading_of next.decoder.asked all) (format_in_decoding next.decoder) given good
 
@@ -105,7 +113,8 @@ decodes_more s next bytes samples told slicing track stands within is tells = re
   within = within;
   stands = stands;
   told = λ all given at.
-      subst (λ (f : Option WaveFormat). IsTold (reading_of next.decoder.asked all) f given good) is (tells all given at);
+      subst (λ (f : Option WaveFormat). IsTold (reading_of next.decoder.asked all) f given good) is
+      (tells all given at);
 }
 
 -- and the slicer of the samples in them
@@ -113,20 +122,25 @@ pub record Slices (s next : SlicedTrack) (samples : List ℤ) : Type 0 where
   pub settings : settings_of next.slicer ≡ settings_of s.slicer
   pub stands : (before : List ℤ) → pcm.StandsFor s.slicer before → pcm.StandsFor next.slicer (before ++ samples)
 
-same_track : (s next : SlicedTrack) (front written bytes : List ℕ) (samples : List ℤ) → Stands s front written → Decodes s next bytes samples
+same_track : (s next : SlicedTrack) (front written bytes : List ℕ) (samples : List ℤ) → Stands s front written
+    → Decodes s next bytes samples
     → next.decoder.asked ≡ asked_by s.slicing
 same_track s next front written bytes samples stands decodes = decodes.track ∙ stands.track
 
-pub told_on : (s next : SlicedTrack) (front written bytes : List ℕ) (samples : List ℤ) (stands : Stands s front written) → Decodes s next bytes samples
-    → IsTold (reading_of (asked_by s.slicing) (front ++ bytes)) (format_in_decoding next.decoder) (stands.samples ++ samples) good
+pub told_on : (s next : SlicedTrack) (front written bytes : List ℕ) (samples : List ℤ) (stands : Stands s front written)
+    → Decodes s next bytes samples
+    → IsTold (reading_of (asked_by s.slicing) (front ++ bytes)) (format_in_decoding next.decoder)
+    (stands.samples ++ samples) good
 told_on s next front written bytes samples stands decodes =
-    subst (λ (t : Asked). IsTold (reading_of t (front ++ bytes)) (format_in_decoding next.decoder) (stands.samples ++ samples) good)
+    subst (λ (t : Asked). IsTold (reading_of t (front ++ bytes)) (format_in_decoding next.decoder)
+    (stands.samples ++ samples) good)
     (same_track s next front written bytes samples stands decodes)
     (decodes.told (front ++ bytes) (stands.samples ++ samples) (decodes.stands front stands.samples stands.decoder))
 
 moved : (s next : SlicedTrack) (front written bytes more : List ℕ) (samples : List ℤ) (stands : Stands s front written)
     → Decodes s next bytes samples → Slices s next samples
-    → (written ++ more) ++ next.gathered.room.items ≡ track_file s.slicing (format_in_decoding next.decoder) (stands.samples ++ samples)
+    → (written ++ more) ++ next.gathered.room.items ≡ track_file s.slicing (format_in_decoding next.decoder)
+    (stands.samples ++ samples)
     → Stands next (front ++ bytes) (written ++ more)
 moved s next front written bytes more samples stands decodes slices are =
     let same = decodes.slicing in
@@ -137,31 +151,41 @@ moved s next front written bytes more samples stands decodes slices are =
       track = same_track s next front written bytes samples stands decodes ∙ ap asked_by (sym same);
       within = decodes.within;
       decoder = decodes.stands front stands.samples stands.decoder;
-      told = subst (λ (w : SlicesWave). IsTold (reading_of (asked_by w) (front ++ bytes)) (format_in_decoding next.decoder) (stands.samples ++ samples) good)
+      told = subst (λ (w : SlicesWave). IsTold (reading_of (asked_by w) (front ++ bytes))
+          (format_in_decoding next.decoder) (stands.samples ++ samples) good)
           (sym same) told;
       slicer = slices.stands stands.samples stands.slicer;
-      are = are ∙ ap (λ (w : SlicesWave). track_file w (format_in_decoding next.decoder) (stands.samples ++ samples)) (sym same);
+      are = are ∙ ap (λ (w : SlicesWave). track_file w (format_in_decoding next.decoder) (stands.samples ++ samples))
+          (sym same);
     }
 
 -- the file with the samples in them
-grown_file : Reads → (s next : SlicedTrack) (front written bytes due : List ℕ) (samples : List ℤ) (stands : Stands s front written)
+grown_file : Reads → (s next : SlicedTrack) (front written bytes due : List ℕ) (samples : List ℤ)
+    (stands : Stands s front written)
     → Decodes s next bytes samples → format_in_decoding next.decoder ≡ format_in_decoding s.decoder
-    → (pace : Pace) → pace ≡ pace_in s.slicing (format_in_decoding next.decoder) → AreDue pace (settings_of s.slicer) stands.samples samples due
-    → written ++ (s.gathered.room.items ++ due) ≡ track_file s.slicing (format_in_decoding next.decoder) (stands.samples ++ samples)
+    → (pace : Pace) → pace ≡ pace_in s.slicing (format_in_decoding next.decoder)
+    → AreDue pace (settings_of s.slicer) stands.samples samples due
+    → written ++ (s.gathered.room.items ++ due) ≡ track_file s.slicing (format_in_decoding next.decoder)
+    (stands.samples ++ samples)
 grown_file reads s next front written bytes due samples stands decodes same pace pace_is are =
     let told = told_on s next front written bytes samples stands decodes in
-    let none = none_yet reads (asked_by s.slicing) (front ++ bytes) (format_in_decoding next.decoder) (stands.samples ++ samples) good told in
+    let none = none_yet reads (asked_by s.slicing) (front ++ bytes) (format_in_decoding next.decoder)
+    (stands.samples ++ samples) good told in
     let by_pace = subst (λ (p : Pace). AreDue p (settings_of s.slicer) stands.samples samples due) pace_is are in
-    let by_words = subst (λ (x : Settings). AreDue (pace_in s.slicing (format_in_decoding next.decoder)) x stands.samples samples due) stands.settings by_pace in
+    let by_words = subst (λ (x : Settings). AreDue (pace_in s.slicing (format_in_decoding next.decoder)) x
+    stands.samples samples due) stands.settings by_pace in
     sym (append_assoc written s.gathered.room.items due)
-    ∙ ap (λ (l : List ℕ). l ++ due) (stands.are ∙ ap (λ (f : Option WaveFormat). track_file s.slicing f stands.samples) (sym same))
+    ∙ ap (λ (l : List ℕ). l ++ due) (stands.are ∙ ap (λ (f : Option WaveFormat). track_file s.slicing f stands.samples)
+    (sym same))
     ∙ sym (longer_file s.slicing (format_in_decoding next.decoder) stands.samples samples due none by_words)
 
 -- samples were taken, and what they bring was pushed or is gathered
-pub sliced_on : Reads → (s next : SlicedTrack) (front written bytes due : List ℕ) (samples : List ℤ) (old new : Option (List ℕ))
+pub sliced_on : Reads → (s next : SlicedTrack) (front written bytes due : List ℕ) (samples : List ℤ)
+    (old new : Option (List ℕ))
     (stands : Stands s front written) → Decodes s next bytes samples → Slices s next samples
     → format_in_decoding next.decoder ≡ format_in_decoding s.decoder
-    → (pace : Pace) → pace ≡ pace_in s.slicing (format_in_decoding next.decoder) → AreDue pace (settings_of s.slicer) stands.samples samples due
+    → (pace : Pace) → pace ≡ pace_in s.slicing (format_in_decoding next.decoder)
+    → AreDue pace (settings_of s.slicer) stands.samples samples due
     → IsPut old new s.gathered.room.items due next.gathered.room.items
     → (more : List ℕ) × Appends old new more × Stands next (front ++ bytes) (written ++ more)
 sliced_on reads s next front written bytes due samples old new stands decodes slices same pace pace_is are put = (
@@ -179,8 +203,10 @@ same_slicer s next same = record {
 }
 
 -- bytes without a sample
-pub passed_on : (s next : SlicedTrack) (front written bytes : List ℕ) (old : Option (List ℕ)) → Stands s front written → Decodes s next bytes []
-    → next.slicer ≡ s.slicer → next.gathered.room.items ≡ s.gathered.room.items → format_in_decoding next.decoder ≡ format_in_decoding s.decoder
+pub passed_on : (s next : SlicedTrack) (front written bytes : List ℕ) (old : Option (List ℕ)) → Stands s front written
+    → Decodes s next bytes []
+    → next.slicer ≡ s.slicer → next.gathered.room.items ≡ s.gathered.room.items
+    → format_in_decoding next.decoder ≡ format_in_decoding s.decoder
     → (more : List ℕ) × Appends old old more × Stands next (front ++ bytes) (written ++ more)
 passed_on s next front written bytes old stands decodes slicer room same = (
   [],
@@ -191,32 +217,41 @@ passed_on s next front written bytes old stands decodes slicer room same = (
 )
 
 -- the data begin
-pub begun : Reads → (s next : SlicedTrack) (front written bytes : List ℕ) (format : WaveFormat) (old new : Option (List ℕ)) → Stands s front written
-    → Decodes s next bytes [] → next.slicer ≡ s.slicer → format_in_decoding s.decoder ≡ None → format_in_decoding next.decoder ≡ Some format
+pub begun : Reads → (s next : SlicedTrack) (front written bytes : List ℕ) (format : WaveFormat)
+    (old new : Option (List ℕ)) → Stands s front written
+    → Decodes s next bytes [] → next.slicer ≡ s.slicer → format_in_decoding s.decoder ≡ None
+    → format_in_decoding next.decoder ≡ Some format
     → IsPut old new s.gathered.room.items (header_bytes (track_header s.slicing format)) next.gathered.room.items
     → (more : List ℕ) × Appends old new more × Stands next (front ++ bytes) (written ++ more)
 begun reads s next front written bytes format old new stands decodes slicer before now put =
-    let none = none_yet reads (asked_by s.slicing) front (format_in_decoding s.decoder) stands.samples good stands.told before in
+    let none = none_yet reads (asked_by s.slicing) front (format_in_decoding s.decoder) stands.samples good stands.told
+    before in
     let header = header_bytes (track_header s.slicing format) in
-    let empty : written ++ s.gathered.room.items ≡ [] = stands.are ∙ ap (λ (f : Option WaveFormat). track_file s.slicing f stands.samples) before in
+    let empty : written ++ s.gathered.room.items ≡ [] = stands.are
+    ∙ ap (λ (f : Option WaveFormat). track_file s.slicing f stands.samples) before in
     let file : track_file s.slicing (format_in_decoding next.decoder) (stands.samples ++ []) ≡ header =
     ap₂ (λ (f : Option WaveFormat) (l : List ℤ). track_file s.slicing f (l ++ [])) now none
-    ∙ ap (λ (l : List ℕ). file_of (track_header s.slicing format) l) (none_begun (track_pace s.slicing format)) ∙ append-nil header in (
+    ∙ ap (λ (l : List ℕ). file_of (track_header s.slicing format) l) (none_begun (track_pace s.slicing format))
+    ∙ append-nil header in (
       put.0,
       put.1,
       moved s next front written bytes put.0 [] stands decodes (same_slicer s next slicer)
           (append_assoc written put.0 next.gathered.room.items ∙ ap (λ (l : List ℕ). written ++ l) (sym put.2)
-          ∙ sym (append_assoc written s.gathered.room.items header) ∙ ap (λ (l : List ℕ). l ++ header) empty ∙ sym file),
+          ∙ sym (append_assoc written s.gathered.room.items header) ∙ ap (λ (l : List ℕ). l ++ header) empty
+          ∙ sym file),
     )
 
 -- ---- what stops it
 
 -- a push failed: a front of what is due stands
-pub slice_stop : Reads → (s next : SlicedTrack) (front written bytes due : List ℕ) (count : ℕ) (samples : List ℤ) (old new : Option (List ℕ))
+pub slice_stop : Reads → (s next : SlicedTrack) (front written bytes due : List ℕ) (count : ℕ) (samples : List ℤ)
+    (old new : Option (List ℕ))
     (stands : Stands s front written) → Decodes s next (take count bytes) samples
     → format_in_decoding next.decoder ≡ format_in_decoding s.decoder
-    → (pace : Pace) → pace ≡ pace_in s.slicing (format_in_decoding next.decoder) → AreDue pace (settings_of s.slicer) stands.samples samples due
-    → AppendsFront old new (s.gathered.room.items ++ due) → Stops (along_sound_file s.slicing) stops.WriteFault old new (front ++ bytes) written
+    → (pace : Pace) → pace ≡ pace_in s.slicing (format_in_decoding next.decoder)
+    → AreDue pace (settings_of s.slicer) stands.samples samples due
+    → AppendsFront old new (s.gathered.room.items ++ due) → Stops (along_sound_file s.slicing) stops.WriteFault old new
+    (front ++ bytes) written
 slice_stop reads s next front written bytes due count samples old new stands decodes same pace pace_is are f =
     let first = front ++ take count bytes in
     let told = told_on s next front written (take count bytes) samples stands decodes in (
@@ -227,7 +262,8 @@ slice_stop reads s next front written bytes due count samples old new stands dec
         written ++ (s.gathered.room.items ++ due),
         (
           drop count bytes,
-          ap (λ (l : List ℕ). front ++ l) (sym (take-append-drop count bytes)) ∙ sym (append_assoc front (take count bytes) (drop count bytes)),
+          ap (λ (l : List ℕ). front ++ l) (sym (take-append-drop count bytes))
+              ∙ sym (append_assoc front (take count bytes) (drop count bytes)),
         ),
         grown_file reads s next front written (take count bytes) due samples stands decodes same pace pace_is are
             ∙ ap₂ (track_file s.slicing) (sym told.format_is) (sym told.samples_are),
@@ -236,8 +272,10 @@ slice_stop reads s next front written bytes due count samples old new stands dec
     )
 
 -- what is gathered was not taken
-pub gathered_stop : (s : SlicedTrack) (front written bytes : List ℕ) (old new : Option (List ℕ)) → Stands s front written
-    → AppendsFront old new s.gathered.room.items → Stops (along_sound_file s.slicing) stops.WriteFault old new (front ++ bytes) written
+pub gathered_stop : (s : SlicedTrack) (front written bytes : List ℕ) (old new : Option (List ℕ))
+    → Stands s front written
+    → AppendsFront old new s.gathered.room.items → Stops (along_sound_file s.slicing) stops.WriteFault old new
+    (front ++ bytes) written
 gathered_stop s front written bytes old new stands f = (
   f.0,
   f.2,
@@ -252,18 +290,21 @@ gathered_stop s front written bytes old new stands f = (
 
 -- the same at the end of what was pulled
 pub flush_stop : (s : SlicedTrack) (front written : List ℕ) (old new : Option (List ℕ)) → Stands s front written
-    → AppendsFront old new s.gathered.room.items → Stops (along_sound_file s.slicing) stops.WriteFault old new front written
+    → AppendsFront old new s.gathered.room.items → Stops (along_sound_file s.slicing) stops.WriteFault old new front
+    written
 flush_stop s front written old new stands f =
     subst (λ (l : List ℕ). Stops (along_sound_file s.slicing) stops.WriteFault old new l written) (append-nil front)
     (gathered_stop s front written [] old new stands f)
 
 -- what is told of bytes that end the reading
 told_stop : (s : SlicedTrack) (front written all : List ℕ) (v : Verdict WaveFault) (stands : Stands s front written)
-    → ((more : List ℕ) → IsTold (reading_of s.decoder.asked (all ++ more)) (format_in_decoding s.decoder) stands.samples v)
+    → ((more : List ℕ) → IsTold (reading_of s.decoder.asked (all ++ more)) (format_in_decoding s.decoder) stands.samples
+    v)
     → IsTold (reading_of (asked_by s.slicing) all) (format_in_decoding s.decoder) stands.samples v
 told_stop s front written all v stands told =
     subst (λ (t : Asked). IsTold (reading_of t all) (format_in_decoding s.decoder) stands.samples v) stands.track
-    (subst (λ (l : List ℕ). IsTold (reading_of s.decoder.asked l) (format_in_decoding s.decoder) stands.samples v) (append-nil all) (told []))
+    (subst (λ (l : List ℕ). IsTold (reading_of s.decoder.asked l) (format_in_decoding s.decoder) stands.samples v)
+    (append-nil all) (told []))
 
 pub fault_stop : (s : SlicedTrack) (front written bytes : List ℕ) (f : WaveFault) (stop : Stop)
     (old new : Option (List ℕ))
@@ -272,7 +313,8 @@ pub fault_stop : (s : SlicedTrack) (front written bytes : List ℕ) (f : WaveFau
     → Stops (along_sound_file s.slicing) stop old new (front ++ bytes) written
 fault_stop s front written bytes f stop old new stands at behind =
     let told = told_stop s front written (front ++ bytes) (refused f) stands at in
-    of_both (λ (x : Stop). Stops (along_sound_file s.slicing) x old new (front ++ bytes) written) (stops.Refused (Sound f)) stop
+    of_both (λ (x : Stop). Stops (along_sound_file s.slicing) x old new (front ++ bytes) written)
+    (stops.Refused (Sound f)) stop
     old new s.gathered.room.items behind
     (λ pushed. (
       s.gathered.room.items,
@@ -305,29 +347,34 @@ limit_stop s front written bytes stop old new stands at behind =
 -- ---- the room that the slicer needs
 
 -- each sample that was sliced has its ticks
-tick_is : (slicer : Slicer) (samples : List ℤ) → pcm.StandsFor slicer samples → tick_of slicer ≡ (settings_of slicer).fineness * length samples
+tick_is : (slicer : Slicer) (samples : List ℤ) → pcm.StandsFor slicer samples
+    → tick_of slicer ≡ (settings_of slicer).fineness * length samples
 tick_is slicer samples stands =
     let finds = stands.finds in
     finds.tick ∙ ap (λ (n : ℕ). slicer.finder.fineness * n) (length-map-range_with_len _ 0 (length samples))
 
 -- the ticks of all samples within the limit are few
-pub ticks_fit : Reads → (s next : SlicedTrack) (bytes : List ℕ) (samples : List ℤ) → IsGoing s → Decodes s next bytes samples
+pub ticks_fit : Reads → (s next : SlicedTrack) (bytes : List ℕ) (samples : List ℤ) → IsGoing s
+    → Decodes s next bytes samples
     → tick_of s.slicer + (settings_of s.slicer).fineness * length samples ≤ 2 ^ 62
 ticks_fit reads s next bytes samples going decodes =
     let stands = going.stands in
     let told = told_on s next going.bytes going.written bytes samples stands decodes in
-    let few = few_samples reads (asked_by s.slicing) (going.bytes ++ bytes) (format_in_decoding next.decoder) (stands.samples ++ samples) good told in
+    let few = few_samples reads (asked_by s.slicing) (going.bytes ++ bytes) (format_in_decoding next.decoder)
+    (stands.samples ++ samples) good told in
     let all = length-append stands.samples samples in
     let fineness : (settings_of s.slicer).fineness ≡ 16 = ap (λ (x : Settings). x.fineness) stands.settings in
     let tick : tick_of s.slicer ≡ 16 * length stands.samples =
     tick_is s.slicer stands.samples stands.slicer ∙ ap (λ (n : ℕ). n * length stands.samples) fineness in
-    let more : (settings_of s.slicer).fineness * length samples ≡ 16 * length samples = ap (λ (n : ℕ). n * length samples) fineness in
+    let more : (settings_of s.slicer).fineness * length samples ≡ 16 * length samples =
+    ap (λ (n : ℕ). n * length samples) fineness in
     omega (arith, few, all, tick, more)
 
 -- ---- what is gathered, and the end
 
 -- some of what is gathered was pushed
-pub pushed_on : (s : SlicedTrack) (left : Gathered) (front written more : List ℕ) → more ++ left.room.items ≡ s.gathered.room.items
+pub pushed_on : (s : SlicedTrack) (left : Gathered) (front written more : List ℕ)
+    → more ++ left.room.items ≡ s.gathered.room.items
     → Stands s front written → Stands (record s { gathered = left }) front (written ++ more)
 pushed_on s left front written more all stands = record {
   samples = stands.samples;
@@ -341,7 +388,8 @@ pushed_on s left front written more all stands = record {
 }
 
 -- the fault of the end, in the terms of every command
-pub end_is : (s : SlicedTrack) (front written : List ℕ) (end : Option WaveFault) → Stands s front written → end_fault_of s.decoder.asked front ≡ end
+pub end_is : (s : SlicedTrack) (front written : List ℕ) (end : Option WaveFault) → Stands s front written
+    → end_fault_of s.decoder.asked front ≡ end
     → (along_sound_file s.slicing).end_fault front ≡ option_map Sound end
 end_is s front written end stands is =
     ap (option_map Sound) (subst (λ (t : Asked). end_fault_of t front ≡ end) stands.track is)
@@ -349,12 +397,14 @@ end_is s front written end stands is =
 -- ---- the way of the engine
 
 -- what was worked on leaves it going
-pub going_on : (s next : SlicedTrack) (old new : Option (List ℕ)) (bytes : List ℕ) → IsGoing s → Works (Stands s) (Stands next) old new bytes → IsGoing next
+pub going_on : (s next : SlicedTrack) (old new : Option (List ℕ)) (bytes : List ℕ) → IsGoing s
+    → Works (Stands s) (Stands next) old new bytes → IsGoing next
 going_on s next old new bytes going works =
     let work = works going.bytes going.written going.stands in
     record { bytes = going.bytes ++ bytes; written = going.written ++ work.0; stands = work.2 }
 
-pub falls : (s next : SlicedTrack) (before count : ℕ) → IsGoing next → bytes_taken next.decoder ≡ before + count → before ≡ bytes_taken s.decoder → 1 ≤ count
+pub falls : (s next : SlicedTrack) (before count : ℕ) → IsGoing next → bytes_taken next.decoder ≡ before + count
+    → before ≡ bytes_taken s.decoder → 1 ≤ count
     → MAX_BYTES - bytes_taken next.decoder < MAX_BYTES - bytes_taken s.decoder
 falls s next before count going is same some =
     let stands = going.stands in
@@ -372,20 +422,28 @@ pub ok_if : (P Q : ℕ → Type 0) (result : Result ℕ Stop) → IfOk result P 
 ok_if P Q (Ok n) p to = to n p
 ok_if P Q (Err stop) p to = tt
 
-pub err_if : (P Q : Stop → Type 0) (result : Result ℕ Stop) → IfErr result P → ((stop : Stop) → P stop → Q stop) → IfErr result Q
+pub err_if : (P Q : Stop → Type 0) (result : Result ℕ Stop) → IfErr result P → ((stop : Stop) → P stop → Q stop)
+    → IfErr result Q
 err_if P Q (Ok n) p to = tt
 err_if P Q (Err stop) p to = to stop p
 
 -- nothing of some bytes
-pub nothing_taken : (before after : List ℕ → List ℕ → Type 0) (old new : Option (List ℕ)) (count : ℕ) (bytes : List ℕ) → count ≡ 0
+pub nothing_taken : (before after : List ℕ → List ℕ → Type 0) (old new : Option (List ℕ)) (count : ℕ) (bytes : List ℕ)
+    → count ≡ 0
     → Works before after old new (take count bytes) → Works before after old new []
-nothing_taken before after old new count bytes none works = subst (λ (n : ℕ). Works before after old new (take n bytes)) none works
+nothing_taken before after old new count bytes none works = subst (λ (n : ℕ). Works before after old new (take n bytes))
+    none works
 
 -- what stops it behind nothing
-pub stop_behind : (s mid : SlicedTrack) (stop : Stop) (old between new : Option (List ℕ)) (bytes : List ℕ) → mid.slicing ≡ s.slicing
+pub stop_behind : (s mid : SlicedTrack) (stop : Stop) (old between new : Option (List ℕ)) (bytes : List ℕ)
+    → mid.slicing ≡ s.slicing
     → Works (Stands s) (Stands mid) old between []
-    → ((front written : List ℕ) → Stands mid front written → Stops (along_sound_file mid.slicing) stop between new (front ++ bytes) written)
-    → (front written : List ℕ) → Stands s front written → Stops (along_sound_file s.slicing) stop old new (front ++ bytes) written
+    → ((front written : List ℕ) → Stands mid front written → Stops (along_sound_file mid.slicing) stop between new
+    (front ++ bytes) written)
+    → (front written : List ℕ) → Stands s front written
+    → Stops (along_sound_file s.slicing) stop old new (front ++ bytes) written
 stop_behind s mid stop old between new bytes same works stops =
-    stops_on (IsStop (along_sound_file s.slicing) stop) (Stands s) (Stands mid) old between new [] bytes works (λ front written stands.
-    subst (λ (w : SlicesWave). Stops (along_sound_file w) stop between new (front ++ bytes) written) same (stops front written stands))
+    stops_on (IsStop (along_sound_file s.slicing) stop) (Stands s) (Stands mid) old between new [] bytes works
+    (λ front written stands.
+    subst (λ (w : SlicesWave). Stops (along_sound_file w) stop between new (front ++ bytes) written) same
+    (stops front written stands))

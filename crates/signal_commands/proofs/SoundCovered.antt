@@ -85,7 +85,8 @@ slices tell back s is bytes written are end output =
       tell = told;
       ended = pace_ended s.system (s.rate * s.fineness) s.live;
       passing = pace_passing s.system (s.rate * s.fineness) s.live;
-      polarity = λ over same. output ∙ ap (file_of (sliced_header s)) (sym (ap (sliced_intervals s) same ∙ told.polarity));
+      polarity = λ over same. output
+          ∙ ap (file_of (sliced_header s)) (sym (ap (sliced_intervals s) same ∙ told.polarity));
     }
 
 pub sound_is_told : TellAll → AreOfSamples → (s : Slices) → IsSlicing s → IsLawful (told_pcm_ltc s)

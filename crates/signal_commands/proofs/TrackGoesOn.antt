@@ -33,7 +33,8 @@ IntervalsComeFirst = (pace : Pace) (settings : Settings) (front more : List ℤ)
     → (rest : List ℕ) × (intervals_at pace settings (front ++ more) ≡ intervals_at pace settings front ++ rest)
 
 -- so their bytes do
-pub due_of : IntervalsComeFirst → (pace : Pace) (s : Settings) (front more : List ℤ) → IsPace pace → (due : List ℕ) × AreDue pace s front more due
+pub due_of : IntervalsComeFirst → (pace : Pace) (s : Settings) (front more : List ℤ) → IsPace pace → (due : List ℕ)
+    × AreDue pace s front more due
 due_of laws pace s front more is =
     let rest = laws pace s front more is in (
       intervals_bytes One rest.0,
@@ -46,24 +47,30 @@ pub file_with : (w : SlicesWave) (format : WaveFormat) (samples more : List ℤ)
     → track_file w (Some format) (samples ++ more) ≡ track_file w (Some format) samples ++ due
 file_with w format samples more due are =
     let header = header_bytes (track_header w format) in
-    ap (λ (l : List ℕ). header ++ l) are ∙ sym (append_assoc header (spelled (track_pace w format) (track_settings w) samples) due)
+    ap (λ (l : List ℕ). header ++ l) are
+    ∙ sym (append_assoc header (spelled (track_pace w format) (track_settings w) samples) due)
 
-file_first : IntervalsComeFirst → (w : SlicesWave) (r s : Reading) → GoesOn r s → IsFront (track_file w r.format r.samples) (track_file w s.format s.samples)
+file_first : IntervalsComeFirst → (w : SlicesWave) (r s : Reading) → GoesOn r s
+    → IsFront (track_file w r.format r.samples) (track_file w s.format s.samples)
 file_first laws w r s goes = by_format goes.format
   where
     by_same : (format : Option WaveFormat) → IsFront (track_file w format r.samples) (track_file w format s.samples)
     by_same None = ([], refl)
     by_same (Some format) =
         let more = goes.samples in
-        let due = due_of laws (track_pace w format) (track_settings w) r.samples more.0 (is_pace w.live w.system (16 * format.rate)) in
+        let due = due_of laws (track_pace w format) (track_settings w) r.samples more.0
+        (is_pace w.live w.system (16 * format.rate)) in
         (due.0, ap (track_file w (Some format)) more.1 ∙ file_with w format r.samples more.0 due.0 due.1)
 
-    by_format : (r.format ≡ None) ⊎ (s.format ≡ r.format) → IsFront (track_file w r.format r.samples) (track_file w s.format s.samples)
+    by_format : (r.format ≡ None) ⊎ (s.format ≡ r.format)
+        → IsFront (track_file w r.format r.samples) (track_file w s.format s.samples)
     by_format (inl none) =
-        subst (λ (f : Option WaveFormat). IsFront (track_file w f r.samples) (track_file w s.format s.samples)) (sym none)
+        subst (λ (f : Option WaveFormat). IsFront (track_file w f r.samples) (track_file w s.format s.samples))
+        (sym none)
         (track_file w s.format s.samples, refl)
     by_format (inr same) =
-        subst (λ (f : Option WaveFormat). IsFront (track_file w r.format r.samples) (track_file w f s.samples)) (sym same) (by_same r.format)
+        subst (λ (f : Option WaveFormat). IsFront (track_file w r.format r.samples) (track_file w f s.samples))
+        (sym same) (by_same r.format)
 
 -- ---- what bytes show
 
@@ -71,10 +78,12 @@ file_first laws w r s goes = by_format goes.format
 abbrev pub ShowsStay : Type 0
 ShowsStay = (asked : Asked) (bytes more : List ℕ) → GoesOn (reading_of asked bytes) (reading_of asked (bytes ++ more))
 
-track_first : IntervalsComeFirst → ShowsStay → (w : SlicesWave) (front more a b : List ℕ) → a ≡ track_of w front → b ≡ track_of w (front ++ more)
+track_first : IntervalsComeFirst → ShowsStay → (w : SlicesWave) (front more a b : List ℕ) → a ≡ track_of w front
+    → b ≡ track_of w (front ++ more)
     → IsFront a b
 track_first laws shows w front more a b one all =
-    let first = file_first laws w (reading_of (asked_by w) front) (reading_of (asked_by w) (front ++ more)) (shows (asked_by w) front more) in
+    let first = file_first laws w (reading_of (asked_by w) front) (reading_of (asked_by w) (front ++ more))
+    (shows (asked_by w) front more) in
     (first.0, all ∙ first.1 ∙ ap (λ (l : List ℕ). l ++ first.0) (sym one))
 
 pub track_is_command : IntervalsComeFirst → ShowsStay → (w : SlicesWave) → IsCommand (along_sound_file w)

@@ -16,7 +16,8 @@ use Rattle.wave_file.specs.Wave.{Reading, reading_of}
 use Rattle.signal_commands.specs.PcmPath.{IsPathFile, IsPathFileSoFar}
 use Rattle.signal_commands.specs.WavPath.{along_track_path, asked_for_path}
 use Rattle.signal_commands.specs.WavPath.{WritesPath, WritesPathSoFar}
-use Rattle.signal_commands.proofs.PathIsCommand.{file_once, path_file, path_so_far, so_far_grows, whole_grows, whole_once}
+use Rattle.signal_commands.proofs.PathIsCommand.{file_once, path_file, path_so_far, so_far_grows, whole_grows}
+use Rattle.signal_commands.proofs.PathIsCommand.{whole_once}
 use Rattle.signal_commands.proofs.PathIsCommand.{PathLaws}
 use Rattle.signal_commands.proofs.TrackGoesOn.{ShowsStay}
 

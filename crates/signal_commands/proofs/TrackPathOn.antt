@@ -1,6 +1,8 @@
--- What more bytes of a sound file bring is heard as samples of its track; what stops the reading leaves what the samples
+-- What more bytes of a sound file bring is heard as samples of its track; what stops the reading leaves what the
+-- samples
 -- before it brought.
-use Rattle.std.proofs.Common.{◌≡◌, ℕ, ◌+◌, ◌-◌, ◌^◌, ◌≤◌, ◌<◌, ℤ, List, [], ◌∷◌, ◌++◌, Option, Some, None, length, take, drop}
+use Rattle.std.proofs.Common.{◌≡◌, ℕ, ◌+◌, ◌-◌, ◌^◌, ◌≤◌, ◌<◌, ℤ, List, [], ◌∷◌, ◌++◌, Option, Some, None, length, take}
+use Rattle.std.proofs.Common.{drop}
 use Rattle.std.proofs.Common.{inl, refl, sym, ◌∙◌, ap, subst, append_assoc, append-nil, arith}
 use Rattle.std.specs.Io.KnownBytes.{Appends}
 use Rattle.std.specs.Option.{option_map}
@@ -157,7 +159,8 @@ pub told_on : (s : TrackSound) (new : Decoding) (front written bytes : List ℕ)
     → IsTold (reading_of (asked_for_path s.path) (front ++ bytes)) (format_in_decoding new) (stands.samples ++ samples)
     good
 told_on s new front written bytes samples stands decodes =
-    subst (λ (a : Asked). IsTold (reading_of a (front ++ bytes)) (format_in_decoding new) (stands.samples ++ samples) good)
+    subst (λ (a : Asked). IsTold (reading_of a (front ++ bytes)) (format_in_decoding new) (stands.samples ++ samples)
+    good)
     (decodes.asked ∙ stands.asked)
     (decodes.told (front ++ bytes) (stands.samples ++ samples) (decodes.stands front stands.samples stands.decoder))
 
@@ -216,7 +219,8 @@ heard_on reads s next front written bytes samples old new stands path decodes sa
       w.0,
       w.1,
       moved s next front written bytes w.0 samples stands path decodes
-          (subst (λ (f : Option WaveFormat). HearsTrack s.path next.sound f (stands.samples ++ samples) (written ++ w.0))
+          (subst (λ (f : Option WaveFormat). HearsTrack s.path next.sound f (stands.samples ++ samples)
+          (written ++ w.0))
           (sym same) w.2),
     )
 
@@ -229,7 +233,8 @@ passed_on s next front written bytes out stands path sound decodes same = (
   [],
   Appends-nil out,
   moved s next front written bytes [] [] stands path decodes
-      (subst (λ (f : Option WaveFormat). HearsTrack s.path next.sound f (stands.samples ++ []) (written ++ [])) (sym same)
+      (subst (λ (f : Option WaveFormat). HearsTrack s.path next.sound f (stands.samples ++ []) (written ++ []))
+      (sym same)
       (subst (λ (x : Option PathSound). HearsTrack s.path x (format_in_decoding s.decoder) (stands.samples ++ [])
       (written ++ [])) (sym sound)
       (subst (λ (l : List ℕ). HearsTrack s.path s.sound (format_in_decoding s.decoder) (stands.samples ++ []) l)
@@ -375,7 +380,8 @@ limit_stop s front written bytes stop old new stands at behind =
 
 -- ---- the end, and the way of the engine
 
-pub flushed : (s : TrackSound) (sound : Option PathSound) (front written more : List ℕ) (stands : Stands s front written)
+pub flushed : (s : TrackSound) (sound : Option PathSound) (front written more : List ℕ)
+    (stands : Stands s front written)
     → HearsTrack s.path sound (format_in_decoding s.decoder) stands.samples (written ++ more)
     → Stands (record s { sound = sound }) front (written ++ more)
 flushed s sound front written more stands heard = record {

@@ -53,7 +53,8 @@ stands_well s bytes written settled stands =
       },
       record {
         intervals = hears.sound.given;
-        are = subst (λ (s_of : List ℤ). AreIntervalsSoFar path.grid path.ticks path.least (reverse s_of) hears.sound.given)
+        are = subst (λ (s_of : List ℤ). AreIntervalsSoFar path.grid path.ticks path.least (reverse s_of)
+            hears.sound.given)
             all hears.sound.so_far;
         file = sym (append-nil written) ∙ ap (λ (l : List ℕ). written ++ l) (sym settled) ∙ hears.sound.are;
       },

@@ -37,7 +37,8 @@ is_nothing answer = false
 
 -- the last line counts the fields, and those of each kind
 abbrev pub last_field_line : List FieldAnswer → List ℕ
-last_field_line answers = field_end_line (length answers) (count_by is_agreed answers) (count_by is_conflict answers) (count_by is_nothing answers)
+last_field_line answers = field_end_line (length answers) (count_by is_agreed answers) (count_by is_conflict answers)
+    (count_by is_nothing answers)
 
 -- the lines of the fields, and the last line
 abbrev pub field_report : List FieldAnswer → List ℕ

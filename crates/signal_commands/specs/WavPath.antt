@@ -14,7 +14,8 @@ use Rattle.wave_file.specs.Wave.{end_fault_of, reading_of}
 use Rattle.signal_commands.specs.declared.wav_path.TheConstants.{MAX_PATH_SAMPLES}
 use Rattle.signal_commands.specs.PcmPath.{IsPathFile, IsPathFileSoFar}
 
--- of a sound file its track is asked, at the least rate at which a path can be looked for: a lower one is a fault of the
+-- of a sound file its track is asked, at the least rate at which a path can be looked for: a lower one is a fault of
+-- the
 -- file, at the place of its rate
 abbrev pub asked_for_path : SlicesTrackPath → Asked
 asked_for_path t = record {

@@ -5,7 +5,8 @@
 //! - `pcm-ltc` writes the interval file of the distances between the crossings of the samples
 //!   (`specs/PcmLtc.antt`), `wav-ltc` the same of a track of a sound file, whose first interval runs from
 //!   the first sample (`specs/WavLtc.antt`), and with `path` both that of the cells of the best path through the
-//!   sound (`specs/PcmPath.antt`, `specs/WavPath.antt`), the first two in pieces as they pass where the words say `live`,
+//! sound (`specs/PcmPath.antt`, `specs/WavPath.antt`), the first two in pieces as they pass where the words say
+//! `live`,
 //!   `mtc-read` a line for each label in the bytes (`specs/MtcRead.antt`), and
 //!   `vitc-read` a line for each field of a line file (`specs/VitcRead.antt`).
 //! - What was sent is what `mtc-read` reads (`ReadsWhatWasSent`). A line of `vitc-read` says whose lines the

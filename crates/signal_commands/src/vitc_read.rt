@@ -80,8 +80,10 @@ impl FieldReport {
         requires within { self.old.fields < MAX_FIELDS }
         requires counts { self.old.agreed + self.old.conflict + self.old.nothing ≤ self.old.fields }
         ensures counted { self.new ≡ counted answer.now self.old }
-        ensures all { OnOk result (Appends (K.written out.old) (K.written out.new) (field_line self.old.fields answer.now)) }
-        ensures front { OnErr result (AppendsFront (K.written out.old) (K.written out.new) (field_line self.old.fields answer.now)) }
+        ensures all { OnOk result
+            (Appends (K.written out.old) (K.written out.new) (field_line self.old.fields answer.now)) }
+        ensures front { OnErr result
+            (AppendsFront (K.written out.old) (K.written out.new) (field_line self.old.fields answer.now)) }
         ensures why { IfErr result (λ stop. stop ≡ Stop.WriteFault) }
         ensures cause { HasOutCause (K.faults out.old) (K.faults out.new) result }
     {

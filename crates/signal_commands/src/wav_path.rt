@@ -150,11 +150,7 @@ impl TrackSound {
 }
 
 /// Hears samples, of which there are none before the data.
-fn hear_in<K: Sink>(
-    sound: &mut Option<PathSound>,
-    samples: &[i16],
-    out: &mut K,
-) -> Result<(), Stop>
+fn hear_in<K: Sink>(sound: &mut Option<PathSound>, samples: &[i16], out: &mut K) -> Result<(), Stop>
     requires going { AllGoing sound.old }
     requires room { heard_by sound.old + length samples.now ≤ 2 ^ 37 }
     ensures works { OnOk result ((t : SlicesTrackPath) (format : Option WaveFormat) (before : List ℤ) (written : List ℕ)

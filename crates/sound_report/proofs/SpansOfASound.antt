@@ -34,7 +34,8 @@ LastLaw = (tick_rate : ℕ) (system : System) (frames : List Frame)
     ≡ lines_behind tick_rate system None (spans frames)
 
 -- the spans of a file of distances, of which the events are words on time
-pub spanned : FileLaw → LastLaw → (flight : Flight) → flight.witness ≡ NotAsked → (header : IntervalHeader) (delay tick : ℕ) (tape : List Cell)
+pub spanned : FileLaw → LastLaw → (flight : Flight) → flight.witness ≡ NotAsked
+    → (header : IntervalHeader) (delay tick : ℕ) (tape : List Cell)
     (words : List Played) (distances written text : List ℕ) → IsTickRate header.tick_rate
     → AllByRecursion IsInterval distances → length distances ≤ MAX_INTERVALS → written ≡ file_of header distances
     → ((events : List Event) → AreEvents header.system flight.profile distances events

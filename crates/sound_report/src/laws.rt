@@ -28,6 +28,7 @@ ghost use Rattle.tc_job.specs.Slicing.{Slices, IsSlicing};
 ghost use Rattle.tc_job.specs.WaveSlicing.{SlicesWave};
 ghost use Rattle.wave_file.specs.declared.format.WaveFormat.{WaveFormat};
 ghost use Rattle.wave_file.specs.Wave.{reading_of};
+ghost use Rattle.signal_commands.specs.WavLtc.{asked_by};
 
 use flywheel::laws::the_next_word_fits;
 use interval_file::laws::a_file_is_read_as_it_was_written;
@@ -37,7 +38,6 @@ use tape_sound::laws::{
 };
 use tape_spans::laws::the_open_span_has_the_last_line;
 use wave_file::laws::the_rate_of_a_format_is_judged;
-ghost use Rattle.signal_commands.specs.WavLtc.{asked_by};
 
 /// `pcm-ltc` and then a report: of a sound whose sums have a margin for a tape, the report under the
 /// tolerance of that margin has a line for each word of the tape, and none beside. Its ticks run from the

@@ -33,7 +33,8 @@ follows half delay s t u v w a b c d (Zero k ∷ tape) (Zero x ∷ cells) some w
         omega (arith, wide, w_small, one, two, three, four, five),
         omega (arith, wide, s_small, small, one, two, three, four, five),
       ),
-      follows half delay t u v w last b c d x tape cells some wide even.1 t_small u_small v_small w_small small two three
+      follows half delay t u v w last b c d x tape cells some wide even.1 t_small u_small v_small w_small small two
+          three
           four five found.3,
     )
 follows half delay s t u v w a b c d (Zero k ∷ tape) (One x y ∷ cells) some wide even s_small t_small u_small v_small
@@ -64,7 +65,8 @@ follows half delay s t u v w a b c d (One p q ∷ tape) (One x y ∷ cells) some
           omega (arith, wide, s_small, small, one, two, three, four, five),
         ),
       ),
-      follows half delay t u v w last b c d (x + y) tape cells some wide even.2 t_small u_small v_small w_small small two
+      follows half delay t u v w last b c d (x + y) tape cells some wide even.2 t_small u_small v_small w_small small
+          two
           three four five found.3,
     )
 

@@ -1,4 +1,5 @@
--- A frame more in a span: an invented one bridges nothing by itself, and a heard one bridges all that were invented before it.
+-- A frame more in a span: an invented one bridges nothing by itself, and a heard one bridges all that were invented
+-- before it.
 use Rattle.std.proofs.Common.{◌≡◌, ℕ, ◌+◌, Bool, true, false, ◌&&◌, ◌||◌, cond, List, [], ◌∷◌, ◌++◌, refl}
 use Rattle.std.proofs.Common.{sym, ◌∙◌, ap, arith, count_by}
 use Rattle.std.specs.List.{list_any}
@@ -29,9 +30,11 @@ unfolding bridged_in
 bridged-invented [] label direction step tick = refl
 bridged-invented (frame ∷ more) label direction step tick =
     let one = Invented label direction step tick ∷ [] in
-    let any : list_any is_heard (more ++ one) ≡ list_any is_heard more = list_any-append is_heard more one ∙ or-false (list_any is_heard more) in
+    let any : list_any is_heard (more ++ one) ≡ list_any is_heard more = list_any-append is_heard more one
+    ∙ or-false (list_any is_heard more) in
     ap (λ (b : Bool). cond (is_invented frame && b) 1 0 + bridged_in (more ++ one)) any
-    ∙ ap (λ (n : ℕ). cond (is_invented frame && list_any is_heard more) 1 0 + n) (bridged-invented more label direction step tick)
+    ∙ ap (λ (n : ℕ). cond (is_invented frame && list_any is_heard more) 1 0 + n)
+    (bridged-invented more label direction step tick)
 
 pub bridged-heard : (more : List Frame) (label : Address) (direction : Direction) (joined : Bool) (tick : ℕ) →
     bridged_in (more ++ Heard label direction joined tick ∷ []) ≡ count_by is_invented more
@@ -39,7 +42,8 @@ unfolding bridged_in
 bridged-heard [] label direction joined tick = refl
 bridged-heard (frame ∷ more) label direction joined tick =
     let one = Heard label direction joined tick ∷ [] in
-    let any : list_any is_heard (more ++ one) ≡ true = list_any-append is_heard more one ∙ or-true (list_any is_heard more) in
+    let any : list_any is_heard (more ++ one) ≡ true = list_any-append is_heard more one
+    ∙ or-true (list_any is_heard more) in
     ap (λ (b : Bool). cond (is_invented frame && b) 1 0 + bridged_in (more ++ one)) any
     ∙ ap (λ (b : Bool). cond b 1 0 + bridged_in (more ++ one)) (and-true (is_invented frame))
     ∙ ap (λ (n : ℕ). cond (is_invented frame) 1 0 + n) (bridged-heard more label direction joined tick)

@@ -1,6 +1,7 @@
 -- The last label of a span is stepped from its first one by the frames between them, since each goes on from the one
 -- before it.
-use Rattle.std.proofs.Common.{◌≡◌, ℕ, zero, suc, ◌+◌, ◌-◌, ◌≤◌, Bool, true, false, ◌&&◌, ◌||◌, cond, ℤ, ◌+ℤ◌, All, List, [], ◌∷◌}
+use Rattle.std.proofs.Common.{◌≡◌, ℕ, zero, suc, ◌+◌, ◌-◌, ◌≤◌, Bool, true, false, ◌&&◌, ◌||◌, cond, ℤ, ◌+ℤ◌, All, List}
+use Rattle.std.proofs.Common.{[], ◌∷◌}
 use Rattle.std.proofs.Common.{map, Option, Some, None, refl, sym, ◌∙◌, ap, ap₂, arith, count_by}
 use Rattle.std.specs.Prelude.{fold}
 use Rattle.std.specs.List.{list_any}
@@ -32,7 +33,8 @@ steps_sum Backward n = omega (arith, ints)
 
 -- one step, and more from there
 step_on : StepsAddUp → (p : Position) (n : ℕ)
-    → step (next_position p).label (steps_in (next_position p).direction n) ≡ step p.label (steps_in p.direction (suc n))
+    → step (next_position p).label (steps_in (next_position p).direction n) ≡ step p.label
+    (steps_in p.direction (suc n))
 step_on sums p n =
     sums p.label (steps_in p.direction 1) (steps_in p.direction n) ∙ ap (step p.label) (steps_sum p.direction n)
 
@@ -99,7 +101,8 @@ onward sums frame more mark p q next false false marks rest is =
     }
 
 -- the place of a frame that goes on
-next_of : (p : Position) (q : Position) (at : (place : Position) × (Some p ≡ Some place) × (Some q ≡ Some (next_position place)))
+next_of : (p : Position) (q : Position) (at : (place : Position) × (Some p ≡ Some place)
+    × (Some q ≡ Some (next_position place)))
     → q ≡ next_position p
 next_of p q at =
     same_Some q (next_position at.0) at.2 ∙ ap next_position (sym (same_Some p at.0 at.1))
@@ -112,7 +115,8 @@ reaches sums (Heard label direction joined tick ∷ more) mark p all on =
     let q : Position = record { label = label; direction = direction } in
     let goes = All-head (λ (frame : Frame). goes_on frame ≡ true) (Heard label direction joined tick) more all in
     let rest = All-tail (λ (frame : Frame). goes_on frame ≡ true) (Heard label direction joined tick) more all in
-    onward sums (Heard label direction joined tick) more mark p q (next_of p q (on.0 goes)) true (list_any is_heard more)
+    onward sums (Heard label direction joined tick) more mark p q (next_of p q (on.0 goes)) true
+    (list_any is_heard more)
     (record { is = refl; label = λ yes. refl; direction = λ yes. refl; other = λ no. absurd cc })
     (reaches sums more (mark_at label direction tick) q rest on.1) refl
 reaches sums (Invented label direction number tick ∷ more) mark p all on =

@@ -1,5 +1,6 @@
 -- What the next frame does to the spans of the frames so far: it goes on the open one, or ends it, or begins another.
-use Rattle.std.proofs.Common.{◌≡◌, ℕ, suc, ◌+◌, Bool, true, false, not, cond, List, [], ◌∷◌, ◌++◌, fold, length, Option, Some, None, refl}
+use Rattle.std.proofs.Common.{◌≡◌, ℕ, suc, ◌+◌, Bool, true, false, not, cond, List, [], ◌∷◌, ◌++◌, fold, length, Option}
+use Rattle.std.proofs.Common.{Some, None, refl}
 use Rattle.std.proofs.Common.{sym, ◌∙◌, ap, subst, append_assoc, append-nil, arith, count_by}
 use Rattle.std.specs.List.{list_any, sum_by, take_while}
 use Rattle.std.proofs.lemmas.List.{length-append}
@@ -16,7 +17,8 @@ use Rattle.tape_spans.specs.declared.span.Mark.{Mark}
 use Rattle.tape_spans.specs.declared.span.Span.{Span}
 use Rattle.tape_spans.specs.Spans.{SpanFrames, bridged_in, frames_of_spans, latest_of, mark_at, span_of}
 use Rattle.tape_spans.specs.StandsFor.{AreEnded, Running, StandsFor, latest_end, place_of_tape, so_far, to_come}
-use Rattle.tape_spans.specs.Tape.{Tape, after_frame, begun_at, begun_in, blank, counted, counted_at, ended_by, invented_at, joined_at, joined_by}
+use Rattle.tape_spans.specs.Tape.{Tape, after_frame, begun_at, begun_in, blank, counted, counted_at, ended_by}
+use Rattle.tape_spans.specs.Tape.{invented_at, joined_at, joined_by}
 use Rattle.tape_spans.specs.Tape.{placed, with_invented}
 use Rattle.tape_spans.proofs.BridgedFrames.{bridged-heard, bridged-invented}
 use Rattle.flywheel.specs.Kinds.{is_heard, is_invented}
@@ -33,19 +35,25 @@ abbrev open_span : Mark → Mark → ℕ → ℕ → ℕ → OpenSpan
 open_span first last heard bridged invented =
     record { span = record { first = first; last = last; heard = heard; bridged = bridged }; invented = invented }
 
-same_open : (first last last' : Mark) (heard heard' bridged bridged' invented invented' : ℕ) → last ≡ last' → heard ≡ heard' → bridged ≡ bridged'
-    → invented ≡ invented' → open_span first last heard bridged invented ≡ open_span first last' heard' bridged' invented'
+same_open : (first last last' : Mark) (heard heard' bridged bridged' invented invented' : ℕ) → last ≡ last'
+    → heard ≡ heard' → bridged ≡ bridged'
+    → invented ≡ invented' → open_span first last heard bridged invented ≡ open_span first last' heard' bridged'
+    invented'
 same_open first last last' heard heard' bridged bridged' invented invented' l h b i =
-    ap (λ (m : Mark). open_span first m heard bridged invented) l ∙ ap (λ (n : ℕ). open_span first last' n bridged invented) h
-    ∙ ap (λ (n : ℕ). open_span first last' heard' n invented) b ∙ ap (λ (n : ℕ). open_span first last' heard' bridged' n) i
+    ap (λ (m : Mark). open_span first m heard bridged invented) l
+    ∙ ap (λ (n : ℕ). open_span first last' n bridged invented) h
+    ∙ ap (λ (n : ℕ). open_span first last' heard' n invented) b
+    ∙ ap (λ (n : ℕ). open_span first last' heard' bridged' n) i
 
 -- so many of a kind, with a frame of this kind or of another
 counts-one : (kind : Frame → Bool) (more : List Frame) (frame : Frame) (n : ℕ) → cond (kind frame) 1 0 ≡ n
     → count_by kind (more ++ frame ∷ []) ≡ count_by kind more + n
-counts-one kind more frame n is = sum_by_push (λ (f : Frame). cond (kind f) 1 0) more frame ∙ ap (λ (k : ℕ). count_by kind more + k) is
+counts-one kind more frame n is = sum_by_push (λ (f : Frame). cond (kind f) 1 0) more frame
+    ∙ ap (λ (k : ℕ). count_by kind more + k) is
 
 joined-is : (running : Running) (label : Address) (direction : Direction) (tick : ℕ)
-    → joined_by (current_of running) (mark_at label direction tick) ≡ current_of (with_frame running (Heard label direction true tick))
+    → joined_by (current_of running) (mark_at label direction tick) ≡ current_of
+    (with_frame running (Heard label direction true tick))
 joined-is running label direction tick =
     let frame = Heard label direction true tick in
     let heard = counts-one is_heard running.more frame 1 refl in
@@ -69,14 +77,32 @@ comes-on : (running : Running) (frame : Frame) (behind : List Frame) → goes_on
     → (frames_of_spans (frame ∷ behind) ≡ frames_of_spans behind)
     → to_come (Some running) (frame ∷ behind) ≡ to_come (Some (with_frame running frame)) behind
 comes-on running frame behind on same =
-    let taken : take_while goes_on (frame ∷ behind) ≡ frame ∷ take_while goes_on behind = take_while-cons goes_on frame behind
+    let taken : take_while goes_on (frame ∷ behind) ≡ frame ∷ take_while goes_on behind =
+    take_while-cons goes_on frame behind
     ∙ ap (λ (b : Bool). cond b (frame ∷ take_while goes_on behind) []) on in
-    let more : running.more ++ take_while goes_on (frame ∷ behind) ≡ (running.more ++ frame ∷ []) ++ take_while goes_on behind =
-    ap (λ (l : List Frame). running.more ++ l) taken ∙ sym (append_assoc running.more (frame ∷ []) (take_while goes_on behind)) in
+    let more : running.more ++ take_while goes_on (frame ∷ behind) ≡ (running.more ++ frame ∷ [])
+    ++ take_while goes_on behind =
+    ap (λ (l : List Frame). running.more ++ l) taken
+    ∙ sym (append_assoc running.more (frame ∷ []) (take_while goes_on behind)) in
     let any : list_any (λ f. not (goes_on f)) (frame ∷ behind) ≡ list_any (λ f. not (goes_on f)) behind = rw on refl in
-    ap (λ (l : List Frame). record { first = running.first; more = l; has_ended = list_any (λ f. not (goes_on f)) (frame ∷ behind) } ∷ frames_of_spans (frame ∷ behind)) more
-    ∙ ap (λ (b : Bool). record { first = running.first; more = (running.more ++ frame ∷ []) ++ take_while goes_on behind; has_ended = b } ∷ frames_of_spans (frame ∷ behind)) any
-    ∙ ap (λ (l : List SpanFrames). record { first = running.first; more = (running.more ++ frame ∷ []) ++ take_while goes_on behind; has_ended = list_any (λ f. not (goes_on f)) behind } ∷ l) same
+    ap (λ (l : List Frame). record {
+      first = running.first;
+      more = l;
+      has_ended =
+          list_any (λ f. not (goes_on f)) (frame ∷ behind);
+    } ∷ frames_of_spans (frame ∷ behind)) more
+    ∙ ap (λ (b : Bool). record {
+      first = running.first;
+      more = (running.more ++ frame ∷ [])
+          ++ take_while goes_on behind;
+      has_ended = b;
+    } ∷ frames_of_spans (frame ∷ behind)) any
+    ∙ ap (λ (l : List SpanFrames). record {
+      first = running.first;
+      more = (running.more ++ frame ∷ [])
+          ++ take_while goes_on behind;
+      has_ended = list_any (λ f. not (goes_on f)) behind;
+    } ∷ l) same
 
 abbrev pub ended_one : Running → SpanFrames
 ended_one running = record { first = running.first; more = running.more; has_ended = true }
@@ -90,8 +116,14 @@ comes-end running frame behind off =
     let more : running.more ++ take_while goes_on (frame ∷ behind) ≡ running.more =
     ap (λ (l : List Frame). running.more ++ l) taken ∙ append-nil running.more in
     let any : list_any (λ f. not (goes_on f)) (frame ∷ behind) ≡ true = rw off refl in
-    ap (λ (l : List Frame). record { first = running.first; more = l; has_ended = list_any (λ f. not (goes_on f)) (frame ∷ behind) } ∷ frames_of_spans (frame ∷ behind)) more
-    ∙ ap (λ (b : Bool). record { first = running.first; more = running.more; has_ended = b } ∷ frames_of_spans (frame ∷ behind)) any
+    ap (λ (l : List Frame). record {
+      first = running.first;
+      more = l;
+      has_ended =
+          list_any (λ f. not (goes_on f)) (frame ∷ behind);
+    } ∷ frames_of_spans (frame ∷ behind)) more
+    ∙ ap (λ (b : Bool). record { first = running.first; more = running.more; has_ended = b }
+    ∷ frames_of_spans (frame ∷ behind)) any
 
 -- ---- what the tape stands for
 
@@ -118,7 +150,8 @@ record Counted (tape : Tape) (done : List SpanFrames) : Type 0 where
   heard : tape.heard ≡ sum_by (λ s. (span_of s).heard) done
   bridged : tape.bridged ≡ sum_by (λ s. (span_of s).bridged) done
 
-are_ended-push : (done : List SpanFrames) (s : SpanFrames) → AreEnded done → s.has_ended ≡ true → AreEnded (done ++ s ∷ [])
+are_ended-push : (done : List SpanFrames) (s : SpanFrames) → AreEnded done → s.has_ended ≡ true
+    → AreEnded (done ++ s ∷ [])
 are_ended-push [] s all one = (one, tt)
 are_ended-push (first ∷ done) s all one = (all.0, are_ended-push done s all.1 one)
 
@@ -129,11 +162,14 @@ counted-push tape done running place all =
     let one = ended_one running in record {
       ended = are_ended-push done one all.ended refl;
       spans = (let n = all.spans in omega (arith, n, length-append done (one ∷ [])));
-      heard = ap (λ (n : ℕ). n + (span_of one).heard) all.heard ∙ sym (sum_by_push (λ (s : SpanFrames). (span_of s).heard) done one);
-      bridged = ap (λ (n : ℕ). n + (span_of one).bridged) all.bridged ∙ sym (sum_by_push (λ (s : SpanFrames). (span_of s).bridged) done one);
+      heard = ap (λ (n : ℕ). n + (span_of one).heard) all.heard
+          ∙ sym (sum_by_push (λ (s : SpanFrames). (span_of s).heard) done one);
+      bridged = ap (λ (n : ℕ). n + (span_of one).bridged) all.bridged
+          ∙ sym (sum_by_push (λ (s : SpanFrames). (span_of s).bridged) done one);
     }
 
-stands_with : (tape : Tape) (frames : List Frame) (done : List SpanFrames) (running : Option Running) → Splits frames done running
+stands_with : (tape : Tape) (frames : List Frame) (done : List SpanFrames) (running : Option Running)
+    → Splits frames done running
     → Counted tape done → tape.place ≡ place_of_tape running (latest_end None done) → StandsFor tape frames
 stands_with tape frames done running split all place = record {
   done = done;
@@ -152,28 +188,36 @@ split-frame : (frames : List Frame) (frame : Frame) (behind : List Frame)
 split-frame frames frame behind = ap frames_of_spans (append_assoc frames (frame ∷ []) behind)
 
 -- a frame that goes on, where a span is open and where none is
-pub splits-on : (frames : List Frame) (done : List SpanFrames) (running : Running) (frame : Frame) → goes_on frame ≡ true
-    → ((behind : List Frame) → frames_of_spans (frame ∷ behind) ≡ frames_of_spans behind) → Splits frames done (Some running)
+pub splits-on : (frames : List Frame) (done : List SpanFrames) (running : Running) (frame : Frame)
+    → goes_on frame ≡ true
+    → ((behind : List Frame) → frames_of_spans (frame ∷ behind) ≡ frames_of_spans behind)
+    → Splits frames done (Some running)
     → Splits (frames ++ frame ∷ []) done (Some (with_frame running frame))
 splits-on frames done running frame on same split behind =
-    split-frame frames frame behind ∙ split (frame ∷ behind) ∙ ap (λ (l : List SpanFrames). done ++ l) (comes-on running frame behind on (same behind))
+    split-frame frames frame behind ∙ split (frame ∷ behind)
+    ∙ ap (λ (l : List SpanFrames). done ++ l) (comes-on running frame behind on (same behind))
 
 pub splits-idle : (frames : List Frame) (done : List SpanFrames) (frame : Frame)
-    → ((behind : List Frame) → frames_of_spans (frame ∷ behind) ≡ frames_of_spans behind) → Splits frames done None → Splits (frames ++ frame ∷ []) done None
+    → ((behind : List Frame) → frames_of_spans (frame ∷ behind) ≡ frames_of_spans behind) → Splits frames done None
+    → Splits (frames ++ frame ∷ []) done None
 splits-idle frames done frame same split behind =
     split-frame frames frame behind ∙ split (frame ∷ behind) ∙ ap (λ (l : List SpanFrames). done ++ l) (same behind)
 
 -- a frame that does not, where a span is open: it has ended
-pub splits-end : (frames : List Frame) (done : List SpanFrames) (running : Running) (frame : Frame) (next : Option Running) → goes_on frame ≡ false
-    → ((behind : List Frame) → frames_of_spans (frame ∷ behind) ≡ to_come next behind) → Splits frames done (Some running)
+pub splits-end : (frames : List Frame) (done : List SpanFrames) (running : Running) (frame : Frame)
+    (next : Option Running) → goes_on frame ≡ false
+    → ((behind : List Frame) → frames_of_spans (frame ∷ behind) ≡ to_come next behind)
+    → Splits frames done (Some running)
     → Splits (frames ++ frame ∷ []) (done ++ ended_one running ∷ []) next
 splits-end frames done running frame next off is split behind =
     split-frame frames frame behind ∙ split (frame ∷ behind)
-    ∙ ap (λ (l : List SpanFrames). done ++ l) (comes-end running frame behind off ∙ ap (λ (l : List SpanFrames). ended_one running ∷ l) (is behind))
+    ∙ ap (λ (l : List SpanFrames). done ++ l) (comes-end running frame behind off
+    ∙ ap (λ (l : List SpanFrames). ended_one running ∷ l) (is behind))
     ∙ sym (append_assoc done (ended_one running ∷ []) (to_come next behind))
 
 pub splits-next : (frames : List Frame) (done : List SpanFrames) (frame : Frame) (next : Option Running)
-    → ((behind : List Frame) → frames_of_spans (frame ∷ behind) ≡ to_come next behind) → Splits frames done None → Splits (frames ++ frame ∷ []) done next
+    → ((behind : List Frame) → frames_of_spans (frame ∷ behind) ≡ to_come next behind) → Splits frames done None
+    → Splits (frames ++ frame ∷ []) done next
 splits-next frames done frame next is split behind =
     split-frame frames frame behind ∙ split (frame ∷ behind) ∙ ap (λ (l : List SpanFrames). done ++ l) (is behind)
 
@@ -195,7 +239,8 @@ abbrev pub begun_with : Address → Direction → ℕ → Running
 begun_with label direction tick = record { first = mark_at label direction tick; more = [] }
 
 pub begun-is : (label : Address) (direction : Direction) (tick : ℕ) (behind : List Frame)
-    → frames_of_spans (Heard label direction false tick ∷ behind) ≡ to_come (Some (begun_with label direction tick)) behind
+    → frames_of_spans (Heard label direction false tick ∷ behind) ≡ to_come (Some (begun_with label direction tick))
+    behind
 unfolding frames_of_spans
 begun-is label direction tick behind = refl
 
@@ -207,29 +252,38 @@ begun-current label direction tick = refl
 -- where the last span of them ended
 pub latest-push : (done : List SpanFrames) (running : Running)
     → latest_end None (done ++ ended_one running ∷ []) ≡ Some (span_of (so_far running)).last
-latest-push done running = fold_push (λ (mark : Option Mark) (s : SpanFrames). Some (span_of s).last) None done (ended_one running)
+latest-push done running = fold_push (λ (mark : Option Mark) (s : SpanFrames). Some (span_of s).last) None done
+    (ended_one running)
 
 -- ---- the four kinds of frame, where a span is open and where none is
 
-joins : (tape : Tape) (frames : List Frame) (done : List SpanFrames) (running : Option Running) (before : Option Mark) (label : Address) (direction : Direction)
-    (tick : ℕ) → Splits frames done running → Counted tape done → latest_end None done ≡ before → tape.place ≡ place_of_tape running before
-    → StandsFor (joined_at tape (place_of_tape running before) (mark_at label direction tick)) (frames ++ Heard label direction true tick ∷ [])
+joins : (tape : Tape) (frames : List Frame) (done : List SpanFrames) (running : Option Running) (before : Option Mark)
+    (label : Address) (direction : Direction)
+    (tick : ℕ) → Splits frames done running → Counted tape done → latest_end None done ≡ before
+    → tape.place ≡ place_of_tape running before
+    → StandsFor (joined_at tape (place_of_tape running before) (mark_at label direction tick))
+    (frames ++ Heard label direction true tick ∷ [])
 joins tape frames done (Some running) before label direction tick split all latest place =
     let frame = Heard label direction true tick in
     let next = with_frame running frame in
-    stands_with (placed tape (Within (joined_by (current_of running) (mark_at label direction tick)))) (frames ++ frame ∷ []) done (Some next)
+    stands_with (placed tape (Within (joined_by (current_of running) (mark_at label direction tick))))
+    (frames ++ frame ∷ []) done (Some next)
     (splits-on frames done running frame refl (heard_on-same label direction tick) split)
     (record { ended = all.ended; spans = all.spans; heard = all.heard; bridged = all.bridged })
     (ap (λ (o : OpenSpan). Within o) (joined-is running label direction tick))
 joins tape frames done None None label direction tick split all latest place =
     stands_with tape (frames ++ Heard label direction true tick ∷ []) done None
-    (splits-idle frames done (Heard label direction true tick) (heard_on-same label direction tick) split) all (place ∙ ap (place_of_tape None) (sym latest))
+    (splits-idle frames done (Heard label direction true tick) (heard_on-same label direction tick) split) all
+    (place ∙ ap (place_of_tape None) (sym latest))
 joins tape frames done None (Some mark) label direction tick split all latest place =
     stands_with tape (frames ++ Heard label direction true tick ∷ []) done None
-    (splits-idle frames done (Heard label direction true tick) (heard_on-same label direction tick) split) all (place ∙ ap (place_of_tape None) (sym latest))
+    (splits-idle frames done (Heard label direction true tick) (heard_on-same label direction tick) split) all
+    (place ∙ ap (place_of_tape None) (sym latest))
 
-invents : (tape : Tape) (frames : List Frame) (done : List SpanFrames) (running : Option Running) (before : Option Mark) (label : Address)
-    (direction : Direction) (step tick : ℕ) → Splits frames done running → Counted tape done → latest_end None done ≡ before
+invents : (tape : Tape) (frames : List Frame) (done : List SpanFrames) (running : Option Running) (before : Option Mark)
+    (label : Address)
+    (direction : Direction) (step tick : ℕ) → Splits frames done running → Counted tape done
+    → latest_end None done ≡ before
     → tape.place ≡ place_of_tape running before
     → StandsFor (invented_at tape (place_of_tape running before)) (frames ++ Invented label direction step tick ∷ [])
 invents tape frames done (Some running) before label direction step tick split all latest place =
@@ -248,30 +302,38 @@ invents tape frames done None (Some mark) label direction step tick split all la
     (splits-idle frames done (Invented label direction step tick) (invented-same label direction step tick) split) all
     (place ∙ ap (place_of_tape None) (sym latest))
 
-ends : (tape : Tape) (frames : List Frame) (done : List SpanFrames) (running : Option Running) (before : Option Mark) (tick : ℕ)
-    → Splits frames done running → Counted tape done → latest_end None done ≡ before → tape.place ≡ place_of_tape running before
+ends : (tape : Tape) (frames : List Frame) (done : List SpanFrames) (running : Option Running) (before : Option Mark)
+    (tick : ℕ)
+    → Splits frames done running → Counted tape done → latest_end None done ≡ before
+    → tape.place ≡ place_of_tape running before
     → StandsFor (counted_at tape (place_of_tape running before)) (frames ++ Gone tick ∷ [])
 ends tape frames done (Some running) before tick split all latest place =
     let span = span_of (so_far running) in
     stands_with (ended_by tape span (Behind span.last)) (frames ++ Gone tick ∷ []) (done ++ ended_one running ∷ []) None
-    (splits-end frames done running (Gone tick) None refl (gone-same tick) split) (counted-push tape done running (Behind span.last) all)
+    (splits-end frames done running (Gone tick) None refl (gone-same tick) split)
+    (counted-push tape done running (Behind span.last) all)
     (ap (place_of_tape None) (sym (latest-push done running)))
 ends tape frames done None None tick split all latest place =
-    stands_with tape (frames ++ Gone tick ∷ []) done None (splits-idle frames done (Gone tick) (gone-same tick) split) all
+    stands_with tape (frames ++ Gone tick ∷ []) done None (splits-idle frames done (Gone tick) (gone-same tick) split)
+    all
     (place ∙ ap (place_of_tape None) (sym latest))
 ends tape frames done None (Some mark) tick split all latest place =
-    stands_with tape (frames ++ Gone tick ∷ []) done None (splits-idle frames done (Gone tick) (gone-same tick) split) all
+    stands_with tape (frames ++ Gone tick ∷ []) done None (splits-idle frames done (Gone tick) (gone-same tick) split)
+    all
     (place ∙ ap (place_of_tape None) (sym latest))
 
-begins : (tape : Tape) (frames : List Frame) (done : List SpanFrames) (running : Option Running) (before : Option Mark) (label : Address)
+begins : (tape : Tape) (frames : List Frame) (done : List SpanFrames) (running : Option Running) (before : Option Mark)
+    (label : Address)
     (direction : Direction) (tick : ℕ) → Splits frames done running → Counted tape done → latest_end None done ≡ before
     → tape.place ≡ place_of_tape running before
-    → StandsFor (begun_in tape (place_of_tape running before) (mark_at label direction tick)) (frames ++ Heard label direction false tick ∷ [])
+    → StandsFor (begun_in tape (place_of_tape running before) (mark_at label direction tick))
+    (frames ++ Heard label direction false tick ∷ [])
 begins tape frames done (Some running) before label direction tick split all latest place =
     let span = span_of (so_far running) in
     let frame = Heard label direction false tick in
     let next = begun_with label direction tick in
-    stands_with (ended_by tape span (Within (begun_at (mark_at label direction tick)))) (frames ++ frame ∷ []) (done ++ ended_one running ∷ []) (Some next)
+    stands_with (ended_by tape span (Within (begun_at (mark_at label direction tick)))) (frames ++ frame ∷ [])
+    (done ++ ended_one running ∷ []) (Some next)
     (splits-end frames done running frame (Some next) refl (begun-is label direction tick) split)
     (counted-push tape done running (Within (begun_at (mark_at label direction tick))) all)
     (ap (λ (o : OpenSpan). Within o) (begun-current label direction tick))
@@ -291,22 +353,36 @@ begins tape frames done None (Some mark) label direction tick split all latest p
     (ap (λ (o : OpenSpan). Within o) (begun-current label direction tick))
 
 counts_of : (tape : Tape) (frames : List Frame) (stands : StandsFor tape frames) → Counted tape stands.done
-counts_of tape frames stands = record { ended = stands.ended; spans = stands.spans; heard = stands.heard; bridged = stands.bridged }
+counts_of tape frames stands = record {
+  ended = stands.ended;
+  spans = stands.spans;
+  heard = stands.heard;
+  bridged =
+      stands.bridged;
+}
 
 -- the tape after a frame stands for the frames with it
-pub stands_on : (tape : Tape) (frames : List Frame) (frame : Frame) → StandsFor tape frames → StandsFor (after_frame tape frame) (frames ++ frame ∷ [])
+pub stands_on : (tape : Tape) (frames : List Frame) (frame : Frame) → StandsFor tape frames
+    → StandsFor (after_frame tape frame) (frames ++ frame ∷ [])
 stands_on tape frames (Heard label direction true tick) stands =
     let mark = mark_at label direction tick in
-    subst (λ (p : TapePlace). StandsFor (joined_at tape p mark) (frames ++ Heard label direction true tick ∷ [])) (sym stands.place)
-    (joins tape frames stands.done stands.running (latest_end None stands.done) label direction tick stands.split (counts_of tape frames stands) refl stands.place)
+    subst (λ (p : TapePlace). StandsFor (joined_at tape p mark) (frames ++ Heard label direction true tick ∷ []))
+    (sym stands.place)
+    (joins tape frames stands.done stands.running (latest_end None stands.done) label direction tick stands.split
+    (counts_of tape frames stands) refl stands.place)
 stands_on tape frames (Heard label direction false tick) stands =
     let mark = mark_at label direction tick in
-    subst (λ (p : TapePlace). StandsFor (begun_in tape p mark) (frames ++ Heard label direction false tick ∷ [])) (sym stands.place)
-    (begins tape frames stands.done stands.running (latest_end None stands.done) label direction tick stands.split (counts_of tape frames stands) refl stands.place)
+    subst (λ (p : TapePlace). StandsFor (begun_in tape p mark) (frames ++ Heard label direction false tick ∷ []))
+    (sym stands.place)
+    (begins tape frames stands.done stands.running (latest_end None stands.done) label direction tick stands.split
+    (counts_of tape frames stands) refl stands.place)
 stands_on tape frames (Invented label direction step tick) stands =
-    subst (λ (p : TapePlace). StandsFor (invented_at tape p) (frames ++ Invented label direction step tick ∷ [])) (sym stands.place)
-    (invents tape frames stands.done stands.running (latest_end None stands.done) label direction step tick stands.split (counts_of tape frames stands) refl
+    subst (λ (p : TapePlace). StandsFor (invented_at tape p) (frames ++ Invented label direction step tick ∷ []))
+    (sym stands.place)
+    (invents tape frames stands.done stands.running (latest_end None stands.done) label direction step tick stands.split
+    (counts_of tape frames stands) refl
     stands.place)
 stands_on tape frames (Gone tick) stands =
     subst (λ (p : TapePlace). StandsFor (counted_at tape p) (frames ++ Gone tick ∷ [])) (sym stands.place)
-    (ends tape frames stands.done stands.running (latest_end None stands.done) tick stands.split (counts_of tape frames stands) refl stands.place)
+    (ends tape frames stands.done stands.running (latest_end None stands.done) tick stands.split
+    (counts_of tape frames stands) refl stands.place)

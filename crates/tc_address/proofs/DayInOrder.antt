@@ -1,11 +1,13 @@
 -- The labels of a day stand in order: each is the one that the arithmetic gives for its number.
-use Rattle.std.proofs.Common.{◌≡◌, ℕ, zero, suc, ◌+◌, ◌<◌, Bool, true, false, not, cond, List, [], ◌∷◌, ◌++◌, length, refl, sym, ◌∙◌, ap, subst, arith}
+use Rattle.std.proofs.Common.{◌≡◌, ℕ, zero, suc, ◌+◌, ◌<◌, Bool, true, false, not, cond, List, [], ◌∷◌, ◌++◌, length}
+use Rattle.std.proofs.Common.{refl, sym, ◌∙◌, ap, subst, arith}
 use Rattle.std.specs.List.{filter, flat_map, range_with_len}
 use Rattle.std.proofs.lemmas.List.Elements.{filter-append}
 use Rattle.std.proofs.lemmas.List.Concat.{flat_map-cons, flat_map_single}
 use Rattle.tc_address.specs.declared.count.Count.{Count}
 use Rattle.tc_address.specs.declared.count.Count.TheVariants.{C24, C25, C30, Drop30}
-use Rattle.tc_address.specs.Label.{Address, address, is_dropped, is_dropped_by, IsLabel, second_of, minute_of, hour_of, addresses, labels}
+use Rattle.tc_address.specs.Label.{Address, address, is_dropped, is_dropped_by, IsLabel, second_of, minute_of, hour_of}
+use Rattle.tc_address.specs.Label.{addresses, labels}
 use Rattle.tc_address.specs.Numbering.{day_length}
 use Rattle.tc_address.proofs.DroppedLabels.{rate_with, place, place_of, label_with, label_with-place, place-label}
 use Rattle.tc_address.proofs.DroppedLabels.{place-dropped, place-second, place-minute, place-hour}
@@ -36,7 +38,8 @@ pub Runs-rows : (c : Count) (start : ℕ → ℕ) (f : ℕ → List Address) (a 
 Runs-rows c start f a zero h = ap start (omega arith)
 Runs-rows c start f a (suc len) h =
     let e : a + 1 + len ≡ a + suc len = omega arith in
-    let P : ℕ → Type 0 = λ j. Runs c (start (a + 1)) (filter counted (flat_map f (range_with_len (a + 1) len))) (start j) in
+    let P : ℕ → Type 0 = λ j. Runs c (start (a + 1)) (filter counted (flat_map f (range_with_len (a + 1) len)))
+    (start j) in
     let later = λ (i : ℕ) (b : i < a + 1 + len). h i (omega arith) in
     let rest = subst P e (Runs-rows c start f (a + 1) len later) in
     let first = h a (omega arith) in
@@ -55,18 +58,23 @@ Runs-all c start f len xs end e ends h =
     subst P (sym e) (subst Q last (Runs-rows c start f 0 len each))
 
 -- one address is a label, with the next number, or is dropped
-leaf_by : (c : Count) (h m s f : ℕ) (b : Bool) → is_dropped_by c m s f ≡ b → h < 24 → m < 60 → s < 60 → f < rate_with c →
+leaf_by : (c : Count) (h m s f : ℕ) (b : Bool) → is_dropped_by c m s f ≡ b → h < 24 → m < 60 → s < 60
+    → f < rate_with c →
     Runs c (place c h m s f) (cond (not b) (address c h m s f ∷ []) []) (place c h m s (f + 1))
 leaf_by c h m s f true e hh hm hs hf = place-dropped c h m s f e
 leaf_by c h m s f false e hh hm hs hf =
-    let l : IsLabel (address c h m s f) = record { hours = hh; minutes = hm; seconds = hs; frames = hf; counted = e } in
-    (record { label = l; count = refl; number = refl; same = sym (label_with-place c h m s f l) }, place-label c h m s f e)
+    let l : IsLabel (address c h m s f) = record { hours = hh; minutes = hm; seconds = hs; frames = hf; counted = e } in (
+      record { label = l; count = refl; number = refl; same = sym (label_with-place c h m s f l) },
+      place-label c h m s f
+          e,
+    )
 
 second_runs : (c : Count) (h m s : ℕ) → h < 24 → m < 60 → s < 60 →
     Runs c (place c h m s 0) (filter counted (second_of c h m s)) (place c h m (s + 1) 0)
 unfolding second_of
 second_runs c h m s hh hm hs =
-    Runs-all c (λ f. place c h m s f) (λ f. address c h m s f ∷ []) (rate_with c) (second_of c h m s) (place c h m (s + 1) 0)
+    Runs-all c (λ f. place c h m s f) (λ f. address c h m s f ∷ []) (rate_with c) (second_of c h m s)
+    (place c h m (s + 1) 0)
     (sym (flat_map_single (λ f. address c h m s f) (range_with_len 0 (rate_with c)))) (place-second c h m s)
     (λ f hf. leaf_by c h m s f (is_dropped_by c m s f) refl hh hm hs hf)
 
@@ -77,7 +85,8 @@ minute_runs c h m hh hm =
     Runs-all c (λ s. place c h m s 0) (λ s. second_of c h m s) 60 (minute_of c h m) (place c h (m + 1) 0 0) refl
     (place-minute c h m) (λ s hs. second_runs c h m s hh hm hs)
 
-hour_runs : (c : Count) (h : ℕ) → h < 24 → Runs c (place c h 0 0 0) (filter counted (hour_of c h)) (place c (h + 1) 0 0 0)
+hour_runs : (c : Count) (h : ℕ) → h < 24 → Runs c (place c h 0 0 0) (filter counted (hour_of c h))
+    (place c (h + 1) 0 0 0)
 unfolding hour_of
 hour_runs c h hh =
     Runs-all c (λ m. place c h m 0 0) (λ m. minute_of c h m) 60 (hour_of c h) (place c (h + 1) 0 0 0) refl
@@ -101,7 +110,8 @@ unfolding labels addresses
 labels_run c =
     let P : ℕ → Type 0 = λ j. Runs c j (filter counted (addresses c)) (day_length c) in
     subst P (place-begin c)
-    (Runs-all c (λ h. place c h 0 0 0) (λ h. hour_of c h) 24 (addresses c) (day_length c) refl (place-end c) (λ h hh. hour_runs c h hh))
+    (Runs-all c (λ h. place c h 0 0 0) (λ h. hour_of c h) 24 (addresses c) (day_length c) refl (place-end c)
+    (λ h hh. hour_runs c h hh))
 
 Runs-length : (c : Count) (n m : ℕ) (xs : List Address) → Runs c n xs m → n + length xs ≡ m
 Runs-length c n m [] e = omega (arith, e)

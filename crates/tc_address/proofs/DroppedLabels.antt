@@ -1,5 +1,6 @@
 -- An address is its frame of the day, less what drop-frame counting dropped before it, and back again.
-use Rattle.std.proofs.Common.{◌≡◌, ◌≢◌, ℕ, ◌+◌, ◌-◌, ◌*◌, ◌/◌, ◌%◌, ◌<◌, ◌≤◌, min, true, false, refl, ◌∙◌, ap, arith, ◌⊎◌}
+use Rattle.std.proofs.Common.{◌≡◌, ◌≢◌, ℕ, ◌+◌, ◌-◌, ◌*◌, ◌/◌, ◌%◌, ◌<◌, ◌≤◌, min, true, false, refl, ◌∙◌, ap, arith}
+use Rattle.std.proofs.Common.{◌⊎◌}
 use Rattle.std.proofs.Math.Nat.{mul-add-div, mul-add-mod_self_left, div-eq_of_lt, mod-eq_of_lt}
 use Rattle.std.proofs.lemmas.Bool.Decides.{nat_tests}
 use Rattle.tc_address.specs.declared.count.Count.{Count}
@@ -63,10 +64,12 @@ kept_says : (m s f : ℕ) → is_dropped_by Drop30 m s f ≡ false → (m % 10 �
 kept_says m s f e = grind (arith, nat_tests)
 
 -- ten minutes have 17,982 labels, and each minute but the first of them has 1,798
-place_by_tens : (h m s f : ℕ) → IsLabel (address Drop30 h m s f) → place Drop30 h m s f ≡ 17982 * (6 * h + m / 10) + (1798 * (m % 10) + (30 * s + f))
+place_by_tens : (h m s f : ℕ) → IsLabel (address Drop30 h m s f) → place Drop30 h m s f ≡ 17982 * (6 * h + m / 10)
+    + (1798 * (m % 10) + (30 * s + f))
 place_by_tens h m s f l = let k : (m % 10 ≡ 0) ⊎ (2 ≤ 2 * s + f) = kept_says m s f l.counted in omega (arith, k)
 
-until_by_tens : (t u r : ℕ) → u < 10 → r < 1800 → (u ≡ 0) ⊎ (2 ≤ r) → dropped_until Drop30 (17982 * t + (1798 * u + r)) ≡ 18 * t + 2 * u
+until_by_tens : (t u r : ℕ) → u < 10 → r < 1800 → (u ≡ 0) ⊎ (2 ≤ r) → dropped_until Drop30 (17982 * t + (1798 * u + r))
+    ≡ 18 * t + 2 * u
 until_by_tens t u r hu hr k =
     let b : 1798 * u + r < 17982 = omega arith in
     let tens = split_frames 17982 t (1798 * u + r) b in
@@ -74,7 +77,8 @@ until_by_tens t u r hu hr k =
     rw (tens.0, tens.1, minutes) refl
 
 -- the number of a label says how many addresses are dropped before it
-pub dropped_until-place : (c : Count) (h m s f : ℕ) → IsLabel (address c h m s f) → dropped_until c (place c h m s f) ≡ dropped c h m s f
+pub dropped_until-place : (c : Count) (h m s f : ℕ) → IsLabel (address c h m s f)
+    → dropped_until c (place c h m s f) ≡ dropped c h m s f
 dropped_until-place C24 h m s f l = refl
 dropped_until-place C25 h m s f l = refl
 dropped_until-place C30 h m s f l = refl
@@ -90,14 +94,16 @@ dropped_below C25 h m s f = omega arith
 dropped_below C30 h m s f = omega arith
 dropped_below Drop30 h m s f = omega arith
 
-pub label_with-place : (c : Count) (h m s f : ℕ) → IsLabel (address c h m s f) → label_with c (place c h m s f) ≡ address c h m s f
+pub label_with-place : (c : Count) (h m s f : ℕ) → IsLabel (address c h m s f)
+    → label_with c (place c h m s f) ≡ address c h m s f
 label_with-place c h m s f l =
     let e : place c h m s f + dropped_until c (place c h m s f) ≡ frame_of_day c h m s f =
     omega (arith, dropped_until-place c h m s f l, dropped_below c h m s f) in
     ap (address_of_frame c) e ∙ address_of_frame-frame_of_day c h m s f l.minutes l.seconds l.frames
 
 -- a label stands before the next address, and what is dropped does not
-pub place-label : (c : Count) (h m s f : ℕ) → is_dropped_by c m s f ≡ false → place c h m s f + 1 ≡ place c h m s (f + 1)
+pub place-label : (c : Count) (h m s f : ℕ) → is_dropped_by c m s f ≡ false
+    → place c h m s f + 1 ≡ place c h m s (f + 1)
 place-label C24 h m s f e = omega arith
 place-label C25 h m s f e = omega arith
 place-label C30 h m s f e = omega arith

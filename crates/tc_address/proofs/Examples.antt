@@ -14,7 +14,8 @@ minute_one : length (filter (λ a. not (is_dropped a)) (minute_of Drop30 0 1)) �
 unfolding minute_of second_of
 minute_one = refl
 
-first_of_minute_one : slice_get (filter (λ a. not (is_dropped a)) (minute_of Drop30 0 1)) 0 ≡ Some (address Drop30 0 1 0 2)
+first_of_minute_one : slice_get (filter (λ a. not (is_dropped a)) (minute_of Drop30 0 1)) 0
+    ≡ Some (address Drop30 0 1 0 2)
 unfolding minute_of second_of
 first_of_minute_one = refl
 
@@ -27,21 +28,26 @@ minute_zero : length (filter (λ a. not (is_dropped a)) (minute_of Drop30 7 0)) 
 unfolding minute_of second_of
 minute_zero = refl
 
-is_label_at : (h m s f : ℕ) → h < 24 → m < 60 → s < 60 → f < 30 → is_dropped (address Drop30 h m s f) ≡ false → IsLabel (address Drop30 h m s f)
+is_label_at : (h m s f : ℕ) → h < 24 → m < 60 → s < 60 → f < 30 → is_dropped (address Drop30 h m s f) ≡ false
+    → IsLabel (address Drop30 h m s f)
 is_label_at h m s f p q r t e = record { hours = p; minutes = q; seconds = r; frames = t; counted = e }
 
 -- numbers of known labels
 one_minute : number_of (address Drop30 0 1 0 2) ≡ 1800
-one_minute = number_of_place (address Drop30 0 1 0 2) (is_label_at 0 1 0 2 (omega arith) (omega arith) (omega arith) (omega arith) refl) ∙ refl
+one_minute = number_of_place (address Drop30 0 1 0 2)
+    (is_label_at 0 1 0 2 (omega arith) (omega arith) (omega arith) (omega arith) refl) ∙ refl
 
 ten_minutes : number_of (address Drop30 0 10 0 0) ≡ 17982
-ten_minutes = number_of_place (address Drop30 0 10 0 0) (is_label_at 0 10 0 0 (omega arith) (omega arith) (omega arith) (omega arith) refl) ∙ refl
+ten_minutes = number_of_place (address Drop30 0 10 0 0)
+    (is_label_at 0 10 0 0 (omega arith) (omega arith) (omega arith) (omega arith) refl) ∙ refl
 
 an_hour : number_of (address Drop30 1 0 0 0) ≡ 107892
-an_hour = number_of_place (address Drop30 1 0 0 0) (is_label_at 1 0 0 0 (omega arith) (omega arith) (omega arith) (omega arith) refl) ∙ refl
+an_hour = number_of_place (address Drop30 1 0 0 0)
+    (is_label_at 1 0 0 0 (omega arith) (omega arith) (omega arith) (omega arith) refl) ∙ refl
 
 the_last : number_of (address Drop30 23 59 59 29) ≡ 2589407
-the_last = number_of_place (address Drop30 23 59 59 29) (is_label_at 23 59 59 29 (omega arith) (omega arith) (omega arith) (omega arith) refl) ∙ refl
+the_last = number_of_place (address Drop30 23 59 59 29)
+    (is_label_at 23 59 59 29 (omega arith) (omega arith) (omega arith) (omega arith) refl) ∙ refl
 
 -- before midnight and behind it
 a_step_back : moved 2160000 0 (negsuc 0) ≡ 2159999

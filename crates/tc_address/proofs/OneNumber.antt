@@ -39,7 +39,8 @@ is_label_with c n h = let found = found_at c n h in subst IsLabel found.2.same f
 pub get_labels_past : (c : Count) (n : ℕ) → day_length c ≤ n → slice_get (labels c) n ≡ None
 get_labels_past c n h = slice_get_past (labels c) n (omega (arith, length_labels c))
 
-same_parts : (c d : Count) (h i m n s t f g : ℕ) → c ≡ d → h ≡ i → m ≡ n → s ≡ t → f ≡ g → address c h m s f ≡ address d i n t g
+same_parts : (c d : Count) (h i m n s t f g : ℕ) → c ≡ d → h ≡ i → m ≡ n → s ≡ t → f ≡ g
+    → address c h m s f ≡ address d i n t g
 same_parts c d h i m n s t f g p q r v w = cc
 
 -- two labels of a count with the same time are one
@@ -49,13 +50,15 @@ same_time a b e t =
     let minutes : a.minutes ≡ b.minutes = grind (arith, nat_tests) in
     let seconds : a.seconds ≡ b.seconds = grind (arith, nat_tests) in
     let frames : a.frames ≡ b.frames = grind (arith, nat_tests) in
-    same_parts a.count b.count a.hours b.hours a.minutes b.minutes a.seconds b.seconds a.frames b.frames e hours minutes seconds frames
+    same_parts a.count b.count a.hours b.hours a.minutes b.minutes a.seconds b.seconds a.frames b.frames e hours minutes
+    seconds frames
 
 same_time_self : (a : Address) → is_same_time a a ≡ true
 same_time_self a = grind (arith, nat_tests)
 
 -- the first label of a run is the one that is looked for, or has a lower number
-position_step : (c : Count) (n : ℕ) (x a : Address) (rest : ℕ) (b : Bool) → is_same_time x a ≡ b → IsLabel a → a.count ≡ c → IsAt c n x →
+position_step : (c : Count) (n : ℕ) (x a : Address) (rest : ℕ) (b : Bool) → is_same_time x a ≡ b → IsLabel a
+    → a.count ≡ c → IsAt c n x →
     n ≤ place_of a → (n + 1 ≤ place_of a → n + 1 + rest ≡ place_of a) → n + cond (not b) (1 + rest) 0 ≡ place_of a
 position_step c n x a rest true t l e at low later =
     let same : place_of x ≡ place_of a = ap place_of (same_time x a (at.count ∙ sym e) t) in
@@ -70,7 +73,8 @@ position_step c n x a rest false t l e at low later =
     omega (arith, later more)
 
 -- as many labels of a run stand before one as its number says
-Runs-position : (c : Count) (n m : ℕ) (xs : List Address) (a : Address) → IsLabel a → a.count ≡ c → n ≤ place_of a → place_of a < m →
+Runs-position : (c : Count) (n m : ℕ) (xs : List Address) (a : Address) → IsLabel a → a.count ≡ c → n ≤ place_of a
+    → place_of a < m →
     Runs c n xs m → n + position_or_len (λ other. is_same_time other a) xs ≡ place_of a
 Runs-position c n m [] a l e low high r = absurd (omega (arith, r))
 Runs-position c n m (x ∷ xs) a l e low high r =
@@ -98,14 +102,19 @@ get_number_of a l =
     ∙ ap (λ b. Some b) (label_with-place a.count a.hours a.minutes a.seconds a.frames l)
 
 -- what stands at a place is a label with the number of that place
-pub number_of_get : (c : Count) (n : ℕ) (a : Address) → slice_get (labels c) n ≡ Some a → (number_of a ≡ n) × (a.count ≡ c) × IsLabel a
+pub number_of_get : (c : Count) (n : ℕ) (a : Address) → slice_get (labels c) n ≡ Some a → (number_of a ≡ n)
+    × (a.count ≡ c) × IsLabel a
 number_of_get c n a e =
     let within : n < day_length c = omega (arith, slice_get_within (labels c) n a e, length_labels c) in
     let found = found_at c n within in
     let b = found.0 in
     let same : b ≡ a = let both : Some b ≡ Some a = sym found.1 ∙ e in cc in
-    let label : IsLabel a = subst IsLabel same found.2.label in
-    (number_of_place a label ∙ ap place_of (sym same) ∙ found.2.number, ap (λ x. x.count) (sym same) ∙ found.2.count, label)
+    let label : IsLabel a = subst IsLabel same found.2.label in (
+      number_of_place a label ∙ ap place_of (sym same) ∙ found.2.number,
+      ap (λ x. x.count) (sym same)
+          ∙ found.2.count,
+      label,
+    )
 
 -- the label at the place that a step leads to
 pub step_at : (a b : Address) (steps : ℤ) (n : ℕ) → slice_get (labels a.count) n ≡ Some b →
@@ -113,7 +122,8 @@ pub step_at : (a b : Address) (steps : ℤ) (n : ℕ) → slice_get (labels a.co
 unfolding step
 step_at a b steps n found e =
     let there : slice_get (labels a.count) (moved (length (labels a.count)) (number_of a) steps) ≡ Some b =
-    ap (λ d. slice_get (labels a.count) (moved d (number_of a) steps)) (length_labels a.count) ∙ ap (slice_get (labels a.count)) (sym e) ∙ found in
+    ap (λ d. slice_get (labels a.count) (moved d (number_of a) steps)) (length_labels a.count)
+    ∙ ap (slice_get (labels a.count)) (sym e) ∙ found in
     sym (ap (λ o. unwrap_or o a) there)
 
 day_length-pos : (c : Count) → 0 < day_length c
@@ -123,7 +133,8 @@ day_length-pos C30 = omega arith
 day_length-pos Drop30 = omega arith
 
 -- a step of a label leads to a label, whose number is the place that the step leads to
-pub step_get : (a : Address) (steps : ℤ) → slice_get (labels a.count) (moved (day_length a.count) (number_of a) steps) ≡ Some (step a steps)
+pub step_get : (a : Address) (steps : ℤ) → slice_get (labels a.count) (moved (day_length a.count) (number_of a) steps)
+    ≡ Some (step a steps)
 step_get a steps =
     let n = moved (day_length a.count) (number_of a) steps in
     let found = found_at a.count n (moved-below (day_length a.count) (number_of a) steps (day_length-pos a.count)) in
@@ -132,17 +143,21 @@ step_get a steps =
 pub step-zero : (a : Address) → IsLabel a → step a (pos 0) ≡ a
 step-zero a l =
     let bound : number_of a < day_length a.count = number_of_below a l in
-    sym (step_at a a (pos 0) (number_of a) (get_number_of a l) (sym (moved-zero (day_length a.count) (number_of a) bound)))
+    sym (step_at a a (pos 0) (number_of a) (get_number_of a l)
+    (sym (moved-zero (day_length a.count) (number_of a) bound)))
 
 pub step-add : (a : Address) (j k : ℤ) → step (step a j) k ≡ step a (j +ℤ k)
 step-add a j k =
     let first = number_of_get a.count (moved (day_length a.count) (number_of a) j) (step a j) (step_get a j) in
     let count : (step a j).count ≡ a.count = first.1 in
     let number : number_of (step a j) ≡ moved (day_length a.count) (number_of a) j = first.0 in
-    let place : moved (day_length (step a j).count) (number_of (step a j)) k ≡ moved (day_length a.count) (number_of a) (j +ℤ k) =
+    let place : moved (day_length (step a j).count) (number_of (step a j)) k ≡ moved (day_length a.count) (number_of a)
+    (j +ℤ k) =
     ap (λ c. moved (day_length c) (number_of (step a j)) k) count ∙ ap (λ n. moved (day_length a.count) n k) number
     ∙ moved-add (day_length a.count) (number_of a) j k (day_length-pos a.count) in
-    let found : slice_get (labels a.count) (moved (day_length a.count) (number_of a) (j +ℤ k)) ≡ Some (step (step a j) k) =
-    ap (slice_get (labels a.count)) (sym place) ∙ ap (λ c. slice_get (labels c) (moved (day_length (step a j).count) (number_of (step a j)) k)) (sym count)
+    let found : slice_get (labels a.count) (moved (day_length a.count) (number_of a) (j +ℤ k))
+    ≡ Some (step (step a j) k) =
+    ap (slice_get (labels a.count)) (sym place)
+    ∙ ap (λ c. slice_get (labels c) (moved (day_length (step a j).count) (number_of (step a j)) k)) (sym count)
     ∙ step_get (step a j) k in
     step_at a (step (step a j) k) (j +ℤ k) (moved (day_length a.count) (number_of a) (j +ℤ k)) found refl

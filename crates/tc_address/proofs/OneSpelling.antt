@@ -12,7 +12,8 @@ use Rattle.tc_address.specs.declared.count.Count.{Count}
 use Rattle.tc_address.specs.declared.count.Count.TheVariants.{C24, C25, C30, Drop30}
 use Rattle.tc_address.specs.Count.{rate_of, system_with}
 use Rattle.tc_address.specs.Label.{Address, IsLabel, is_label}
-use Rattle.tc_address.specs.Spelling.{text_of, label_in, separator, is_digit, may_stand, address_in, IsGoodBelow, IsFirstWrongPlace}
+use Rattle.tc_address.specs.Spelling.{text_of, label_in, separator, is_digit, may_stand, address_in, IsGoodBelow}
+use Rattle.tc_address.specs.Spelling.{IsFirstWrongPlace}
 
 is_digit-digit : (n : ℕ) → n < 10 → is_digit (48 + n) ≡ true
 is_digit-digit n h = grind (arith, nat_tests)
@@ -34,15 +35,18 @@ digits_back a b p q =
     (omega (arith, s.0, s.1, t.0, t.1), omega (arith, s.0, s.1, t.0, t.1))
 
 -- good bytes are the text of the address that they say
-pub text_of-address_in : (c : Count) (text : List ℕ) → length text ≡ 11 → IsGoodBelow c text 11 → text_of (address_in c text) ≡ text
+pub text_of-address_in : (c : Count) (text : List ℕ) → length text ≡ 11 → IsGoodBelow c text 11
+    → text_of (address_in c text) ≡ text
 text_of-address_in c text len good =
     let hours = digits_back (slice_index text 0) (slice_index text 1) (good 0 (omega arith)) (good 1 (omega arith)) in
     let first : slice_index text 2 ≡ 58 = same_byte (slice_index text 2) 58 (good 2 (omega arith)) in
     let minutes = digits_back (slice_index text 3) (slice_index text 4) (good 3 (omega arith)) (good 4 (omega arith)) in
     let second : slice_index text 5 ≡ 58 = same_byte (slice_index text 5) 58 (good 5 (omega arith)) in
     let seconds = digits_back (slice_index text 6) (slice_index text 7) (good 6 (omega arith)) (good 7 (omega arith)) in
-    let third : slice_index text 8 ≡ separator c = same_byte (slice_index text 8) (separator c) (good 8 (omega arith)) in
-    let frames = digits_back (slice_index text 9) (slice_index text 10) (good 9 (omega arith)) (good 10 (omega arith)) in
+    let third : slice_index text 8 ≡ separator c = same_byte (slice_index text 8) (separator c) (good 8 (omega arith))
+    in
+    let frames = digits_back (slice_index text 9) (slice_index text 10) (good 9 (omega arith)) (good 10 (omega arith))
+    in
     let whole : text_of (address_in c text) ≡ map (slice_index text) (range_with_len 0 11) = cc in
     whole ∙ sym (fill_by_all (slice_index text) text 11 0 len (λ k h. refl))
 
@@ -66,7 +70,8 @@ good_text a l (suc (suc (suc (suc (suc (suc (suc zero))))))) h = is_digit-digit 
 good_text a l (suc (suc (suc (suc (suc (suc (suc (suc zero)))))))) h = byte_itself (separator a.count)
 good_text a l (suc (suc (suc (suc (suc (suc (suc (suc (suc zero))))))))) h =
     is_digit-digit (a.frames / 10) (omega (arith, frames_below a.count a.frames l.frames))
-good_text a l (suc (suc (suc (suc (suc (suc (suc (suc (suc (suc zero)))))))))) h = is_digit-digit (a.frames % 10) (omega arith)
+good_text a l (suc (suc (suc (suc (suc (suc (suc (suc (suc (suc zero)))))))))) h =
+    is_digit-digit (a.frames % 10) (omega arith)
 good_text a l (suc (suc (suc (suc (suc (suc (suc (suc (suc (suc (suc k))))))))))) h = absurd (omega arith)
 
 number_back : (n : ℕ) → 10 * (48 + n / 10 - 48) + (48 + n % 10 - 48) ≡ n
@@ -80,9 +85,11 @@ pub no_wrong_place : (c : Count) (text : List ℕ) (place : ℕ) (a : Address) �
     text ≡ text_of a → IsFirstWrongPlace c text place → ⊥
 no_wrong_place c text place a l e t w =
     let short : length text ≡ 11 = ap length t in
-    let good : may_stand a.count place (slice_index (text_of a) place) ≡ true = good_text a l place (omega (arith, short, w.within)) in
+    let good : may_stand a.count place (slice_index (text_of a) place) ≡ true =
+    good_text a l place (omega (arith, short, w.within)) in
     let same : may_stand c place (slice_index text place) ≡ may_stand a.count place (slice_index (text_of a) place) =
-    ap (λ d. may_stand d place (slice_index text place)) (sym e) ∙ ap (λ xs. may_stand a.count place (slice_index xs place)) t in
+    ap (λ d. may_stand d place (slice_index text place)) (sym e)
+    ∙ ap (λ xs. may_stand a.count place (slice_index xs place)) t in
     let wrong = w.wrong in
     cc
 
@@ -97,12 +104,15 @@ label_from_test a e =
     }
 
 -- the text of a label spells that label
-pub label_in-text_of : (c : Count) (text : List ℕ) (a : Address) → IsLabel a → a.count ≡ c → text ≡ text_of a → label_in c text ≡ Some a
+pub label_in-text_of : (c : Count) (text : List ℕ) (a : Address) → IsLabel a → a.count ≡ c → text ≡ text_of a
+    → label_in c text ≡ Some a
 label_in-text_of c text a l e t =
-    let back : address_in c text ≡ a = ap (λ d. address_in d text) (sym e) ∙ ap (address_in a.count) t ∙ address_in-text_of a in
+    let back : address_in c text ≡ a = ap (λ d. address_in d text) (sym e) ∙ ap (address_in a.count) t
+    ∙ address_in-text_of a in
     let label : is_label (address_in c text) ≡ true = ap is_label back ∙ label_is a l in
     let same : text ≡ text_of (address_in c text) = t ∙ ap text_of (sym back) in
-    let test : bytes_eq text (text_of (address_in c text)) ≡ true = (bytes_eq-Decides text (text_of (address_in c text))).1 same in
+    let test : bytes_eq text (text_of (address_in c text)) ≡ true =
+    (bytes_eq-Decides text (text_of (address_in c text))).1 same in
     rw (label, test) (ap (λ b. Some b) back)
 
 label_in_by : (c : Count) (text : List ℕ) → ((a : Address) → IsLabel a → a.count ≡ c → text ≡ text_of a → ⊥) →
@@ -111,12 +121,14 @@ label_in_by : (c : Count) (text : List ℕ) → ((a : Address) → IsLabel a →
 label_in_by c text no_label false q e f = refl
 label_in_by c text no_label true false e f = refl
 label_in_by c text no_label true true e f =
-    absurd (no_label (address_in c text) (label_from_test (address_in c text) e) refl ((bytes_eq-Decides text (text_of (address_in c text))).0 f))
+    absurd (no_label (address_in c text) (label_from_test (address_in c text) e) refl
+    ((bytes_eq-Decides text (text_of (address_in c text))).0 f))
 
 -- a text that no label has spells none
 pub label_in-none : (c : Count) (text : List ℕ) → ((a : Address) → IsLabel a → a.count ≡ c → text ≡ text_of a → ⊥) →
     label_in c text ≡ None
-label_in-none c text no_label = label_in_by c text no_label (is_label (address_in c text)) (bytes_eq text (text_of (address_in c text))) refl refl
+label_in-none c text no_label = label_in_by c text no_label (is_label (address_in c text))
+    (bytes_eq text (text_of (address_in c text))) refl refl
 
 only_by : (c : Count) (text : List ℕ) (a : Address) (p q : Bool) → bytes_eq text (text_of (address_in c text)) ≡ q
     → cond (p && q) (Some (address_in c text)) None ≡ Some a → (text ≡ text_of a) × (a.count ≡ c)

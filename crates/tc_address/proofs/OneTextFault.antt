@@ -1,4 +1,5 @@
--- A text has one first fault at most: of two wrong places the lower one is first, and the faults of an address exclude each other.
+-- A text has one first fault at most: of two wrong places the lower one is first, and the faults of an address
+-- exclude each other.
 use Rattle.std.proofs.Common.{◌≡◌, ℕ, ◌<◌, List, length, refl, sym, ◌∙◌, ap, arith}
 use Rattle.std.proofs.lemmas.Bool.{false≢true}
 use Rattle.tc_address.specs.declared.count.Count.{Count}
@@ -48,16 +49,20 @@ one_place c text p q first second =
     grind (arith, up, down)
 
 -- a wrong place is not among eleven good ones
-not_good : (c : Count) (text : List ℕ) (p : ℕ) → length text ≡ 11 → IsFirstWrongPlace c text p → IsGoodBelow c text 11 → ⊥
+not_good : (c : Count) (text : List ℕ) (p : ℕ) → length text ≡ 11 → IsFirstWrongPlace c text p → IsGoodBelow c text 11
+    → ⊥
 not_good c text p eleven first well = let within = first.within in false≢true (sym first.wrong ∙ well p (omega arith))
 
-pub one_text_fault : (c : Count) (text : List ℕ) (f g : TextFault) → IsFirstTextFault c text f → IsFirstTextFault c text g → f ≡ g
+pub one_text_fault : (c : Count) (text : List ℕ) (f g : TextFault) → IsFirstTextFault c text f
+    → IsFirstTextFault c text g → f ≡ g
 one_text_fault c text faults.Length faults.Length p q = refl
 one_text_fault c text faults.Length (faults.Byte place) p q = absurd (p q.0)
 one_text_fault c text faults.Length (faults.Label fault) p q = absurd (p q.0)
 one_text_fault c text (faults.Byte place) faults.Length p q = absurd (q p.0)
-one_text_fault c text (faults.Byte a) (faults.Byte b) p q = ap (λ (place : ℕ). faults.Byte place) (one_place c text a b p.1 q.1)
+one_text_fault c text (faults.Byte a) (faults.Byte b) p q =
+    ap (λ (place : ℕ). faults.Byte place) (one_place c text a b p.1 q.1)
 one_text_fault c text (faults.Byte a) (faults.Label fault) p q = absurd (not_good c text a p.0 p.1 q.1)
 one_text_fault c text (faults.Label fault) faults.Length p q = absurd (q p.0)
 one_text_fault c text (faults.Label fault) (faults.Byte b) p q = absurd (not_good c text b q.0 q.1 p.1)
-one_text_fault c text (faults.Label f) (faults.Label g) p q = ap (λ (fault : LabelFault). faults.Label fault) (one_fault _ f g p.2 q.2)
+one_text_fault c text (faults.Label f) (faults.Label g) p q = ap (λ (fault : LabelFault). faults.Label fault)
+    (one_fault _ f g p.2 q.2)

@@ -22,7 +22,8 @@ pow_bound n j k le h = omega (arith, pow-le-pow_right {n = 2} (omega arith) le)
 
 -- the three parts put together hold the value, and the rest as it was
 pub put_together : (bits first width value : ℕ) → value < 2 ^ width
-    → Replaces bits ((bits / 2 ^ first / 2 ^ width * 2 ^ width + value) * 2 ^ first + bits % 2 ^ first) first width value
+    → Replaces bits ((bits / 2 ^ first / 2 ^ width * 2 ^ width + value) * 2 ^ first + bits % 2 ^ first) first width
+    value
 put_together bits first width value fits =
     let high = bits / 2 ^ first / 2 ^ width in
     let middle = high * 2 ^ width + value in
@@ -32,7 +33,8 @@ put_together bits first width value fits =
     record {
       put = rw shifted (mod_low high width value fits);
       below = mod_low middle first low below;
-      above = rw (← shr-shr (middle * 2 ^ first + low) first width, ← shr-shr bits first width, shifted) (shr_high high width value fits);
+      above = rw (← shr-shr (middle * 2 ^ first + low) first width, ← shr-shr bits first width, shifted)
+          (shr_high high width value fits);
     }
 
 pub bit_of_low : (n k i : ℕ) → i < k → bit_at n i ≡ bit_at (n % 2 ^ k) i
@@ -45,14 +47,18 @@ bit_of_high n k i le =
     ap (λ (m : ℕ). m % 2) (sym h)
 
 -- a bit below the field or above it is as it was
-pub other_bits : (old new first width value i : ℕ) → Replaces old new first width value → (i < first) ⊎ (first + width ≤ i) → bit_at new i ≡ bit_at old i
+pub other_bits : (old new first width value i : ℕ) → Replaces old new first width value → (i < first)
+    ⊎ (first + width ≤ i) → bit_at new i ≡ bit_at old i
 other_bits old new first width value i r (inl lt) =
     bit_of_low new first i lt ∙ ap (λ (n : ℕ). bit_at n i) r.below ∙ sym (bit_of_low old first i lt)
 other_bits old new first width value i r (inr le) =
-    bit_of_high new (first + width) i le ∙ ap (λ (n : ℕ). bit_at n (i - (first + width))) r.above ∙ sym (bit_of_high old (first + width) i le)
+    bit_of_high new (first + width) i le ∙ ap (λ (n : ℕ). bit_at n (i - (first + width))) r.above
+    ∙ sym (bit_of_high old (first + width) i le)
 
-pub parts_of : (n first width : ℕ) → n ≡ (n / 2 ^ (first + width) * 2 ^ width + field n first width) * 2 ^ first + n % 2 ^ first
+pub parts_of : (n first width : ℕ) → n ≡ (n / 2 ^ (first + width) * 2 ^ width + field n first width) * 2 ^ first
+    + n % 2 ^ first
 parts_of n first width =
     let outer = shr_split n first in
-    let inner : n / 2 ^ (first + width) * 2 ^ width + field n first width ≡ n / 2 ^ first = rw (← shr-shr n first width) (shr_split (n / 2 ^ first) width) in
+    let inner : n / 2 ^ (first + width) * 2 ^ width + field n first width ≡ n / 2 ^ first =
+    rw (← shr-shr n first width) (shr_split (n / 2 ^ first) width) in
     rw inner (sym outer)

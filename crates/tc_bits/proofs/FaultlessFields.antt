@@ -1,4 +1,5 @@
--- Digits without a fault say an address: each condition fails, so each digit is in its range, and tens and units give the number back.
+-- Digits without a fault say an address: each condition fails, so each digit is in its range, and tens and units give
+-- the number back.
 use Rattle.std.proofs.Common.{◌≡◌, ℕ, ◌+◌, ◌*◌, ◌/◌, ◌%◌, ◌<◌, ◌≤◌, Bool, true, false, List, [], ◌∷◌, refl, arith}
 use Rattle.std.proofs.Common.{Option, None}
 use Rattle.std.specs.Prelude.{find, nat_lt, nat_le}

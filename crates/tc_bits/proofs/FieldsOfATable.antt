@@ -132,7 +132,8 @@ user_read t user bits s =
 
 -- ---- digits that say some fields spell them, and the other way round
 
-said : (system : System) (t : Table) (c : FieldValues) (bits : ℕ) → Says system (raw_in t bits) c → SpellsFields t c bits
+said : (system : System) (t : Table) (c : FieldValues) (bits : ℕ) → Says system (raw_in t bits) c
+    → SpellsFields t c bits
 said system t c bits says =
     let e = says.digits in
     let flags : c.flags ≡ flags_in t bits = ap (λ (raw : RawFields). raw.flags) e in

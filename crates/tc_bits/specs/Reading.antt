@@ -19,7 +19,8 @@ flags_in t bits = record {
 -- the user bits that stand in the bits
 abbrev pub user_in : Table → ℕ → ℕ
 user_in t bits = number_of_groups (map (λ first. field bits first 4)
-    (t.user_one ∷ t.user_two ∷ t.user_three ∷ t.user_four ∷ t.user_five ∷ t.user_six ∷ t.user_seven ∷ t.user_eight ∷ []))
+    (t.user_one ∷ t.user_two ∷ t.user_three ∷ t.user_four ∷ t.user_five ∷ t.user_six ∷ t.user_seven ∷ t.user_eight
+    ∷ []))
 
 -- the digits, flags and user bits that stand in the bits
 abbrev pub raw_in : Table → ℕ → RawFields

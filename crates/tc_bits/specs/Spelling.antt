@@ -54,9 +54,11 @@ pub record SpellsFields (t : Table) (c : FieldValues) (bits : ℕ) : Type 0 wher
 pub record AreExact : Type 0 where
   pub said : (system : System) (t : Table) (c : FieldValues) (bits : ℕ) → Says system (raw_in t bits) c
       → SpellsFields t c bits
-  pub says : (system : System) (t : Table) (c : FieldValues) (bits : ℕ) → IsFields c → system_with c.label.count ≡ system
+  pub says : (system : System) (t : Table) (c : FieldValues) (bits : ℕ) → IsFields c
+      → system_with c.label.count ≡ system
       → SpellsFields t c bits → Says system (raw_in t bits) c
-  pub held : (t : Table) (c : FieldValues) (bits : ℕ) → c.user < 2 ^ 32 → Holds (row_of t c) bits → SpellsFields t c bits
+  pub held : (t : Table) (c : FieldValues) (bits : ℕ) → c.user < 2 ^ 32 → Holds (row_of t c) bits
+      → SpellsFields t c bits
   pub holds : (t : Table) (c : FieldValues) (bits : ℕ) → SpellsFields t c bits → Holds (row_of t c) bits
   pub fit : (t : Table) (c : FieldValues) → IsLabel c.label → Fit (row_of t c)
   pub flag_read : (bits first : ℕ) (flag : Bool) → field bits first 1 ≡ digit flag → is_set (place first 1) bits ≡ flag

@@ -31,7 +31,8 @@ pub fn eight_groups_are_the_user_bits()
 
 /// Digits say one address at most, and they say one exactly where they have no fault.
 pub fn digits_are_exact()
-    ensures one { (system : System) (raw : RawFields) (a b : FieldValues) → Says system raw a → Says system raw b → a ≡ b }
+    ensures one { (system : System) (raw : RawFields) (a b : FieldValues) → Says system raw a → Says system raw b
+        → a ≡ b }
     ensures no_fault { (system : System) (raw : RawFields) (c : FieldValues) → Says system raw c
         → first_field_fault system raw ≡ None }
     ensures some { (system : System) (raw : RawFields) → first_field_fault system raw ≡ None

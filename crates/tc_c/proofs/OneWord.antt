@@ -54,11 +54,14 @@ one_word numbers a b p q =
     let fb = flags_read b.fields.flags b.balanced numbers.flags q.flags in
     let ba = balance_read a.fields.flags a.balanced numbers.flags p.flags in
     let bb = balance_read b.fields.flags b.balanced numbers.flags q.flags in
-    same_word a.fields.label b.fields.label a.fields.flags b.fields.flags a.fields.user b.fields.user a.balanced b.balanced
-    (one_label numbers.label a.fields.label b.fields.label p.label q.label) (sym fa ∙ fb) (p.user ∙ sym q.user) (sym ba ∙ bb)
+    same_word a.fields.label b.fields.label a.fields.flags b.fields.flags a.fields.user b.fields.user a.balanced
+    b.balanced
+    (one_label numbers.label a.fields.label b.fields.label p.label q.label) (sym fa ∙ fb) (p.user ∙ sym q.user)
+    (sym ba ∙ bb)
 
 -- the fields that numbers below 64 and a label say
-pub means_read : (numbers : TcWord) (a : Address) (fields : FieldValues) → MeansLabel numbers.label a → numbers.flags < 64
+pub means_read : (numbers : TcWord) (a : Address) (fields : FieldValues) → MeansLabel numbers.label a
+    → numbers.flags < 64
     → fields ≡ field_values a (flags_in numbers.flags) numbers.user
     → agrees a.count (flags_in numbers.flags).drop_frame ≡ true
     → MeansWord numbers (word_with fields (numbers.flags / 32 == 1))

@@ -27,14 +27,7 @@ impl TcLabel {
         ensures only { (a : Address) → MeansLabel self.now a → result ≡ Some a }
     {
         let count = count_of(self.count)?;
-        Label::new(
-            count,
-            self.hours,
-            self.minutes,
-            self.seconds,
-            self.frames,
-        )
-        .ok()
+        Label::new(count, self.hours, self.minutes, self.seconds, self.frames).ok()
     }
 
     /// The numbers of a label.

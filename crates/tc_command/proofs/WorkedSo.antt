@@ -25,7 +25,8 @@ pub reads_worked : {S K : Type 0} (m : Meaning) (left : S → Option (List ℕ))
     → SeesOneEnd (ends source) (ends now) result
     → HasOutCause (pushes_failed out) (pushes_failed out_now) result
     → IsWorked m left ends pulls_failed taken pushes_failed source now out out_now result
-reads_worked m left ends pulls_failed taken pushes_failed source now out out_now result reads came stopped pulled seen pushed =
+reads_worked m left ends pulls_failed taken pushes_failed source now out out_now result reads came stopped pulled seen
+    pushed =
     record {
       ends = came;
       stops = stopped;

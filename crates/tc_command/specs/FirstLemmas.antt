@@ -44,7 +44,8 @@ output_is : (m : Meaning) → IsCommand m → (reads : Bool) → m.reads ≡ rea
     (a whole : List ℕ) → Consumes (Some input) left pulled → IsEnd m left → m.output pulled a → Due m reads input whole
     → a ≡ whole
 output_is m laws true e input pulled left a whole consumed end here output =
-    laws.one_output pulled a whole here (subst (λ l. m.output l whole) (all_at_end input pulled left consumed (end e)) output)
+    laws.one_output pulled a whole here
+    (subst (λ l. m.output l whole) (all_at_end input pulled left consumed (end e)) output)
 output_is m laws false e input pulled left a whole consumed end here output =
     laws.idle_output e pulled a whole here output
 

@@ -16,4 +16,5 @@ status_by _ _ = Refused
 -- the one status of a job on an input where no call fails: a limit of the command's own that is passed comes first
 abbrev pub HasStatus : Meaning → List ℕ → Status → Type 0
 HasStatus m input status =
-    (m.spent input × (status ≡ Limit)) ⊎ ((¬ m.spent input) × (status ≡ status_by (m.verdict input) (m.end_fault input)))
+    (m.spent input × (status ≡ Limit))
+    ⊎ ((¬ m.spent input) × (status ≡ status_by (m.verdict input) (m.end_fault input)))

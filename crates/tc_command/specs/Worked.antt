@@ -13,7 +13,8 @@ pub record IsWorked {S K : Type 0} (m : Meaning) (left : S → Option (List ℕ)
     (taken : K → Option (List ℕ)) (pushes_failed : K → ℕ) (before after : S) (out_before out_after : K)
     (result : Result (Unit {0}) Stop) : Type 0 where
   pub ends : OnOk result (CameToItsEnd m (left before) (left after) (taken out_before) (taken out_after))
-  pub stops : IfErr result (λ stop. StoppedBefore m stop (left before) (left after) (taken out_before) (taken out_after))
+  pub stops : IfErr result
+      (λ stop. StoppedBefore m stop (left before) (left after) (taken out_before) (taken out_after))
   -- by whose fault
   pub source : HasSourceCause (pulls_failed before) (pulls_failed after) result
   pub out : HasOutCause (pushes_failed out_before) (pushes_failed out_after) result

@@ -43,7 +43,8 @@ fn pull_all<E: Engine, S: Source, K: Sink>(
     requires reads { Meaning.reads (E.meaning (E.choice engine.old)) ≡ true }
     ensures ends { OnOk result (CameToItsEnd (E.meaning (E.choice engine.old)) (S.left source.old) (S.left source.new)
         (K.written out.old) (K.written out.new)) }
-    ensures stops { IfErr result (λ stop. StoppedBefore (E.meaning (E.choice engine.old)) stop (S.left source.old) (S.left source.new)
+    ensures stops { IfErr result
+        (λ stop. StoppedBefore (E.meaning (E.choice engine.old)) stop (S.left source.old) (S.left source.new)
         (K.written out.old) (K.written out.new)) }
     ensures source { HasSourceCause (S.faults source.old) (S.faults source.new) result }
     ensures once { SeesOneEnd (S.ends source.old) (S.ends source.new) result }

@@ -106,24 +106,150 @@ few_steps : (system : System) (rate : ℕ) → rate < least_rate_of system
     → AllByRecursion (λ grid. steps_of_cell system rate grid < 14) grids
 few_steps F24 rate low = (
   omega (arith, low),
-  (omega (arith, low), (omega (arith, low), (omega (arith, low), (omega (arith, low), (omega (arith, low),
-  (omega (arith, low), (omega (arith, low), (omega (arith, low), (omega (arith, low), (omega (arith, low),
-  (omega (arith, low), (omega (arith, low), (omega (arith, low), (omega (arith, low), (omega (arith, low),
-  tt)))))))))))))))
+  (
+    omega (arith, low),
+    (
+      omega (arith, low),
+      (
+        omega (arith, low),
+        (
+          omega (arith, low),
+          (
+            omega (arith, low),
+            (
+              omega (arith, low),
+              (
+                omega (arith, low),
+                (
+                  omega (arith, low),
+                  (
+                    omega (arith, low),
+                    (
+                      omega (arith, low),
+                      (
+                        omega (arith, low),
+                        (
+                          omega (arith, low),
+                          (
+                            omega (arith, low),
+                            (
+                              omega (arith, low),
+                              (
+                                omega (arith, low),
+                                tt,
+                              ),
+                            ),
+                          ),
+                        ),
+                      ),
+                    ),
+                  ),
+                ),
+              ),
+            ),
+          ),
+        ),
+      ),
+    ),
+  ),
 )
 few_steps F25 rate low = (
   omega (arith, low),
-  (omega (arith, low), (omega (arith, low), (omega (arith, low), (omega (arith, low), (omega (arith, low),
-  (omega (arith, low), (omega (arith, low), (omega (arith, low), (omega (arith, low), (omega (arith, low),
-  (omega (arith, low), (omega (arith, low), (omega (arith, low), (omega (arith, low), (omega (arith, low),
-  tt)))))))))))))))
+  (
+    omega (arith, low),
+    (
+      omega (arith, low),
+      (
+        omega (arith, low),
+        (
+          omega (arith, low),
+          (
+            omega (arith, low),
+            (
+              omega (arith, low),
+              (
+                omega (arith, low),
+                (
+                  omega (arith, low),
+                  (
+                    omega (arith, low),
+                    (
+                      omega (arith, low),
+                      (
+                        omega (arith, low),
+                        (
+                          omega (arith, low),
+                          (
+                            omega (arith, low),
+                            (
+                              omega (arith, low),
+                              (
+                                omega (arith, low),
+                                tt,
+                              ),
+                            ),
+                          ),
+                        ),
+                      ),
+                    ),
+                  ),
+                ),
+              ),
+            ),
+          ),
+        ),
+      ),
+    ),
+  ),
 )
 few_steps F30 rate low = (
   omega (arith, low),
-  (omega (arith, low), (omega (arith, low), (omega (arith, low), (omega (arith, low), (omega (arith, low),
-  (omega (arith, low), (omega (arith, low), (omega (arith, low), (omega (arith, low), (omega (arith, low),
-  (omega (arith, low), (omega (arith, low), (omega (arith, low), (omega (arith, low), (omega (arith, low),
-  tt)))))))))))))))
+  (
+    omega (arith, low),
+    (
+      omega (arith, low),
+      (
+        omega (arith, low),
+        (
+          omega (arith, low),
+          (
+            omega (arith, low),
+            (
+              omega (arith, low),
+              (
+                omega (arith, low),
+                (
+                  omega (arith, low),
+                  (
+                    omega (arith, low),
+                    (
+                      omega (arith, low),
+                      (
+                        omega (arith, low),
+                        (
+                          omega (arith, low),
+                          (
+                            omega (arith, low),
+                            (
+                              omega (arith, low),
+                              (
+                                omega (arith, low),
+                                tt,
+                              ),
+                            ),
+                          ),
+                        ),
+                      ),
+                    ),
+                  ),
+                ),
+              ),
+            ),
+          ),
+        ),
+      ),
+    ),
+  ),
 )
 
 pub none_below : (t : SlicesTrackPath) (rate : ℕ) → rate < least_rate_of t.system → sound_of t rate ≡ None

@@ -67,13 +67,6 @@ impl TrackPath {
     {
         let grid = grid_for(self.system, rate)?;
         let ticks = step_ticks(TICKS, grid)?;
-        Some(PathSlicing::new(
-            self.system,
-            rate,
-            self.least,
-            TICKS,
-            grid,
-            ticks,
-        ))
+        Some(PathSlicing::new(self.system, rate, self.least, TICKS, grid, ticks))
     }
 }

@@ -16,5 +16,6 @@ pub are_input : (s : LineStriping) → AreReadBack s (made_lines s) → IsInput 
 are_input s back = record {
   verdict = ap (λ (r : Reading). verdict_as Lines r.verdict) back.file;
   unspent = λ spent. spent;
-  end = ap (λ (r : Reading). option_map Lines (if r.is_whole then None else Some (fault.Truncated (length (made_lines s))))) back.file;
+  end = ap (λ (r : Reading). option_map Lines
+      (if r.is_whole then None else Some (fault.Truncated (length (made_lines s))))) back.file;
 }

@@ -38,15 +38,19 @@ use Rattle.signal_commands.specs.WavLtc.{asked_by}
 pub record SoundLaws : Type 0 where
   pub inputs : (bytes : List ℕ) → AreBytes bytes → (recording_of bytes).verdict ≡ good → end_fault_of bytes ≡ None
       → (header : IntervalHeader) × (xs : List ℕ) × IsFile bytes header xs × (length xs ≤ MAX_INTERVALS)
-  pub files : (bytes : List ℕ) (header : IntervalHeader) (xs : List ℕ) → IsFile bytes header xs → length xs ≤ MAX_INTERVALS
-      → (recording_of bytes ≡ record { header = Some header; intervals = xs; verdict = good }) × (end_fault_of bytes ≡ None)
+  pub files : (bytes : List ℕ) (header : IntervalHeader) (xs : List ℕ) → IsFile bytes header xs
+      → length xs ≤ MAX_INTERVALS
+      → (recording_of bytes ≡ record { header = Some header; intervals = xs; verdict = good })
+      × (end_fault_of bytes ≡ None)
   pub samples : (level : ℕ) (xs : List ℕ) → level < 2 ^ 15 → samples_of (bytes_of (sound level xs)) ≡ sound level xs
-  pub apart : (fineness threshold level : ℕ) (xs : List ℕ) → 1 ≤ threshold → threshold ≤ level → AllByRecursion IsInterval xs
+  pub apart : (fineness threshold level : ℕ) (xs : List ℕ) → 1 ≤ threshold → threshold ≤ level
+      → AllByRecursion IsInterval xs
       → distances fineness (Fixed threshold) (sound level xs) ≡ map (λ interval. fineness * interval) xs
   pub sliced : (threshold level : ℕ) (xs : List ℕ) → 1 ≤ threshold → threshold ≤ level → AllByRecursion IsInterval xs
       → intervals 1 (Fixed threshold) (sound level xs) ≡ xs
   pub alone : (samples : List ℤ) → sums 1 samples ≡ samples
-  pub followed : (fineness threshold level : ℕ) (xs : List ℕ) → 1 ≤ threshold → threshold ≤ level → level ≤ 2 * threshold
+  pub followed : (fineness threshold level : ℕ) (xs : List ℕ) → 1 ≤ threshold → threshold ≤ level
+      → level ≤ 2 * threshold
       → AllByRecursion IsInterval xs
       → distances fineness (Follow threshold) (sound level xs) ≡ map (λ interval. fineness * interval) xs
   pub behind : (fineness : ℕ) (threshold : Threshold) (samples : List ℤ)
@@ -58,7 +62,8 @@ for_itself : SoundLaws → (s : Slices) (samples : List ℤ) → s.smooth ≡ 1 
 for_itself laws s samples one ended =
     ap (λ (live : Bool). intervals_at (pace_of live s.system (s.rate * s.fineness)) (settings_for s) samples) ended
     ∙ append-nil (intervals_by (settings_for s) samples)
-    ∙ ap (λ (n : ℕ). intervals s.fineness s.threshold (sums n samples)) one ∙ ap (intervals s.fineness s.threshold) (laws.alone samples)
+    ∙ ap (λ (n : ℕ). intervals s.fineness s.threshold (sums n samples)) one
+    ∙ ap (intervals s.fineness s.threshold) (laws.alone samples)
 
 all_intervals : (xs : List ℕ) → AreIntervals xs → AllByRecursion IsInterval xs
 all_intervals [] are = tt
@@ -76,7 +81,8 @@ file_written w format samples bytes begins are =
 -- the intervals of samples that stand for themselves, from the first one on
 track_intervals : SoundLaws → (w : SlicesWave) (format : WaveFormat) (samples : List ℤ) (t : Threshold)
     → w.smooth ≡ 1 → w.live ≡ false → w.threshold ≡ t
-    → intervals_at (track_pace w format) (track_settings w) samples ≡ flat_map pieces_of (distances_from_start 16 t samples)
+    → intervals_at (track_pace w format) (track_settings w) samples ≡ flat_map pieces_of
+    (distances_from_start 16 t samples)
 track_intervals laws w format samples t one ended is =
     ap (λ (live : Bool). intervals_at (pace_of live w.system (16 * format.rate)) (track_settings w) samples) ended
     ∙ append-nil (intervals_by (track_settings w) samples)
@@ -85,49 +91,59 @@ track_intervals laws w format samples t one ended is =
     ∙ ap (λ (threshold : Threshold). flat_map pieces_of (distances_from_start 16 threshold samples)) is
 
 -- what a track of the sound is sliced into
-behind_the_first : SoundLaws → (level : ℕ) (xs : List ℕ) → AllByRecursion IsInterval xs → (w : SlicesWave) (format : WaveFormat)
+behind_the_first : SoundLaws → (level : ℕ) (xs : List ℕ) → AllByRecursion IsInterval xs
+    → (w : SlicesWave) (format : WaveFormat)
     (made bytes again : List ℕ) → samples_of made ≡ sound level xs → SlicesFileTo level w format made bytes again
     → IsBehindTheFirst (track_header w format) xs again
 behind_the_first laws level xs all w format made bytes again read s =
     let t = Follow s.least in
     let ds = distances_from_start 16 t (sound level xs) in
     let told = s.samples ∙ read in
-    let rest : drop 1 ds ≡ times 16 xs = laws.behind 16 t (sound level xs) ∙ laws.followed 16 s.least level xs s.some s.most s.half all in
+    let rest : drop 1 ds ≡ times 16 xs = laws.behind 16 t (sound level xs)
+    ∙ laws.followed 16 s.least level xs s.some s.most s.half all in
     let split : ds ≡ take 1 ds ++ times 16 xs =
     sym (take-append-drop 1 ds) ∙ ap (λ (l : List ℕ). take 1 ds ++ l) rest in (
       take 1 ds,
       omega (arith, length-take 1 ds),
       s.output
           ∙ file_written w format (sound level xs) bytes s.begins told
-          ∙ ap (file_of (track_header w format)) (track_intervals laws w format (sound level xs) t s.alone s.ended s.follows)
+          ∙ ap (file_of (track_header w format))
+          (track_intervals laws w format (sound level xs) t s.alone s.ended s.follows)
           ∙ ap (λ (l : List ℕ). file_of (track_header w format) (flat_map pieces_of l)) split
           ∙ ap (file_of (track_header w format)) (flat_map-append pieces_of (take 1 ds) (times 16 xs)),
     )
 
 pub sliced_again : SoundLaws → (level : ℕ) → level < 2 ^ 15 → (bytes made : List ℕ) → AreBytes bytes
-    → IsInput (along_intervals (made_sound level)) bytes → IsWholeOf (made_sound level) (recording_of bytes) made → IsSlicedAgain level bytes made
+    → IsInput (along_intervals (made_sound level)) bytes → IsWholeOf (made_sound level) (recording_of bytes) made
+    → IsSlicedAgain level bytes made
 sliced_again laws level below bytes made are input whole =
     let file = laws.inputs bytes are (is_good Intervals _ input.verdict) (ends_whole Intervals _ input.end) in
     let xs = file.1 in
     let all = all_intervals xs file.2.range in
     let said = (laws.files bytes file.0 xs file.2 file.3).0 in
     let same : (recording_of bytes).intervals ≡ xs = ap (λ (r : Recording). r.intervals) said in
-    let sounded : made ≡ bytes_of (sound level xs) = subst (λ (r : Recording). IsWholeOf (made_sound level) r made) said whole in
+    let sounded : made ≡ bytes_of (sound level xs) = subst (λ (r : Recording). IsWholeOf (made_sound level) r made) said
+    whole in
     let read : samples_of made ≡ sound level xs = ap samples_of sounded ∙ laws.samples level xs below in
     let apart : (fineness threshold : ℕ) → 1 ≤ threshold → threshold ≤ level
-    → distances fineness (Fixed threshold) (samples_of made) ≡ times fineness (recording_of bytes).intervals = λ fineness threshold some most.
-    ap (distances fineness (Fixed threshold)) read ∙ laws.apart fineness threshold level xs some most all ∙ ap (times fineness) (sym same) in
+    → distances fineness (Fixed threshold) (samples_of made) ≡ times fineness (recording_of bytes).intervals =
+    λ fineness threshold some most.
+    ap (distances fineness (Fixed threshold)) read ∙ laws.apart fineness threshold level xs some most all
+    ∙ ap (times fineness) (sym same) in
     record {
       apart = apart;
       finer = λ slicing again s.
           s.output
           ∙ ap (file_of (sliced_header slicing)) (for_itself laws slicing (samples_of made) s.alone s.ended)
-          ∙ ap (λ (t : Threshold). file_of (sliced_header slicing) (intervals slicing.fineness t (samples_of made))) s.fixed
-          ∙ ap (λ (l : List ℕ). file_of (sliced_header slicing) (flat_map pieces_of l)) (apart slicing.fineness s.threshold s.some s.most);
+          ∙ ap (λ (t : Threshold). file_of (sliced_header slicing) (intervals slicing.fineness t (samples_of made)))
+          s.fixed
+          ∙ ap (λ (l : List ℕ). file_of (sliced_header slicing) (flat_map pieces_of l))
+          (apart slicing.fineness s.threshold s.some s.most);
       whole = λ slicing again s one.
           s.output
           ∙ ap (file_of (sliced_header slicing)) (for_itself laws slicing (samples_of made) s.alone s.ended)
-          ∙ ap₂ (λ (fineness : ℕ) (t : Threshold). file_of (sliced_header slicing) (intervals fineness t (samples_of made))) one s.fixed
+          ∙ ap₂ (λ (fineness : ℕ) (t : Threshold). file_of (sliced_header slicing)
+          (intervals fineness t (samples_of made))) one s.fixed
           ∙ ap (λ (l : List ℤ). file_of (sliced_header slicing) (intervals 1 (Fixed s.threshold) l)) read
           ∙ ap (file_of (sliced_header slicing)) (laws.sliced s.threshold level xs s.some s.most all ∙ sym same);
       in_a_file = λ w format file again s.

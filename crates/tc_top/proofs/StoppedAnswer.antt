@@ -20,6 +20,7 @@ ends_by job WriteFault e stopped same = record { why = stopped; note = same }
 ends_by job Limit e stopped same = record { why = stopped; note = same }
 
 pub answer_of : (job : Job) → IsCommand (meaning_of job) → (stop : Stop) (e : Exchange)
-    → StopsAlong (meaning_of job) stop e.left e.pulled e.written → e.note ≡ stop_note stop → IsAnswer job (status_of stop) e
+    → StopsAlong (meaning_of job) stop e.left e.pulled e.written → e.note ≡ stop_note stop
+    → IsAnswer job (status_of stop) e
 answer_of job laws stop e stopped same =
     record { ends = ends_by job stop e stopped same; first = first_at_stop (meaning_of job) laws stop e stopped }

@@ -15,7 +15,8 @@ use Rattle.tc_command.specs.Status.{status_of_words}
 
 -- what was read is the task of the words, since want of memory is none
 abbrev TaskOf : List (List ℕ) → Task → Type 0
-TaskOf all task = let answer : Result Task WordsFault = Ok task in (answer ≡ answer_to all) ⊎ (answer ≡ Err (words.Memory alloc_error))
+TaskOf all task = let answer : Result Task WordsFault = Ok task in (answer ≡ answer_to all)
+    ⊎ (answer ≡ Err (words.Memory alloc_error))
 
 pub named : (all : List (List ℕ)) (task : Task) → TaskOf all task → answer_to all ≡ Ok task
 named all task (inl same) = sym same
@@ -39,16 +40,23 @@ same_job all a b first second = ap (job_of a) (same_task all (Stream a) (Stream 
 
 -- a fault is the first of the words, or want of memory
 abbrev FaultOf : List (List ℕ) → WordsFault → Type 0
-FaultOf all fault = let answer : Result Task WordsFault = Err fault in (answer ≡ answer_to all) ⊎ (answer ≡ Err (words.Memory alloc_error))
+FaultOf all fault = let answer : Result Task WordsFault = Err fault in (answer ≡ answer_to all)
+    ⊎ (answer ≡ Err (words.Memory alloc_error))
 
-pub fault_answers : (all : List (List ℕ)) (fault : WordsFault) (left : Option (List ℕ)) (note : List ℕ) → FaultOf all fault
-    → note ≡ usage_note fault → IsRunAnswer all (status_of_words fault) (record { pulled = []; left = left; written = []; note = note })
-fault_answers all (words.Dash place) left note (inl first) same = (words.Dash place, sym first, record { pulled = refl; written = refl; note = same })
+pub fault_answers : (all : List (List ℕ)) (fault : WordsFault) (left : Option (List ℕ)) (note : List ℕ)
+    → FaultOf all fault
+    → note ≡ usage_note fault
+    → IsRunAnswer all (status_of_words fault) (record { pulled = []; left = left; written = []; note = note })
+fault_answers all (words.Dash place) left note (inl first) same =
+    (words.Dash place, sym first, record { pulled = refl; written = refl; note = same })
 fault_answers all (words.Dash place) left note (inr other) same = absurd cc
-fault_answers all words.Command left note (inl first) same = (words.Command, sym first, record { pulled = refl; written = refl; note = same })
+fault_answers all words.Command left note (inl first) same =
+    (words.Command, sym first, record { pulled = refl; written = refl; note = same })
 fault_answers all words.Command left note (inr other) same = absurd cc
-fault_answers all words.CountOfWords left note (inl first) same = (words.CountOfWords, sym first, record { pulled = refl; written = refl; note = same })
+fault_answers all words.CountOfWords left note (inl first) same =
+    (words.CountOfWords, sym first, record { pulled = refl; written = refl; note = same })
 fault_answers all words.CountOfWords left note (inr other) same = absurd cc
-fault_answers all (words.Value place) left note (inl first) same = (words.Value place, sym first, record { pulled = refl; written = refl; note = same })
+fault_answers all (words.Value place) left note (inl first) same =
+    (words.Value place, sym first, record { pulled = refl; written = refl; note = same })
 fault_answers all (words.Value place) left note (inr other) same = absurd cc
 fault_answers all (words.Memory error) left note of same = inl (record { pulled = refl; written = refl; note = same })

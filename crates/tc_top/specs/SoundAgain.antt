@@ -63,7 +63,8 @@ pub record IsSlicedAgain (level : ℕ) (bytes sound : List ℕ) : Type 0 where
   pub apart : (fineness threshold : ℕ) → 1 ≤ threshold → threshold ≤ level
       → distances fineness (Fixed threshold) (samples_of sound) ≡ times fineness (recording_of bytes).intervals
   pub finer : (slicing : Slices) (again : List ℕ) → SlicesTo level slicing sound again
-      → again ≡ file_of (sliced_header slicing) (flat_map pieces_of (times slicing.fineness (recording_of bytes).intervals))
+      → again ≡ file_of (sliced_header slicing)
+      (flat_map pieces_of (times slicing.fineness (recording_of bytes).intervals))
   pub whole : (slicing : Slices) (again : List ℕ) → SlicesTo level slicing sound again → slicing.fineness ≡ 1
       → again ≡ file_of (sliced_header slicing) (recording_of bytes).intervals
   pub in_a_file : (w : SlicesWave) (format : WaveFormat) (file again : List ℕ)

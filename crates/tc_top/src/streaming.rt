@@ -32,8 +32,8 @@ use signal_commands::laws::{
     each_signal_makes_a_command, paths_are_lawful, sliced_sound_is_lawful,
 };
 use signal_commands::{
-    fields_are_lawful, hear_path, hear_track, midi_is_lawful, read_fields, read_midi, slice_sound, slice_track,
-    sliced_tracks_are_lawful,
+    fields_are_lawful, hear_path, hear_track, midi_is_lawful, read_fields, read_midi, slice_sound,
+    slice_track, sliced_tracks_are_lawful,
 };
 use tc_command::{Status, Stop, push_note, stop_note};
 use tc_io::{Sink, Source};

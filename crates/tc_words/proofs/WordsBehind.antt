@@ -1,5 +1,6 @@
 -- Whether the last of some words is `live`.
-use Rattle.std.proofs.Common.{◌≡◌, ◌-◌, ◌<◌, ℕ, Bool, true, false, List, [], ◌∷◌, length, map, get_or, take, ap, refl, sym, arith, ◌∙◌}
+use Rattle.std.proofs.Common.{◌≡◌, ◌-◌, ◌<◌, ℕ, Bool, true, false, List, [], ◌∷◌, length, map, get_or, take, ap, refl}
+use Rattle.std.proofs.Common.{sym, arith, ◌∙◌}
 use Rattle.std.proofs.lemmas.List.{length-map, get_or-map, take-map}
 use Rattle.tc_words.specs.Live.{before_live, ends_live, is_live}
 
@@ -25,6 +26,7 @@ pub all_of : {X : Type 0} (word_of : X → List ℕ) (xs : List X) → false ≡
     → map word_of xs ≡ before_live (map word_of xs)
 all_of word_of xs other = rw (sym other) refl
 
-pub ends_nowhere : {X : Type 0} (word_of : X → List ℕ) (xs : List X) → length xs < 1 → false ≡ ends_live (map word_of xs)
+pub ends_nowhere : {X : Type 0} (word_of : X → List ℕ) (xs : List X) → length xs < 1
+    → false ≡ ends_live (map word_of xs)
 ends_nowhere word_of [] few = refl
 ends_nowhere word_of (x ∷ xs) few = absurd (omega arith)

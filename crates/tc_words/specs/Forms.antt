@@ -18,7 +18,8 @@ samples =
     (codes "BOUND", codes "2") ∷ (codes "CELL", codes "400") ∷ (codes "COUNT", codes "30")
     ∷ (codes "DIRECTION", codes "backward") ∷ (codes "FINENESS", codes "8") ∷ (codes "FRAMES", codes "100")
     ∷ (codes "LABEL", codes "19:47:58:23") ∷ (codes "LENGTH", codes "1728") ∷ (codes "LEVEL", codes "8192")
-    ∷ (codes "LIMIT", codes "3") ∷ (codes "NUMBER", codes "0") ∷ (codes "RATE", codes "48000") ∷ (codes "SEED", codes "53")
+    ∷ (codes "LIMIT", codes "3") ∷ (codes "NUMBER", codes "0") ∷ (codes "RATE", codes "48000")
+    ∷ (codes "SEED", codes "53")
     ∷ (codes "SMOOTH", codes "2") ∷ (codes "STEP", codes "1") ∷ (codes "SYSTEM", codes "30")
     ∷ (codes "THRESHOLD", codes "1000") ∷ (codes "TICK-RATE", codes "1920000") ∷ (codes "TO-CELL", codes "500")
     ∷ (codes "TRACK", codes "1") ∷ (codes "VERSION", codes "2") ∷ (codes "WAY", codes "number")
@@ -54,7 +55,8 @@ Ways = List (List Word)
 abbrev pub then_ways : Ways → Ways → Ways
 then_ways first next = flat_map (λ way. map (λ more. way ++ more) next) first
 
--- what is read of the ways in some brackets: from where it is read on to their end or to a bar, and those behind the bars
+-- what is read of the ways in some brackets: from where it is read on to their end or to a bar, and those behind the
+-- bars
 pub record Part : Type 0 where
   pub ways : Ways
   pub others : Ways

@@ -1,5 +1,6 @@
 -- A number that is written in decimal digits is read as that number. No promise speaks of it.
-use Rattle.std.proofs.Common.{◌≡◌, ℕ, ◌+◌, ◌<◌, ◌≤◌, ◌^◌, ◌%◌, ◌/◌, true, List, [], ◌∷◌, ◌++◌, length, Some, refl, arith, lt-ltb}
+use Rattle.std.proofs.Common.{◌≡◌, ℕ, ◌+◌, ◌<◌, ◌≤◌, ◌^◌, ◌%◌, ◌/◌, true, List, [], ◌∷◌, ◌++◌, length, Some, refl}
+use Rattle.std.proofs.Common.{arith, lt-ltb}
 use Rattle.std.specs.Prelude.{decimal}
 use Rattle.std.specs.Char.{is_ascii_digit}
 use Rattle.std.specs.List.{list_all}
@@ -20,7 +21,8 @@ one_more m ds least all =
 -- what is written are digits
 are_digits : (n : ℕ) → n < 2 ^ 64 → list_all is_ascii_digit (decimal n) ≡ true
 are_digits n small =
-    decimal_by_steps (λ m ds. list_all is_ascii_digit ds ≡ true) (λ m below. rw (digit_is m below) refl) one_more n small
+    decimal_by_steps (λ m ds. list_all is_ascii_digit ds ≡ true) (λ m below. rw (digit_is m below) refl) one_more n
+    small
 
 -- one to twenty of them
 is_written : (n : ℕ) → n < 2 ^ 64 → is_number (decimal n) ≡ true

@@ -1,5 +1,6 @@
 -- The values of `pcm-ltc`, word by word.
-use Rattle.std.specs.Prelude.{ℕ, ◌*◌, nat_le, nat_lt, Bool, codes, List, [], ◌∷◌, length, slice_get, Option, Some, None, Result, Ok, Err}
+use Rattle.std.specs.Prelude.{ℕ, ◌*◌, nat_le, nat_lt, Bool, codes, List, [], ◌∷◌, length, slice_get, Option, Some, None}
+use Rattle.std.specs.Prelude.{Result, Ok, Err}
 use Rattle.std.specs.Prelude.{if◌then◌else◌, option_and_then}
 use Rattle.pcm_front.specs.declared.threshold.Threshold.{Threshold}
 use Rattle.pcm_front.specs.declared.threshold.Threshold.TheVariants.{Fixed, Follow, Deep}
@@ -36,7 +37,8 @@ unfoldable pub following_in : ℕ → Word → Option Threshold
 following_in least word = value_in ((codes "follow", Follow least) ∷ (codes "deep", Deep least) ∷ []) word
 
 -- the job of three words, and of those behind them that are there: so many ticks a sample, a threshold that follows the
--- level, sums of so many samples; no other word may stand there. The last says whether a distance is written as it passes
+-- level, sums of so many samples; no other word may stand there. The last says whether a distance is written as it
+-- passes
 unfoldable pub sliced : Word → Word → Word → List Word → Bool → Result Job WordsFault
 sliced system rate threshold more live =
     value_or 1 (system_in system) (λ s. value_or 2 (between 1 MAX_TICK_RATE rate) (λ r.

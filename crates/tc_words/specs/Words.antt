@@ -77,7 +77,8 @@ ltc_make _ = Err CountOfWords
 -- `ltc-load SEED WORDS`
 unfoldable pub ltc_load : List Word → Result Job WordsFault
 ltc_load (seed ∷ words ∷ []) =
-    value_or 1 (number_spelled seed) (λ s. value_or 2 (between 1 MAX_WORDS words) (λ w. Ok (jobs.LtcLoad (loading_of s w))))
+    value_or 1 (number_spelled seed)
+    (λ s. value_or 2 (between 1 MAX_WORDS words) (λ w. Ok (jobs.LtcLoad (loading_of s w))))
 ltc_load _ = Err CountOfWords
 
 -- `ltc-convert VERSION`
@@ -85,7 +86,8 @@ unfoldable pub ltc_convert : List Word → Result Job WordsFault
 ltc_convert (version ∷ []) = value_or 1 (version_in version) (λ v. Ok (jobs.LtcConvert v))
 ltc_convert _ = Err CountOfWords
 
--- `pcm-ltc SYSTEM RATE THRESHOLD [FINENESS path | [FINENESS [follow|deep [SMOOTH]]] [live]]`: without the last words the ticks are
+-- `pcm-ltc SYSTEM RATE THRESHOLD [FINENESS path | [FINENESS [follow|deep [SMOOTH]]] [live]]`: without the last words
+-- the ticks are
 -- samples, the threshold stays where it is, each sample stands for itself, and a distance is written when it has ended
 unfoldable pub pcm_ltc : List Word → Result Job WordsFault
 pcm_ltc (system ∷ rate ∷ threshold ∷ more) =
@@ -94,7 +96,8 @@ pcm_ltc (system ∷ rate ∷ threshold ∷ more) =
     else sliced system rate threshold (before_live more) (ends_live more)
 pcm_ltc _ = Err CountOfWords
 
--- `wav-ltc SYSTEM TRACK THRESHOLD [path | [SMOOTH [deep]] [live]]`: without the last words each sample stands for itself, the
+-- `wav-ltc SYSTEM TRACK THRESHOLD [path | [SMOOTH [deep]] [live]]`: without the last words each sample stands for
+-- itself, the
 -- threshold is at a half, and a distance is written when it has ended
 unfoldable pub wav_ltc : List Word → Result Job WordsFault
 wav_ltc (system ∷ track ∷ threshold ∷ more) =
@@ -167,7 +170,8 @@ chase _ = Err CountOfWords
 
 -- the command that the first word names, with its values: a job, or a chase
 abbrev pub task_of : Word → List Word → Result Task WordsFault
-task_of command values = if bytes_eq command (codes "chase") then chase values else map_ok Stream (job_of command values)
+task_of command values = if bytes_eq command (codes "chase") then chase values else map_ok Stream
+    (job_of command values)
 
 -- words of which none begins with a dash: the first is the command
 abbrev pub without_dashes : List Word → Result Task WordsFault

@@ -12,6 +12,7 @@ a_day_is_long C25 = omega arith
 a_day_is_long C30 = omega arith
 a_day_is_long Drop30 = omega arith
 
-pub is_shortest : (day from place : ℕ) (slip : ℤ) → 16 < day → HonoursBound slip → moved day from slip ≡ place → IsShortest day from place slip
+pub is_shortest : (day from place : ℕ) (slip : ℤ) → 16 < day → HonoursBound slip → moved day from slip ≡ place
+    → IsShortest day from place slip
 is_shortest day from place slip long bound there =
     record { reaches = there; above = omega (arith, ints, bound); within = omega (arith, ints, bound) }

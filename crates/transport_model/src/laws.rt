@@ -18,7 +18,8 @@ pub fn a_slip_leads_away_from_the_place_that_was_meant()
         → moved (day_of count) (moved (day_of count) position order) slip
         ≡ moved (day_of count) position (order +ℤ slip) }
     ensures way { (count : Count) (position : ℕ) (order slip : ℤ) → HonoursBound slip
-        → IsShortest (day_of count) (moved (day_of count) position order) (moved (day_of count) position (order +ℤ slip)) slip }
+        → IsShortest (day_of count) (moved (day_of count) position order)
+        (moved (day_of count) position (order +ℤ slip)) slip }
 {
     moves_add_up();
 }

@@ -1,5 +1,6 @@
 -- A check behind the line adds one bit to each residue, so it is one number that makes all of them even.
-use Rattle.std.proofs.Common.{◌≡◌, ℕ, ◌+◌, ◌*◌, ◌/◌, ◌%◌, ◌^◌, ◌<◌, Bool, true, List, [], ◌∷◌, ◌++◌, refl, sym, ap, ap₂, ◌∙◌, lit<, arith}
+use Rattle.std.proofs.Common.{◌≡◌, ℕ, ◌+◌, ◌*◌, ◌/◌, ◌%◌, ◌^◌, ◌<◌, Bool, true, List, [], ◌∷◌, ◌++◌, refl, sym, ap, ap₂}
+use Rattle.std.proofs.Common.{◌∙◌, lit<, arith}
 use Rattle.std.specs.Prelude.{◌==◌, ◌&&◌, nat_lt}
 use Rattle.std.specs.List.{filter, range_with_len, list_all}
 use Rattle.std.specs.Int.{bit_at}
@@ -18,10 +19,12 @@ abbrev check_bit : ℕ → ℕ
 check_bit r = (r + 6) % 8
 
 one_in_the_check : (r : ℕ) → r < 8 → bits_of_residue r ≡ before_check r ++ (82 + check_bit r) ∷ []
-one_in_the_check = each_residue (λ r. bits_of_residue r ≡ before_check r ++ (82 + check_bit r) ∷ []) refl refl refl refl refl refl refl refl
+one_in_the_check = each_residue (λ r. bits_of_residue r ≡ before_check r ++ (82 + check_bit r) ∷ []) refl refl refl refl
+    refl refl refl refl
 
 are_before : (r : ℕ) → r < 8 → list_all (λ i. nat_lt i 82) (before_check r) ≡ true
-are_before = each_residue (λ r. list_all (λ i. nat_lt i 82) (before_check r) ≡ true) refl refl refl refl refl refl refl refl
+are_before = each_residue (λ r. list_all (λ i. nat_lt i 82) (before_check r) ≡ true) refl refl refl refl refl refl refl
+    refl
 
 sum_at-last : (b : ℕ → ℕ) (is : List ℕ) (i : ℕ) → sum_at b (is ++ i ∷ []) ≡ sum_at b is + b i
 sum_at-last b [] i = omega arith
@@ -30,7 +33,8 @@ sum_at-last b (j ∷ is) i = let h = sum_at-last b is i in omega (arith, h)
 split_sum : (b : ℕ → ℕ) (all is : List ℕ) (i : ℕ) → all ≡ is ++ i ∷ [] → sum_at b all ≡ sum_at b is + b i
 split_sum b all is i e = ap (sum_at b) e ∙ sum_at-last b is i
 
-same_sum : (b g : ℕ → ℕ) (is : List ℕ) → ((i : ℕ) → i < 82 → b i ≡ g i) → list_all (λ i. nat_lt i 82) is ≡ true → sum_at b is ≡ sum_at g is
+same_sum : (b g : ℕ → ℕ) (is : List ℕ) → ((i : ℕ) → i < 82 → b i ≡ g i) → list_all (λ i. nat_lt i 82) is ≡ true
+    → sum_at b is ≡ sum_at g is
 same_sum b g [] same all = refl
 same_sum b g (i ∷ is) same all =
     let h = and_parts (nat_lt i 82) (list_all (λ i. nat_lt i 82) is) all in
@@ -58,11 +62,13 @@ none_added all before last e none = omega (arith, e, none)
 residue_before : (body r : ℕ) → body < 2 ^ 82 → r < 8 → residue r body ≡ sum_at (bit_at body) (before_check r) % 2
 residue_before body r below lt =
     residue_is_parity r body
-    ∙ none_added (sum_at (bit_at body) (bits_of_residue r)) (sum_at (bit_at body) (before_check r)) (bit_at body (82 + check_bit r))
+    ∙ none_added (sum_at (bit_at body) (bits_of_residue r)) (sum_at (bit_at body) (before_check r))
+    (bit_at body (82 + check_bit r))
     (split_sum (bit_at body) (bits_of_residue r) (before_check r) (82 + check_bit r) (one_in_the_check r lt))
     (bit_at-behind 82 body (82 + check_bit r) below (omega arith))
 
-one_added : (all kept before last check parity : ℕ) → all ≡ kept + last → kept ≡ before → last ≡ check → parity ≡ before % 2 → all % 2 ≡ (parity + check) % 2
+one_added : (all kept before last check parity : ℕ) → all ≡ kept + last → kept ≡ before → last ≡ check
+    → parity ≡ before % 2 → all % 2 ≡ (parity + check) % 2
 one_added all kept before last check parity e same is p = omega (arith, e, same, is, p)
 
 -- the check adds its bit
@@ -71,7 +77,8 @@ pub residue_with_check : (body check r : ℕ) → body < 2 ^ 82 → r < 8
 residue_with_check body check r below lt =
     let whole = body + check * 2 ^ 82 in
     residue_is_parity r whole
-    ∙ one_added (sum_at (bit_at whole) (bits_of_residue r)) (sum_at (bit_at whole) (before_check r)) (sum_at (bit_at body) (before_check r))
+    ∙ one_added (sum_at (bit_at whole) (bits_of_residue r)) (sum_at (bit_at whole) (before_check r))
+    (sum_at (bit_at body) (before_check r))
     (bit_at whole (82 + check_bit r)) (bit_at check (check_bit r)) (residue r body)
     (split_sum (bit_at whole) (bits_of_residue r) (before_check r) (82 + check_bit r) (one_in_the_check r lt))
     (same_sum (bit_at whole) (bit_at body) (before_check r) (λ i h. low_bits body check i below h) (are_before r lt))
@@ -91,7 +98,8 @@ pub check_holds : (body sums : ℕ) → body < 2 ^ 82 → sums < 2 ^ 8 → ((r :
     → (r : ℕ) → r < 8 → residue r (body + (sums / 4 + sums % 4 * 64) * 2 ^ 82) ≡ 0
 check_holds body sums below width are r lt =
     let e = turned_bit sums r width lt ∙ are r lt in
-    residue_with_check body (sums / 4 + sums % 4 * 64) r below lt ∙ ap (λ (n : ℕ). (residue r body + n) % 2) e ∙ doubled (residue r body)
+    residue_with_check body (sums / 4 + sums % 4 * 64) r below lt ∙ ap (λ (n : ℕ). (residue r body + n) % 2) e
+    ∙ doubled (residue r body)
 
 parity_is : (n bit : ℕ) → n < 2 → bit < 2 → (n + bit) % 2 ≡ 0 → bit ≡ n
 parity_is n bit low low' e = omega arith
@@ -100,14 +108,16 @@ residue_below : (r bits : ℕ) → residue r bits < 2
 residue_below r bits = rw (residue_is_parity r bits) (mod_below (sum_at (bit_at bits) (bits_of_residue r)) 2 (lit< tt))
 
 -- a bit of a check that holds is the exclusive or of its residue
-bit_of_check : (body check r : ℕ) → body < 2 ^ 82 → r < 8 → residue r (body + check * 2 ^ 82) ≡ 0 → bit_at check (check_bit r) ≡ residue r body
+bit_of_check : (body check r : ℕ) → body < 2 ^ 82 → r < 8 → residue r (body + check * 2 ^ 82) ≡ 0
+    → bit_at check (check_bit r) ≡ residue r body
 bit_of_check body check r below lt holds =
     parity_is (residue r body) (bit_at check (check_bit r)) (residue_below r body) (bit_at-lt check (check_bit r))
     (sym (residue_with_check body check r below lt) ∙ holds)
 
 -- so there is one check
 pub one_check : (body a b : ℕ) → body < 2 ^ 82 → a < 2 ^ 8 → b < 2 ^ 8
-    → ((r : ℕ) → r < 8 → residue r (body + a * 2 ^ 82) ≡ 0) → ((r : ℕ) → r < 8 → residue r (body + b * 2 ^ 82) ≡ 0) → a ≡ b
+    → ((r : ℕ) → r < 8 → residue r (body + a * 2 ^ 82) ≡ 0) → ((r : ℕ) → r < 8 → residue r (body + b * 2 ^ 82) ≡ 0)
+    → a ≡ b
 one_check body a b below wa wb ha hb =
     same_from_bits_below 8 a b wa wb (λ k lt.
     let r = (k + 2) % 8 in
@@ -133,14 +143,17 @@ made_bit a b c d e f g h la lb lc ld le lf lg lh =
 -- its bits are the exclusive ors of the residues
 check_bits : (body r : ℕ) → r < 8 → bit_at (check_sum body) (check_bit r) ≡ residue r body
 check_bits body r lt =
-    let b = made_bit (residue 2 body) (residue 3 body) (residue 4 body) (residue 5 body) (residue 6 body) (residue 7 body) (residue 0 body) (residue 1 body)
-    (residue_below 2 body) (residue_below 3 body) (residue_below 4 body) (residue_below 5 body) (residue_below 6 body) (residue_below 7 body)
+    let b = made_bit (residue 2 body) (residue 3 body) (residue 4 body) (residue 5 body) (residue 6 body)
+    (residue 7 body) (residue 0 body) (residue 1 body)
+    (residue_below 2 body) (residue_below 3 body) (residue_below 4 body) (residue_below 5 body) (residue_below 6 body)
+    (residue_below 7 body)
     (residue_below 0 body) (residue_below 1 body) in
     each_residue (λ r. bit_at (check_sum body) (check_bit r) ≡ residue r body) b.6 b.7 b.0 b.1 b.2 b.3 b.4 b.5 r lt
 
 pub check_made : (body : ℕ) → body < 2 ^ 82 → (r : ℕ) → r < 8 → residue r (body + check_sum body * 2 ^ 82) ≡ 0
 check_made body below r lt =
-    residue_with_check body (check_sum body) r below lt ∙ ap (λ (n : ℕ). (residue r body + n) % 2) (check_bits body r lt) ∙ doubled (residue r body)
+    residue_with_check body (check_sum body) r below lt
+    ∙ ap (λ (n : ℕ). (residue r body + n) % 2) (check_bits body r lt) ∙ doubled (residue r body)
 
 pub check_less : (body : ℕ) → check_sum body < 2 ^ 8
 check_less body =

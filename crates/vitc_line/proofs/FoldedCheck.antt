@@ -1,6 +1,7 @@
 -- An exclusive or of bits is the parity of their sum. To fold a line in two keeps the parity of each
 -- residue, and a check behind the line adds one bit to each.
-use Rattle.std.proofs.Common.{◌≡◌, ℕ, zero, suc, ◌+◌, ◌/◌, ◌%◌, ◌^◌, ◌<◌, ◌≤◌, List, [], ◌∷◌, map, refl, sym, ap, ◌∙◌, lit<, arith}
+use Rattle.std.proofs.Common.{◌≡◌, ℕ, zero, suc, ◌+◌, ◌/◌, ◌%◌, ◌^◌, ◌<◌, ◌≤◌, List, [], ◌∷◌, map, refl, sym, ap, ◌∙◌}
+use Rattle.std.proofs.Common.{lit<, arith}
 use Rattle.std.specs.Prelude.{bit_xor}
 use Rattle.std.specs.Int.{bit_at}
 use Rattle.std.proofs.Math.Nat.{div-eq_of_lt}
@@ -82,7 +83,8 @@ bit_at-in_eight n i =
 bit_at-in_sixteen : (n i : ℕ) → bit_at (in_two 8 (in_eight n)) i ≡ sixteen (bit_at n) i % 2
 bit_at-in_sixteen n i =
     bit_at-in_two 8 (in_eight n) i
-    ∙ parity_of_two (four (bit_at n) i + four (bit_at n) (16 + i)) (four (bit_at n) (8 + i) + four (bit_at n) (16 + (8 + i))) _ _
+    ∙ parity_of_two (four (bit_at n) i + four (bit_at n) (16 + i))
+    (four (bit_at n) (8 + i) + four (bit_at n) (16 + (8 + i))) _ _
     (bit_at-in_eight n i) (bit_at-in_eight n (8 + i))
 
 -- bits behind the line are 0
@@ -103,23 +105,32 @@ first_eleven : (a b c d e f g h i j k l m n o p : ℕ) → l ≡ 0 → m ≡ 0 �
     ≡ a + (b + (c + (d + (e + (f + (g + (h + (i + (j + (k + 0))))))))))
 first_eleven a b c d e f g h i j k l m n o p zl zm zn zo zp = omega arith
 
-sixteen_are_all : (b : ℕ → ℕ) → ((i : ℕ) → 90 ≤ i → b i ≡ 0) → (r : ℕ) → r < 8 → sixteen b r ≡ sum_at b (bits_of_residue r)
+sixteen_are_all : (b : ℕ → ℕ) → ((i : ℕ) → 90 ≤ i → b i ≡ 0) → (r : ℕ) → r < 8
+    → sixteen b r ≡ sum_at b (bits_of_residue r)
 sixteen_are_all b behind = each_residue (λ r. sixteen b r ≡ sum_at b (bits_of_residue r))
-    (first_twelve (b 0) (b 8) (b 16) (b 24) (b 32) (b 40) (b 48) (b 56) (b 64) (b 72) (b 80) (b 88) (b 96) (b 104) (b 112) (b 120)
+    (first_twelve (b 0) (b 8) (b 16) (b 24) (b 32) (b 40) (b 48) (b 56) (b 64) (b 72) (b 80) (b 88) (b 96) (b 104)
+    (b 112) (b 120)
     (behind 96 (lit< tt)) (behind 104 (lit< tt)) (behind 112 (lit< tt)) (behind 120 (lit< tt)))
-    (first_twelve (b 1) (b 9) (b 17) (b 25) (b 33) (b 41) (b 49) (b 57) (b 65) (b 73) (b 81) (b 89) (b 97) (b 105) (b 113) (b 121)
+    (first_twelve (b 1) (b 9) (b 17) (b 25) (b 33) (b 41) (b 49) (b 57) (b 65) (b 73) (b 81) (b 89) (b 97) (b 105)
+    (b 113) (b 121)
     (behind 97 (lit< tt)) (behind 105 (lit< tt)) (behind 113 (lit< tt)) (behind 121 (lit< tt)))
-    (first_eleven (b 2) (b 10) (b 18) (b 26) (b 34) (b 42) (b 50) (b 58) (b 66) (b 74) (b 82) (b 90) (b 98) (b 106) (b 114) (b 122)
+    (first_eleven (b 2) (b 10) (b 18) (b 26) (b 34) (b 42) (b 50) (b 58) (b 66) (b 74) (b 82) (b 90) (b 98) (b 106)
+    (b 114) (b 122)
     (behind 90 (lit< tt)) (behind 98 (lit< tt)) (behind 106 (lit< tt)) (behind 114 (lit< tt)) (behind 122 (lit< tt)))
-    (first_eleven (b 3) (b 11) (b 19) (b 27) (b 35) (b 43) (b 51) (b 59) (b 67) (b 75) (b 83) (b 91) (b 99) (b 107) (b 115) (b 123)
+    (first_eleven (b 3) (b 11) (b 19) (b 27) (b 35) (b 43) (b 51) (b 59) (b 67) (b 75) (b 83) (b 91) (b 99) (b 107)
+    (b 115) (b 123)
     (behind 91 (lit< tt)) (behind 99 (lit< tt)) (behind 107 (lit< tt)) (behind 115 (lit< tt)) (behind 123 (lit< tt)))
-    (first_eleven (b 4) (b 12) (b 20) (b 28) (b 36) (b 44) (b 52) (b 60) (b 68) (b 76) (b 84) (b 92) (b 100) (b 108) (b 116) (b 124)
+    (first_eleven (b 4) (b 12) (b 20) (b 28) (b 36) (b 44) (b 52) (b 60) (b 68) (b 76) (b 84) (b 92) (b 100) (b 108)
+    (b 116) (b 124)
     (behind 92 (lit< tt)) (behind 100 (lit< tt)) (behind 108 (lit< tt)) (behind 116 (lit< tt)) (behind 124 (lit< tt)))
-    (first_eleven (b 5) (b 13) (b 21) (b 29) (b 37) (b 45) (b 53) (b 61) (b 69) (b 77) (b 85) (b 93) (b 101) (b 109) (b 117) (b 125)
+    (first_eleven (b 5) (b 13) (b 21) (b 29) (b 37) (b 45) (b 53) (b 61) (b 69) (b 77) (b 85) (b 93) (b 101) (b 109)
+    (b 117) (b 125)
     (behind 93 (lit< tt)) (behind 101 (lit< tt)) (behind 109 (lit< tt)) (behind 117 (lit< tt)) (behind 125 (lit< tt)))
-    (first_eleven (b 6) (b 14) (b 22) (b 30) (b 38) (b 46) (b 54) (b 62) (b 70) (b 78) (b 86) (b 94) (b 102) (b 110) (b 118) (b 126)
+    (first_eleven (b 6) (b 14) (b 22) (b 30) (b 38) (b 46) (b 54) (b 62) (b 70) (b 78) (b 86) (b 94) (b 102) (b 110)
+    (b 118) (b 126)
     (behind 94 (lit< tt)) (behind 102 (lit< tt)) (behind 110 (lit< tt)) (behind 118 (lit< tt)) (behind 126 (lit< tt)))
-    (first_eleven (b 7) (b 15) (b 23) (b 31) (b 39) (b 47) (b 55) (b 63) (b 71) (b 79) (b 87) (b 95) (b 103) (b 111) (b 119) (b 127)
+    (first_eleven (b 7) (b 15) (b 23) (b 31) (b 39) (b 47) (b 55) (b 63) (b 71) (b 79) (b 87) (b 95) (b 103) (b 111)
+    (b 119) (b 127)
     (behind 95 (lit< tt)) (behind 103 (lit< tt)) (behind 111 (lit< tt)) (behind 119 (lit< tt)) (behind 127 (lit< tt)))
 
 -- the folded line, as a number of eight bits

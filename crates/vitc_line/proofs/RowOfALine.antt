@@ -43,7 +43,8 @@ row_is exact F30 c mark check label low =
 
 -- the sum of a line's numbers has each of them in its place
 pub stands : SumHolds → AreExact → (word : VitcWord) (check : ℕ) → IsFields word.fields → check < 2 ^ 8
-    → Holds (row_with (system_with word.fields.label.count) word.fields word.field_mark check) (bits_with word check) × (bits_with word check < 2 ^ 90)
+    → Holds (row_with (system_with word.fields.label.count) word.fields word.field_mark check) (bits_with word check)
+    × (bits_with word check < 2 ^ 90)
 stands law exact word check valid low =
     law 90 (row_with (system_with word.fields.label.count) word.fields word.field_mark check)
     (row_is exact (system_with word.fields.label.count) word.fields word.field_mark check valid.label low)
@@ -65,7 +66,8 @@ spelled_by : AreExact → (word : VitcWord) (check bits : ℕ) → IsFields word
     → ((r : ℕ) → r < 8 → residue r bits ≡ 0)
     → Holds (row_with (system_with word.fields.label.count) word.fields word.field_mark check) bits
     → Spells (system_with word.fields.label.count) word bits
-spelled_by exact word check bits valid eight width holds (number, (mark, (s0, (s1, (s2, (s3, (s4, (s5, (s6, (s7, (s8, rest))))))))))) =
+spelled_by exact word check bits valid eight width holds
+    (number, (mark, (s0, (s1, (s2, (s3, (s4, (s5, (s6, (s7, (s8, rest))))))))))) =
     let system = system_with word.fields.label.count in
     let f = exact.held (table_of system) word.fields bits eight rest in
     record {

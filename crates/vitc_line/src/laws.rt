@@ -94,7 +94,8 @@ pub fn each_word_has_its_line()
 /// Lines that spell a label of nothing but zeros: the ones are those of the sync pairs, of the field
 /// mark and of the check.
 pub fn lines_of_a_round_label()
-    ensures zero_at_30 { Spells F30 (word_with C30 0 0 0 0 (flags false false false false false) 0 false) 0x10100401004010040100401 }
+    ensures zero_at_30 { Spells F30 (word_with C30 0 0 0 0 (flags false false false false false) 0 false)
+        0x10100401004010040100401 }
     ensures second_field_at_30 { Spells F30 (word_with C30 0 0 0 0 (flags false false false false false) 0 true) 0x10900401004010840100401 }
     ensures second_field_at_25 { Spells F25 (word_with C25 0 0 0 0 (flags false false false false false) 0 true) 0x10908401004010040100401 }
 {
@@ -105,12 +106,18 @@ pub fn lines_of_a_round_label()
 /// worked out from it by hand. In the three lines of a system no two of the flags and the mark are set
 /// alike.
 pub fn lines_worked_out_by_hand()
-    ensures first_at_25 { Spells F25 (word_with C25 19 47 58 23 (flags true false true false false) 0xfce0ba6d true) 0x265f9725e441dbd6a16674d }
-    ensures second_at_25 { Spells F25 (word_with C25 19 47 58 23 (flags false true false true false) 0xfce0ba6d true) 0x2a9fd725e441db56a16a74d }
-    ensures third_at_25 { Spells F25 (word_with C25 19 47 58 23 (flags true true false false true) 0xfce0ba6d false) 0x265f1725ec41db56a16e74d }
-    ensures first_at_30 { Spells F30 (word_with Drop30 19 47 58 23 (flags true false true false false) 0xfce0ba6d true) 0x2edf1725ec41dbd6a16674d }
-    ensures second_at_30 { Spells F30 (word_with C30 19 47 58 23 (flags false true false true false) 0xfce0ba6d true) 0x2a9f5725e441dbd6a16a74d }
-    ensures third_at_30 { Spells F30 (word_with Drop30 19 47 58 23 (flags true true false false true) 0xfce0ba6d false) 0x2edf9725e441db56a16e74d }
+    ensures first_at_25 { Spells F25 (word_with C25 19 47 58 23 (flags true false true false false) 0xfce0ba6d true)
+        0x265f9725e441dbd6a16674d }
+    ensures second_at_25 { Spells F25 (word_with C25 19 47 58 23 (flags false true false true false) 0xfce0ba6d true)
+        0x2a9fd725e441db56a16a74d }
+    ensures third_at_25 { Spells F25 (word_with C25 19 47 58 23 (flags true true false false true) 0xfce0ba6d false)
+        0x265f1725ec41db56a16e74d }
+    ensures first_at_30 { Spells F30 (word_with Drop30 19 47 58 23 (flags true false true false false) 0xfce0ba6d true)
+        0x2edf1725ec41dbd6a16674d }
+    ensures second_at_30 { Spells F30 (word_with C30 19 47 58 23 (flags false true false true false) 0xfce0ba6d true)
+        0x2a9f5725e441dbd6a16a74d }
+    ensures third_at_30 { Spells F30 (word_with Drop30 19 47 58 23 (flags true true false false true) 0xfce0ba6d false)
+        0x2edf9725e441db56a16e74d }
 {
     fields_are_exact();
 }

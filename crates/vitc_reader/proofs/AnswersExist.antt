@@ -1,5 +1,7 @@
--- Runs stand for bits or have a first fault, and bits spell a word or have one, so each line says something, and the lines of a field have an answer.
-use Rattle.std.proofs.Common.{◌≡◌, ◌⊎◌, ℕ, zero, suc, ◌+◌, ◌-◌, ◌*◌, ◌^◌, ◌<◌, ◌≤◌, Bool, true, false, not, List, [], ◌∷◌, ◌++◌, length, get_or}
+-- Runs stand for bits or have a first fault, and bits spell a word or have one, so each line says something, and the
+-- lines of a field have an answer.
+use Rattle.std.proofs.Common.{◌≡◌, ◌⊎◌, ℕ, zero, suc, ◌+◌, ◌-◌, ◌*◌, ◌^◌, ◌<◌, ◌≤◌, Bool, true, false, not, List, []}
+use Rattle.std.proofs.Common.{◌∷◌, ◌++◌, length, get_or}
 use Rattle.std.proofs.Common.{Result, Ok, Err, Some, refl, subst, inl, inr, append_assoc, append-nil, arith}
 use Rattle.std.proofs.lemmas.Bool.{cases_lt}
 use Rattle.tc_address.specs.declared.system.System.{System}
@@ -34,13 +36,19 @@ a_number_or_none n r some = elim (cases_lt (nearest n r) 1) [
 
 -- they stand for bits of a line, or have a first fault
 abbrev StandOrAreFaulty : ℕ → List ℕ → Type 0
-StandOrAreFaulty n runs = ((bits : ℕ) × StandFor n runs bits × (bits < 2 ^ 90)) ⊎ ((fault : RunFault) × IsRunFault n runs fault)
+StandOrAreFaulty n runs = ((bits : ℕ) × StandFor n runs bits × (bits < 2 ^ 90))
+    ⊎ ((fault : RunFault) × IsRunFault n runs fault)
 
 -- behind the runs so far there are so many left
 read_on : (n : ℕ) (runs : List ℕ) (left i bits cells : ℕ) (is_high : Bool) → 1 ≤ n → left + i ≡ length runs
     → ReadSoFar n runs i bits cells is_high → StandOrAreFaulty n runs
 read_on n runs zero i bits cells is_high some all s =
-    inl (bits, stands n runs i bits cells is_high s (omega (arith, all)), below_ninety bits cells (bits_below n runs i bits cells is_high s) s.few)
+    inl (
+      bits,
+      stands n runs i bits cells is_high s (omega (arith, all)),
+      below_ninety bits cells
+          (bits_below n runs i bits cells is_high s) s.few,
+    )
 read_on n runs (suc left) i bits cells is_high some all s =
     let there : i < length runs = omega (arith, all) in
     elim (a_number_or_none n (get_or runs i 0) some) [
@@ -66,7 +74,8 @@ abbrev pub SpellOrAreFaulty : Type 0
 SpellOrAreFaulty = (system : System) (bits : ℕ) → bits < 2 ^ 90
     → ((word : VitcWord) × Spells system word bits) ⊎ ((fault : LineFault) × (first_fault system bits ≡ Some fault))
 
-a_line_says : SpellOrAreFaulty → (system : System) (n : ℕ) (line : List ℕ) → 1 ≤ n → (said : Result VitcWord ReadFault) × IsSaid system n line said
+a_line_says : SpellOrAreFaulty → (system : System) (n : ℕ) (line : List ℕ) → 1 ≤ n → (said : Result VitcWord ReadFault)
+    × IsSaid system n line said
 a_line_says spell system n line some = elim (stand_or_faulty n line some) [
   | inr is ↦ (Err (Runs is.0), is.1)
   | inl stand ↦ elim (spell system stand.0 stand.2) [
@@ -86,14 +95,16 @@ lines_say spell system n (line ∷ lines) some =
 -- ---- an answer
 
 -- behind an answer to what was said before
-with_word : (before : List (Result VitcWord ReadFault)) (first word : VitcWord) → IsAnswerTo before (Agreed first) → (same : Bool)
+with_word : (before : List (Result VitcWord ReadFault)) (first word : VitcWord) → IsAnswerTo before (Agreed first)
+    → (same : Bool)
     → same_parts word first ≡ same → (answer : FieldAnswer) × IsAnswerTo (before ++ Ok word ∷ []) answer
 with_word before first word is true same = (Agreed first, same_word before first word (parts_same word first same) is)
 with_word before first word is false other =
     let differs : word ≡ first → ⊥ = λ same. let parts = same_have_parts word first same in absurd cc in
     (Conflict first word, other_word before first word differs is)
 
-with_said : (before : List (Result VitcWord ReadFault)) (answer : FieldAnswer) → IsAnswerTo before answer → (said : Result VitcWord ReadFault)
+with_said : (before : List (Result VitcWord ReadFault)) (answer : FieldAnswer) → IsAnswerTo before answer
+    → (said : Result VitcWord ReadFault)
     → (next : FieldAnswer) × IsAnswerTo (before ++ said ∷ []) next
 with_said before NoLine is (Ok word) = (Agreed word, rw is ([], refl, tt))
 with_said before NoLine is (Err fault) = (Nothing fault, rw is ([], refl, refl))
@@ -103,15 +114,20 @@ with_said before (Agreed first) is (Ok word) = with_word before first word is (s
 with_said before (Agreed first) is (Err fault) = (Agreed first, agreed_still before first fault is)
 with_said before (Conflict first other) is said = (Conflict first other, conflict_whatever before first other said is)
 
-with_all : (before : List (Result VitcWord ReadFault)) (answer : FieldAnswer) → IsAnswerTo before answer → (said : List (Result VitcWord ReadFault))
+with_all : (before : List (Result VitcWord ReadFault)) (answer : FieldAnswer) → IsAnswerTo before answer
+    → (said : List (Result VitcWord ReadFault))
     → (all : FieldAnswer) × IsAnswerTo (before ++ said) all
 with_all before answer is [] = (answer, rw (append-nil before) is)
 with_all before answer is (one ∷ said) =
     let next = with_said before answer is one in
-    let all = with_all (before ++ one ∷ []) next.0 next.1 said in
-    (all.0, subst (λ (l : List (Result VitcWord ReadFault)). IsAnswerTo l all.0) (append_assoc before (one ∷ []) said) all.1)
+    let all = with_all (before ++ one ∷ []) next.0 next.1 said in (
+      all.0,
+      subst (λ (l : List (Result VitcWord ReadFault)). IsAnswerTo l all.0) (append_assoc before (one ∷ []) said)
+          all.1,
+    )
 
-pub an_answer : SpellOrAreFaulty → (system : System) (n : ℕ) (lines : List (List ℕ)) → 1 ≤ n → (answer : FieldAnswer) × IsAnswer system n lines answer
+pub an_answer : SpellOrAreFaulty → (system : System) (n : ℕ) (lines : List (List ℕ)) → 1 ≤ n → (answer : FieldAnswer)
+    × IsAnswer system n lines answer
 an_answer spell system n lines some =
     let said = lines_say spell system n lines some in
     let answer = with_all [] NoLine refl said.0 in

@@ -1,5 +1,6 @@
 -- A run behind the others adds its bits above theirs.
-use Rattle.std.proofs.Common.{◌≡◌, ℕ, ◌+◌, ◌*◌, ◌%◌, ◌^◌, ◌<◌, Bool, true, false, not, List, [], ◌∷◌, ◌++◌, length, refl, arith}
+use Rattle.std.proofs.Common.{◌≡◌, ℕ, ◌+◌, ◌*◌, ◌%◌, ◌^◌, ◌<◌, Bool, true, false, not, List, [], ◌∷◌, ◌++◌, length}
+use Rattle.std.proofs.Common.{refl, arith}
 use Rattle.std.proofs.lemmas.Nat.{pow-add, pow_pos, mul-add-lt}
 use Rattle.vitc_reader.specs.Runs.{total, bits_of_run, bits_of}
 
@@ -8,7 +9,8 @@ abbrev pub level_after : Bool → List ℕ → Bool
 level_after level [] = level
 level_after level (k ∷ cells) = level_after (not level) cells
 
-pub level_after-last : (level : Bool) (cells : List ℕ) (k : ℕ) → level_after level (cells ++ k ∷ []) ≡ not (level_after level cells)
+pub level_after-last : (level : Bool) (cells : List ℕ) (k : ℕ)
+    → level_after level (cells ++ k ∷ []) ≡ not (level_after level cells)
 level_after-last level [] k = refl
 level_after-last level (j ∷ cells) k = level_after-last (not level) cells k
 
@@ -20,7 +22,8 @@ pub bits_of-last : (level : Bool) (cells : List ℕ) (k : ℕ)
 bits_of-last level [] k = omega arith
 bits_of-last level (j ∷ cells) k =
     let rest = bits_of-last (not level) cells k in
-    let e = run_and_rest (bits_of_run level j) j (bits_of (not level) cells) (bits_of_run (level_after (not level) cells) k) (total cells) in
+    let e = run_and_rest (bits_of_run level j) j (bits_of (not level) cells)
+    (bits_of_run (level_after (not level) cells) k) (total cells) in
     rw rest e
 
 bits_of_run_below : (level : Bool) (k : ℕ) → bits_of_run level k < 2 ^ k
@@ -34,14 +37,16 @@ bits_of_below level (k ∷ cells) =
     let here = bits_of_run_below level k in
     let h = mul-add-lt (bits_of (not level) cells) (2 ^ k) (bits_of_run level k) (2 ^ total cells) rest here in
     let e = pow-add 2 k (total cells) in
-    let swap : bits_of (not level) cells * 2 ^ k + bits_of_run level k ≡ bits_of_run level k + 2 ^ k * bits_of (not level) cells = grind arith in
+    let swap : bits_of (not level) cells * 2 ^ k + bits_of_run level k ≡ bits_of_run level k + 2 ^ k * bits_of
+    (not level) cells = grind arith in
     rw (← swap, e) h
 
 digit : Bool → ℕ
 digit true = 1
 digit false = 0
 
-next_parity : (level : Bool) (n : ℕ) (after : Bool) → (digit (not level) + n) % 2 ≡ digit after → (digit level + (n + 1)) % 2 ≡ digit after
+next_parity : (level : Bool) (n : ℕ) (after : Bool) → (digit (not level) + n) % 2 ≡ digit after
+    → (digit level + (n + 1)) % 2 ≡ digit after
 unfolding digit
 next_parity true n after e = omega (arith, e)
 next_parity false n after e = omega (arith, e)
@@ -58,4 +63,5 @@ parity_of_runs level (k ∷ cells) =
 -- after an odd number of runs the level is low
 pub odd_runs : (cells : List ℕ) → level_after true cells ≡ false → length cells % 2 ≡ 1
 unfolding digit
-odd_runs cells low = let h = parity_of_runs true cells in let h' : (1 + length cells) % 2 ≡ digit false = rw low at h in omega (arith, h')
+odd_runs cells low = let h = parity_of_runs true cells in let h' : (1 + length cells) % 2 ≡ digit false = rw low at h in
+    omega (arith, h')

@@ -10,7 +10,8 @@ use Rattle.lemmas.specs.Quotients.{behind, by_product}
 -- on a line of n ticks
 pub by_factor : (n x : ℕ) → 1 ≤ n → n ≤ 65535 → x < 2 ^ 25 → x * (2 ^ 43 / (4 * n) + 1) / 2 ^ 43 ≡ x / (4 * n)
 by_factor n x some most small =
-    let room : (x + 1) * (4 * n) ≤ 2 ^ 25 * 2 ^ 18 = mul-le (x + 1) (4 * n) (2 ^ 25) (2 ^ 18) (omega (arith, small)) (omega (arith, most)) in
+    let room : (x + 1) * (4 * n) ≤ 2 ^ 25 * 2 ^ 18 = mul-le (x + 1) (4 * n) (2 ^ 25) (2 ^ 18) (omega (arith, small))
+    (omega (arith, most)) in
     by_product (2 ^ 43) x (4 * n) (omega (arith, some)) room
 
 -- ---- what is left of the division, in the lower part of the product
@@ -27,7 +28,8 @@ a_factor n some most =
     let low = div-mul-le_self (2 ^ 43) d in
     let high = behind (2 ^ 43) d (omega (arith, some)) in
     let e : (2 ^ 43 / d + 1) * d ≡ 2 ^ 43 / d * d + d = grind arith in
-    let few : (2 ^ 43 / d + 1) * d ≤ (2 ^ 43 / d + 1) * 2 ^ 18 = mul-le (2 ^ 43 / d + 1) d (2 ^ 43 / d + 1) (2 ^ 18) (omega arith) (omega (arith, most)) in
+    let few : (2 ^ 43 / d + 1) * d ≤ (2 ^ 43 / d + 1) * 2 ^ 18 = mul-le (2 ^ 43 / d + 1) d (2 ^ 43 / d + 1) (2 ^ 18)
+    (omega arith) (omega (arith, most)) in
     record { least = omega (arith, high); most = omega (arith, low, e); great = omega (arith, high, few) }
 
 -- the product is the quotient's multiple of p, and what is left of it
@@ -47,7 +49,8 @@ left_over p x d q r m e is split quotient =
 at_most : (h r m q e f : ℕ) → f ≡ q * e + r * m → f < (h + 1) * m → r ≤ h
 at_most h r m q e f is below =
     elim (cases_lt h r) [
-      | inl lt ↦ let more : (h + 1) * m ≤ r * m = mul-le (h + 1) m r m (omega (arith, lt)) (omega arith) in absurd (omega (arith, is, below, more))
+      | inl lt ↦ let more : (h + 1) * m ≤ r * m = mul-le (h + 1) m r m (omega (arith, lt)) (omega arith) in
+          absurd (omega (arith, is, below, more))
       | inr le ↦ le
     ]
 
@@ -65,7 +68,8 @@ scaled : (x m s : ℕ) → x * (m * s) ≡ x * m * s
 scaled x m s = grind arith
 
 scaled_div : (p x m s : ℕ) → 1 ≤ s → x * (m * s) / (p * s) ≡ x * m / p
-scaled_div p x m s some = ap (λ (y : ℕ). y / (p * s)) (scaled x m s) ∙ mul-div-mul_right {m = s} (x * m) p (omega (arith, some))
+scaled_div p x m s some = ap (λ (y : ℕ). y / (p * s)) (scaled x m s)
+    ∙ mul-div-mul_right {m = s} (x * m) p (omega (arith, some))
 
 scaled_mod : (p x m s : ℕ) → 1 ≤ s → x * (m * s) % (p * s) ≡ x * m % p * s
 scaled_mod p x m s some =
@@ -103,18 +107,22 @@ le_scaled a b s some le =
     ]
 
 halved_by : (p s n x m e q r : ℕ) → 1 ≤ s → m * (4 * n) ≡ p + e → x ≡ q * (4 * n) + r → x * m / p ≡ q → q * e < m
-    → (x * (m * s) / (p * s) ≡ q) × (x * (m * s) % (p * s) < (2 * n + 1) * (m * s) → r ≤ 2 * n) × ((2 * n + 1) * (m * s) ≤ x * (m * s) % (p * s) → 2 * n < r)
+    → (x * (m * s) / (p * s) ≡ q) × (x * (m * s) % (p * s) < (2 * n + 1) * (m * s) → r ≤ 2 * n)
+    × ((2 * n + 1) * (m * s) ≤ x * (m * s) % (p * s) → 2 * n < r)
 halved_by p s n x m e q r some is split quotient small =
     let left = left_over p x (4 * n) q r m e is split quotient in
     let rest = scaled_mod p x m s some in
     let half = scaled (2 * n + 1) m s in (
       scaled_div p x m s some ∙ quotient,
-      (λ below. at_most (2 * n) r m q e (x * m % p) left (less_scaled (x * m % p) ((2 * n + 1) * m) s (rw (rest, half) at below))),
-      (λ far. above (2 * n) r m q e (x * m % p) left small (le_scaled ((2 * n + 1) * m) (x * m % p) s some (rw (rest, half) at far))),
+      (λ below. at_most (2 * n) r m q e (x * m % p) left
+          (less_scaled (x * m % p) ((2 * n + 1) * m) s (rw (rest, half) at below))),
+      (λ far. above (2 * n) r m q e (x * m % p) left small
+          (le_scaled ((2 * n + 1) * m) (x * m % p) s some (rw (rest, half) at far))),
     )
 
 little : (q e d x m : ℕ) → e ≤ d → q * d ≤ x → x < m → q * e < m
-little q e d x m le within lt = let more : q * e ≤ q * d = mul-le q e q d (omega arith) le in omega (arith, more, within, lt)
+little q e d x m le within lt = let more : q * e ≤ q * d = mul-le q e q d (omega arith) le in
+    omega (arith, more, within, lt)
 
 split_by : (n x q : ℕ) → q * (4 * n) ≤ x → x ≡ q * (4 * n) + (x - 4 * (q * n))
 split_by n x q le = let e : q * (4 * n) ≡ 4 * (q * n) = grind arith in omega (arith, le, e)
@@ -130,7 +138,8 @@ halved n x some most small =
     let within = div-mul-le_self x (4 * n) in
     let e = m * (4 * n) - 2 ^ 43 in
     let is : m * (4 * n) ≡ 2 ^ 43 + e = omega (arith, least) in
-    let h = halved_by (2 ^ 43) (2 ^ 21) n x m e q (x - 4 * (q * n)) (omega arith) is (split_by n x q within) (by_factor n x some most small)
+    let h = halved_by (2 ^ 43) (2 ^ 21) n x m e q (x - 4 * (q * n)) (omega arith) is (split_by n x q within)
+    (by_factor n x some most small)
     (little q e (4 * n) x m (omega (arith, greatest)) within (omega (arith, small, great))) in
     record { quotient = h.0; at_most = h.1; above = h.2 }
 
@@ -141,9 +150,11 @@ halved_on n x m some most small is = rw is (halved n x some most small)
 pub half_fits : (n m : ℕ) → n ≤ 65535 → m ≡ (2 ^ 43 / (4 * n) + 1) * 2 ^ 21 → m ≤ 2 ^ 54 → (2 * n + 1) * m < 2 ^ 64
 half_fits n m most is few =
     let a : (2 ^ 43 / (4 * n) + 1) * (4 * n) ≤ 2 ^ 43 + 4 * n =
-    let low = div-mul-le_self (2 ^ 43) (4 * n) in let e : (2 ^ 43 / (4 * n) + 1) * (4 * n) ≡ 2 ^ 43 / (4 * n) * (4 * n) + 4 * n = grind arith
+    let low = div-mul-le_self (2 ^ 43) (4 * n) in let e : (2 ^ 43 / (4 * n) + 1) * (4 * n) ≡ 2 ^ 43 / (4 * n) * (4 * n)
+    + 4 * n = grind arith
     in omega (arith, low, e) in
-    let b : m * (4 * n) ≡ (2 ^ 43 / (4 * n) + 1) * (4 * n) * 2 ^ 21 = ap (λ (y : ℕ). y * (4 * n)) is ∙ turned_round (2 ^ 43 / (4 * n) + 1) (2 ^ 21) (4 * n) in
+    let b : m * (4 * n) ≡ (2 ^ 43 / (4 * n) + 1) * (4 * n) * 2 ^ 21 = ap (λ (y : ℕ). y * (4 * n)) is
+    ∙ turned_round (2 ^ 43 / (4 * n) + 1) (2 ^ 21) (4 * n) in
     let c : 2 * ((2 * n + 1) * m) ≡ m * (4 * n) + 2 * m = grind arith in
     omega (arith, a, b, c, few, most)
   where

@@ -38,7 +38,14 @@ unfolding second_field line cells
 is_line = record {
   word_is = record {
     fields = record {
-      label = record { hours = omega arith; minutes = omega arith; seconds = omega arith; frames = omega arith; counted = refl };
+      label = record {
+        hours = omega arith;
+        minutes = omega arith;
+        seconds = omega arith;
+        frames =
+            omega arith;
+        counted = refl;
+      };
       flag = refl;
     };
     user = omega arith;

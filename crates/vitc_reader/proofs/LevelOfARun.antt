@@ -1,10 +1,12 @@
 -- The lowest bits of one level are as many as the trailing ones or zeros.
-use Rattle.std.proofs.Common.{◌≡◌, ℕ, zero, suc, ◌+◌, ◌-◌, ◌*◌, ◌/◌, ◌%◌, ◌^◌, ◌<◌, ◌≤◌, refl, sym, ◌∙◌, arith, inl, inr}
+use Rattle.std.proofs.Common.{◌≡◌, ℕ, zero, suc, ◌+◌, ◌-◌, ◌*◌, ◌/◌, ◌%◌, ◌^◌, ◌<◌, ◌≤◌, refl, sym, ◌∙◌, arith, inl}
+use Rattle.std.proofs.Common.{inr}
 use Rattle.std.specs.Int.{bit_at, trailing_zeros, trailing_ones, w128}
 use Rattle.std.proofs.Math.Nat.{div-eq_of_lt, pow-le-pow_right}
 use Rattle.std.proofs.lemmas.Bool.{cases_lt}
 use Rattle.std.proofs.lemmas.Nat.{pow-add, pow_pos, mod_below, mul-le, shr_split}
-use Rattle.std.proofs.lemmas.Nat.Bits.{bit_at-trailing_zeros, bit_at-trailing_ones, same_from_bits_below, bit_at_cat_low, bit_at_ones, bit_at-zero}
+use Rattle.std.proofs.lemmas.Nat.Bits.{bit_at-trailing_zeros, bit_at-trailing_ones, same_from_bits_below}
+use Rattle.std.proofs.lemmas.Nat.Bits.{bit_at_cat_low, bit_at_ones, bit_at-zero}
 use Rattle.lemmas.specs.Bits.{bit_at_low}
 
 -- what the lowest k bits say, where they are all of one level
@@ -73,7 +75,8 @@ least_zeros n k some e =
     let more : 1 * 2 ^ k ≤ n / 2 ^ k * 2 ^ k = mul-le 1 (2 ^ k) (n / 2 ^ k) (2 ^ k) (omega (arith, e)) (omega arith) in
     omega (arith, half, one, split, more)
 
-pub ones_level : (n : ℕ) → n < 2 ^ 90 → n % 2 ≡ 1 → Level n (trailing_ones w128 n) (2 ^ trailing_ones w128 n - 1) × (n / 2 ^ trailing_ones w128 n % 2 ≡ 0)
+pub ones_level : (n : ℕ) → n < 2 ^ 90 → n % 2 ≡ 1 → Level n (trailing_ones w128 n) (2 ^ trailing_ones w128 n - 1)
+    × (n / 2 ^ trailing_ones w128 n % 2 ≡ 0)
 ones_level n width odd =
     let t = bit_at-trailing_ones w128 n (omega arith) in
     let least = one_or_more n (trailing_ones w128 n) 0 t.1 (λ e. omega (arith, e, odd)) in (
@@ -86,14 +89,16 @@ ones_level n width odd =
       t.1,
     )
 
-pub zeros_level : (n : ℕ) → n < 2 ^ 90 → 1 ≤ n → n % 2 ≡ 0 → Level n (trailing_zeros w128 n) 0 × (n / 2 ^ trailing_zeros w128 n % 2 ≡ 1)
+pub zeros_level : (n : ℕ) → n < 2 ^ 90 → 1 ≤ n → n % 2 ≡ 0 → Level n (trailing_zeros w128 n) 0
+    × (n / 2 ^ trailing_zeros w128 n % 2 ≡ 1)
 zeros_level n width some even =
     let t = bit_at-trailing_zeros w128 n some (omega arith) in (
       record {
         least = one_or_more n (trailing_zeros w128 n) 1 t.1 (λ e. omega (arith, e, even));
         within = set_within n (trailing_zeros w128 n) width t.1;
         run = all_zeros n (trailing_zeros w128 n) t.2;
-        some = least_zeros n (trailing_zeros w128 n) (one_or_more n (trailing_zeros w128 n) 1 t.1 (λ e. omega (arith, e, even))) t.1;
+        some = least_zeros n (trailing_zeros w128 n)
+            (one_or_more n (trailing_zeros w128 n) 1 t.1 (λ e. omega (arith, e, even))) t.1;
       },
       t.1,
     )

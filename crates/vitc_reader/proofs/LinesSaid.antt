@@ -1,5 +1,6 @@
 -- What tells whose lines the lines of a field are is their answer.
-use Rattle.std.proofs.Common.{◌≡◌, ◌⊎◌, ℕ, ◌≤◌, List, [], ◌∷◌, ◌++◌, Result, Ok, Err, inl, inr, refl, sym, ap, ◌∙◌, subst}
+use Rattle.std.proofs.Common.{◌≡◌, ◌⊎◌, ℕ, ◌≤◌, List, [], ◌∷◌, ◌++◌, Result, Ok, Err, inl, inr, refl, sym, ap, ◌∙◌}
+use Rattle.std.proofs.Common.{subst}
 use Rattle.std.specs.List.{AllByRecursion}
 use Rattle.tc_address.specs.declared.system.System.{System}
 use Rattle.vitc_line.specs.declared.word.VitcWord.{VitcWord}
@@ -36,8 +37,12 @@ AllAre-append word (w ∷ a) b all more = (all.0, AllAre-append word a b all.1 m
 all_first : (word : VitcWord) (a b : List VitcWord) → AllAre word a → AllAre word b
     → (more : List VitcWord) × (a ++ word ∷ b ≡ word ∷ more) × AllAre word more
 all_first word [] b all rest = (b, refl, rest)
-all_first word (w ∷ a) b all rest =
-    (a ++ word ∷ b, ap (λ (v : VitcWord). v ∷ (a ++ word ∷ b)) all.0, AllAre-append word a (word ∷ b) all.1 (refl, rest))
+all_first word (w ∷ a) b all rest = (
+  a ++ word ∷ b,
+  ap (λ (v : VitcWord). v ∷ (a ++ word ∷ b)) all.0,
+  AllAre-append word a (word ∷ b) all.1
+      (refl, rest),
+)
 
 -- ---- what lines say
 
@@ -108,7 +113,8 @@ faulty system n fault lines is =
 
 pub answers : LineLaws → SpellOrAreFaulty → (system : System) (n : ℕ) → 1 ≤ n → (lines : List (List ℕ))
     (answer : FieldAnswer) → SaysOf system n lines answer → IsAnswer system n lines answer
-answers laws spell system n some lines NoLine is = subst (λ (l : List (List ℕ)). IsAnswer system n l NoLine) (sym is) ([], tt, refl)
+answers laws spell system n some lines NoLine is = subst (λ (l : List (List ℕ)). IsAnswer system n l NoLine) (sym is)
+    ([], tt, refl)
 answers laws spell system n some lines (Agreed word) is = agreed laws system n word lines is
 answers laws spell system n some lines (Conflict word other) is =
     differing laws spell system n some word other lines is

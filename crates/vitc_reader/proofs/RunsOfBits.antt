@@ -1,5 +1,7 @@
--- The lowest bits of one level are a run and the rest is less, so the runs of bits are all of them, and stand for the bits.
-use Rattle.std.proofs.Common.{◌≡◌, ℕ, zero, suc, ◌+◌, ◌-◌, ◌*◌, ◌/◌, ◌%◌, ◌^◌, ◌<◌, ◌≤◌, Bool, true, false, not, List, [], ◌∷◌, length, refl, sym}
+-- The lowest bits of one level are a run and the rest is less, so the runs of bits are all of them, and stand for the
+-- bits.
+use Rattle.std.proofs.Common.{◌≡◌, ℕ, zero, suc, ◌+◌, ◌-◌, ◌*◌, ◌/◌, ◌%◌, ◌^◌, ◌<◌, ◌≤◌, Bool, true, false, not, List}
+use Rattle.std.proofs.Common.{[], ◌∷◌, length, refl, sym}
 use Rattle.std.proofs.Common.{arith, inl, inr}
 use Rattle.std.specs.Prelude.{◌↔◌, ◌==◌, if◌then◌else◌}
 use Rattle.std.proofs.Math.Nat.{pow-le-pow_right}
@@ -18,11 +20,18 @@ pub record Run (level : Bool) (bits k : ℕ) : Type 0 where
   pub some : 2 ^ (k - 1) ≤ bits
   pub change : (bits / 2 ^ k % 2 ≡ 1) ↔ (level ≡ false)
 
-run_at : (level : Bool) (bits : ℕ) → bits < 2 ^ 90 → 1 ≤ bits → ((bits % 2 ≡ 1) ↔ (level ≡ true)) → Run level bits (run_length level bits)
+run_at : (level : Bool) (bits : ℕ) → bits < 2 ^ 90 → 1 ≤ bits → ((bits % 2 ≡ 1) ↔ (level ≡ true))
+    → Run level bits (run_length level bits)
 run_at true bits width some parity =
     let h = ones_level bits width (parity.1 refl) in
     let z = h.1 in
-    record { least = h.0.least; run = h.0.run; some = h.0.some; change = (λ one. absurd (omega (arith, one, z)), λ e. absurd cc) }
+    record {
+      least = h.0.least;
+      run = h.0.run;
+      some = h.0.some;
+      change =
+          (λ one. absurd (omega (arith, one, z)), λ e. absurd cc);
+    }
 run_at false bits width some parity =
     let h = zeros_level bits width some (not_odd bits (λ odd. let e : false ≡ true = parity.0 odd in absurd cc)) in
     record { least = h.0.least; run = h.0.run; some = h.0.some; change = (λ one. refl, λ e. h.1) }
@@ -41,7 +50,8 @@ no_bits level bits most none low = record { have = tt; value = sym none; few = o
 within : (bits m k : ℕ) → bits < 2 ^ m → 1 ≤ k → 2 ^ (k - 1) ≤ bits → k ≤ m
 within bits m k width least some =
     elim (cases_lt m k) [
-      | inl lt ↦ let h = pow-le-pow_right {n = 2} (omega arith) {i = m} {j = k - 1} (omega (arith, lt)) in absurd (omega (arith, h, width, some))
+      | inl lt ↦ let h = pow-le-pow_right {n = 2} (omega arith) {i = m} {j = k - 1} (omega (arith, lt)) in
+          absurd (omega (arith, h, width, some))
       | inr le ↦ le
     ]
 
@@ -54,18 +64,23 @@ above_less bits m k width le =
           let e = pow-add 2 (m - k) k in
           let f : m - k + k ≡ m = omega (arith, le) in
           let whole : 2 ^ m ≡ 2 ^ (m - k) * 2 ^ k = rw f at e in
-          let far : 2 ^ (m - k) * 2 ^ k ≤ bits / 2 ^ k * 2 ^ k = mul-le (2 ^ (m - k)) (2 ^ k) (bits / 2 ^ k) (2 ^ k) more (omega arith) in
+          let far : 2 ^ (m - k) * 2 ^ k ≤ bits / 2 ^ k * 2 ^ k = mul-le (2 ^ (m - k)) (2 ^ k) (bits / 2 ^ k) (2 ^ k)
+          more (omega arith) in
           let split = shr_split bits (k) in
           absurd (omega (arith, whole, far, split, width))
     ]
 
-joined : (low high k bits run tail : ℕ) → high * 2 ^ k + low ≡ bits → low ≡ run → tail ≡ high → run + 2 ^ k * tail ≡ bits
+joined : (low high k bits run tail : ℕ) → high * 2 ^ k + low ≡ bits → low ≡ run → tail ≡ high
+    → run + 2 ^ k * tail ≡ bits
 joined low high k bits run tail split same is = rw (is, ← same, ← split) (grind arith)
 
-by_bits : (fuel m : ℕ) (level : Bool) (bits : ℕ) (none : Bool) → (bits == 0) ≡ none → bits < 2 ^ m → m ≤ suc fuel → m ≤ 90
+by_bits : (fuel m : ℕ) (level : Bool) (bits : ℕ) (none : Bool) → (bits == 0) ≡ none → bits < 2 ^ m → m ≤ suc fuel
+    → m ≤ 90
     → (1 ≤ bits → ((bits % 2 ≡ 1) ↔ (level ≡ true))) → (bits ≡ 0 → level ≡ false)
-    → ((l : Bool) (n b : ℕ) → b < 2 ^ n → n ≤ fuel → n ≤ 90 → (1 ≤ b → ((b % 2 ≡ 1) ↔ (l ≡ true))) → (b ≡ 0 → l ≡ false) → RunsOf l b n (cells_in fuel l b))
-    → RunsOf level bits m (if none then [] else run_length level bits ∷ cells_in fuel (not level) (bits / 2 ^ run_length level bits))
+    → ((l : Bool) (n b : ℕ) → b < 2 ^ n → n ≤ fuel → n ≤ 90 → (1 ≤ b → ((b % 2 ≡ 1) ↔ (l ≡ true))) → (b ≡ 0 → l ≡ false)
+    → RunsOf l b n (cells_in fuel l b))
+    → RunsOf level bits m
+    (if none then [] else run_length level bits ∷ cells_in fuel (not level) (bits / 2 ^ run_length level bits))
 by_bits fuel m level bits true is width enough few parity low later = no_bits level bits m (eqb-true bits 0 is) low
 by_bits fuel m level bits false is width enough few parity low later =
     let not_none = eqb-false bits 0 is in
@@ -76,17 +91,20 @@ by_bits fuel m level bits false is width enough few parity low later =
     let least = r.least in
     let le = within bits m k width least r.some in
     let rest = bits / 2 ^ k in
-    let t = later (not level) (m - k) rest (above_less bits m k width le) (omega (arith, enough, least)) (omega (arith, few))
+    let t = later (not level) (m - k) rest (above_less bits m k width le) (omega (arith, enough, least))
+    (omega (arith, few))
     (λ _. turned rest level r.change) (ended rest level r.change) in
     let tail = t.few in
     record {
       have = (least, t.have);
-      value = joined (bits % 2 ^ k) rest k bits (bits_of_run level k) (bits_of (not level) (cells_in fuel (not level) rest)) (shr_split bits k) r.run t.value;
+      value = joined (bits % 2 ^ k) rest k bits (bits_of_run level k)
+          (bits_of (not level) (cells_in fuel (not level) rest)) (shr_split bits k) r.run t.value;
       few = omega (arith, tail, le);
       low = t.low;
     }
 
-runs_of_bits : (fuel m : ℕ) (level : Bool) (bits : ℕ) → bits < 2 ^ m → m ≤ fuel → m ≤ 90 → (1 ≤ bits → ((bits % 2 ≡ 1) ↔ (level ≡ true)))
+runs_of_bits : (fuel m : ℕ) (level : Bool) (bits : ℕ) → bits < 2 ^ m → m ≤ fuel → m ≤ 90
+    → (1 ≤ bits → ((bits % 2 ≡ 1) ↔ (level ≡ true)))
     → (bits ≡ 0 → level ≡ false)
     → RunsOf level bits m (cells_in fuel level bits)
 unfolding cells_in

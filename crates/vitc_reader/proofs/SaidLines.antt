@@ -1,4 +1,5 @@
--- A line says a word exactly where its runs are those of the word's line, so the answer of a field tells whose lines its
+-- A line says a word exactly where its runs are those of the word's line, so the answer of a field tells whose lines
+-- its
 -- lines are, and what tells that is its answer.
 use Rattle.std.proofs.Common.{◌≡◌, ◌⊎◌, ℕ, ◌^◌, ◌<◌, ◌≤◌, true, List, [], ◌∷◌, ◌++◌, Result, Ok, Err}
 use Rattle.std.proofs.Common.{inl, inr, refl, sym, ap, ◌∙◌, subst, append_assoc}
@@ -13,7 +14,8 @@ use Rattle.vitc_line.specs.Spelling.{Spells}
 use Rattle.vitc_reader.specs.declared.fault.ReadFault.{ReadFault}
 use Rattle.vitc_reader.specs.declared.field.FieldAnswer.{FieldAnswer}
 use Rattle.vitc_reader.specs.declared.field.FieldAnswer.TheVariants.{NoLine, Agreed, Conflict, Nothing}
-use Rattle.vitc_reader.specs.Agreement.{AgreeOn, AreFaulty, Differ, IsAtFault, IsLineOf, IsLineOfOrAtFault, IsWord, SaysOf}
+use Rattle.vitc_reader.specs.Agreement.{AgreeOn, AreFaulty, Differ, IsAtFault, IsLineOf, IsLineOfOrAtFault, IsWord}
+use Rattle.vitc_reader.specs.Agreement.{SaysOf}
 use Rattle.vitc_reader.specs.Field.{AllAre, AreSaid, IsAnswer, IsAnswerTo, IsSaid, words_of}
 use Rattle.vitc_reader.specs.Runs.{bits_of}
 
@@ -29,7 +31,8 @@ pub record LineLaws : Type 0 where
 -- ---- one line
 
 spelled : LineLaws → (system : System) (word : VitcWord) → IsWord system word → Spells system word (line_of word)
-spelled laws system word is = subst (λ (s : System). Spells s word (line_of word)) is.count (laws.spells word is.fields is.user)
+spelled laws system word is = subst (λ (s : System). Spells s word (line_of word)) is.count
+    (laws.spells word is.fields is.user)
 
 line_said : LineLaws → (system : System) (n : ℕ) (runs : List ℕ) (word : VitcWord) → IsSaid system n runs (Ok word)
     → IsLineOf system n word runs
@@ -123,7 +126,8 @@ at_fault_too : (system : System) (n : ℕ) (word : VitcWord) (lines : List (List
 at_fault_too system n word [] all = tt
 at_fault_too system n word (line ∷ lines) all = (inr all.0, at_fault_too system n word lines all.1)
 
-joined : (P : List ℕ → Type 0) (a b : List (List ℕ)) → AllByRecursion P a → AllByRecursion P b → AllByRecursion P (a ++ b)
+joined : (P : List ℕ → Type 0) (a b : List (List ℕ)) → AllByRecursion P a → AllByRecursion P b
+    → AllByRecursion P (a ++ b)
 joined P [] b all more = more
 joined P (line ∷ a) b all more = (all.0, joined P a b all.1 more)
 

@@ -70,7 +70,8 @@ parts_same a b e =
     let colour = and_parts _ _ drop.1 in
     let zero = and_parts _ _ colour.1 in
     let one = and_parts _ _ zero.1 in
-    same_by a.fields.label.count a.fields.label.hours a.fields.label.minutes a.fields.label.seconds a.fields.label.frames
+    same_by a.fields.label.count a.fields.label.hours a.fields.label.minutes a.fields.label.seconds
+    a.fields.label.frames
     a.fields.flags.drop_frame a.fields.flags.colour_frame a.fields.flags.group_flag_zero a.fields.flags.group_flag_one
     a.fields.flags.group_flag_two a.fields.user a.field_mark _ _ _ _ _ _ _ _ _ _ _ _
     (same_true the_type (search rules) _ _ count.0) (eqb-true _ _ hours.0) (eqb-true _ _ minutes.0)

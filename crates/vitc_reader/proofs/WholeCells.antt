@@ -1,5 +1,6 @@
 -- A run is nearer to its number of cells than to any other, so runs have one list of cells.
-use Rattle.std.proofs.Common.{◌≡◌, ℕ, suc, ◌+◌, ◌-◌, ◌*◌, ◌/◌, ◌<◌, ◌≤◌, List, [], ◌∷◌, ◌++◌, length, take, drop, get_or, refl, sym, ap, ap₂, ◌∙◌, arith}
+use Rattle.std.proofs.Common.{◌≡◌, ℕ, suc, ◌+◌, ◌-◌, ◌*◌, ◌/◌, ◌<◌, ◌≤◌, List, [], ◌∷◌, ◌++◌, length, take, drop}
+use Rattle.std.proofs.Common.{get_or, refl, sym, ap, ap₂, ◌∙◌, arith}
 use Rattle.std.proofs.Math.Nat.{div-eq_of_lt-le, div-mul-le_self}
 use Rattle.std.proofs.Math.Seq.{drop-cons}
 use Rattle.std.proofs.lemmas.List.{take-append-drop}
@@ -26,7 +27,8 @@ is_nearest n r k some cells =
 
 -- the nearest number of cells lasts no longer than the run and a quarter of a cell
 pub not_longer : (n r : ℕ) → 4 * (nearest n r * n) ≤ 460 * r + n
-not_longer n r = let h = div-mul-le_self (460 * r + n) (4 * n) in let e = quarters n (nearest n r) in omega (arith, h, e)
+not_longer n r = let h = div-mul-le_self (460 * r + n) (4 * n) in let e = quarters n (nearest n r) in
+    omega (arith, h, e)
 
 -- it is the number of cells where it is some, and not much shorter
 pub are_cells : (n r : ℕ) → 1 ≤ nearest n r → 460 * r + n - 4 * (nearest n r * n) ≤ 2 * n → IsCells n r (nearest n r)
@@ -47,7 +49,8 @@ not_far n r k some cells far =
 pub one_number : (n r k m : ℕ) → 1 ≤ n → IsCells n r k → IsCells n r m → k ≡ m
 one_number n r k m some a b = sym (is_nearest n r k some a) ∙ is_nearest n r m some b
 
-pub one_list : (n : ℕ) (runs cells others : List ℕ) → 1 ≤ n → AreCells n runs cells → AreCells n runs others → cells ≡ others
+pub one_list : (n : ℕ) (runs cells others : List ℕ) → 1 ≤ n → AreCells n runs cells → AreCells n runs others
+    → cells ≡ others
 one_list n [] [] [] some a b = refl
 one_list n [] [] (m ∷ others) some a b = absurd b
 one_list n [] (k ∷ cells) others some a b = absurd a
@@ -57,7 +60,8 @@ one_list n (r ∷ runs) (k ∷ cells) (m ∷ others) some a b =
     ap₂ (λ (x : ℕ) (xs : List ℕ). x ∷ xs) (one_number n r k m some a.0 b.0) (one_list n runs cells others some a.1 b.1)
 
 -- one run more has one number of cells more
-pub AreCells-last : (n : ℕ) (runs cells : List ℕ) (r k : ℕ) → AreCells n runs cells → IsCells n r k → AreCells n (runs ++ r ∷ []) (cells ++ k ∷ [])
+pub AreCells-last : (n : ℕ) (runs cells : List ℕ) (r k : ℕ) → AreCells n runs cells → IsCells n r k
+    → AreCells n (runs ++ r ∷ []) (cells ++ k ∷ [])
 AreCells-last n [] [] r k a one = (one, tt)
 AreCells-last n [] (j ∷ cells) r k a one = absurd a
 AreCells-last n (s ∷ runs) [] r k a one = absurd a
@@ -72,9 +76,11 @@ pub record Cut (n : ℕ) (before : List ℕ) (run : ℕ) (after cells : List ℕ
   pub front_read : AreCells n before front
   pub here_read : IsCells n run here
 
-pub cut : (n : ℕ) (before : List ℕ) (run : ℕ) (after cells : List ℕ) → AreCells n (before ++ run ∷ after) cells → Cut n before run after cells
+pub cut : (n : ℕ) (before : List ℕ) (run : ℕ) (after cells : List ℕ) → AreCells n (before ++ run ∷ after) cells
+    → Cut n before run after cells
 cut n [] run after [] a = absurd a
-cut n [] run after (k ∷ cells) a = record { front = []; here = k; back = cells; split = refl; front_read = tt; here_read = a.0 }
+cut n [] run after (k ∷ cells) a =
+    record { front = []; here = k; back = cells; split = refl; front_read = tt; here_read = a.0 }
 cut n (r ∷ before) run after [] a = absurd a
 cut n (r ∷ before) run after (k ∷ cells) a =
     let c = cut n before run after cells a.1 in

@@ -1,6 +1,7 @@
 -- Each edge is less than a tick before its place, so a written run is within a quarter of a cell. The runs
 -- so far and the bits that are left are all of the line.
-use Rattle.std.proofs.Common.{append_assoc, append-nil, ◌≡◌, ℕ, zero, suc, ◌+◌, ◌-◌, ◌*◌, ◌/◌, ◌%◌, ◌^◌, ◌<◌, ◌≤◌, Bool, true, false, not, List, []}
+use Rattle.std.proofs.Common.{append_assoc, append-nil, ◌≡◌, ℕ, zero, suc, ◌+◌, ◌-◌, ◌*◌, ◌/◌, ◌%◌, ◌^◌, ◌<◌, ◌≤◌, Bool}
+use Rattle.std.proofs.Common.{true, false, not, List, []}
 use Rattle.std.proofs.Common.{◌∷◌, ◌++◌, length, take, drop, set}
 use Rattle.std.proofs.Common.{refl, sym, ap, ◌∙◌, arith, inl, inr}
 use Rattle.std.specs.Prelude.{◌↔◌, ◌==◌}
@@ -9,7 +10,8 @@ use Rattle.std.proofs.lemmas.Bool.{cases_lt, ne_eqb}
 use Rattle.std.proofs.lemmas.Nat.{pow-add, shr_split, mul-le}
 use Rattle.std.proofs.lemmas.List.{take_more_set, length-set, drop-set-lt, drop-drop}
 use Rattle.lemmas.specs.Lists.{length-last}
-use Rattle.vitc_reader.specs.Runs.{total, bits_of_run, bits_of, IsCells, AreCells, StandFor, runs_from, HaveCells, AreRunsOf}
+use Rattle.vitc_reader.specs.Runs.{total, bits_of_run, bits_of, IsCells, AreCells, StandFor, runs_from, HaveCells}
+use Rattle.vitc_reader.specs.Runs.{AreRunsOf}
 use Rattle.vitc_reader.specs.Written.{run_length, cells_in, runs_in}
 use Rattle.vitc_reader.proofs.BitsOfCells.{level_after, level_after-last, bits_of-last, odd_runs}
 use Rattle.vitc_reader.proofs.WholeCells.{total-append}
@@ -22,14 +24,16 @@ run_is_cells n at k least some =
 
 pub runs_are_cells : (n at : ℕ) (cells : List ℕ) → 460 ≤ n → HaveCells cells → AreCells n (runs_from n at cells) cells
 runs_are_cells n at [] least have = tt
-runs_are_cells n at (k ∷ cells) least have = (run_is_cells n at k least have.0, runs_are_cells n (at + k) cells least have.1)
+runs_are_cells n at (k ∷ cells) least have =
+    (run_is_cells n at k least have.0, runs_are_cells n (at + k) cells least have.1)
 
 -- one run more
 runs_from-last : (n at : ℕ) (cells : List ℕ) (k end : ℕ) → at + total cells ≡ end
     → runs_from n at (cells ++ k ∷ []) ≡ runs_from n at cells ++ ((end + k) * n / 115 - end * n / 115) ∷ []
 runs_from-last n at [] k end e = let h : at ≡ end = omega (arith, e) in rw h refl
 runs_from-last n at (j ∷ cells) k end e =
-    ap (λ (runs : List ℕ). ((at + j) * n / 115 - at * n / 115) ∷ runs) (runs_from-last n (at + j) cells k end (omega (arith, e)))
+    ap (λ (runs : List ℕ). ((at + j) * n / 115 - at * n / 115) ∷ runs)
+    (runs_from-last n (at + j) cells k end (omega (arith, e)))
 
 HaveCells-last : (cells : List ℕ) (k : ℕ) → HaveCells cells → 1 ≤ k → HaveCells (cells ++ k ∷ [])
 HaveCells-last [] k have some = (some, tt)
@@ -57,27 +61,31 @@ pub record WrittenSoFar (n bits : ℕ) (old runs : List ℕ) (rest cell number :
   pub left : list ++ cells_in (90 - number) is_high rest ≡ cells_in 90 true bits
 
 -- bits that are left are within the line
-pub cells_left : (n bits : ℕ) (old runs : List ℕ) (rest cell number k : ℕ) (is_high : Bool) → WrittenSoFar n bits old runs rest cell number is_high
+pub cells_left : (n bits : ℕ) (old runs : List ℕ) (rest cell number k : ℕ) (is_high : Bool)
+    → WrittenSoFar n bits old runs rest cell number is_high
     → bits < 2 ^ 90 → 1 ≤ k → 2 ^ (k - 1) ≤ rest → cell + k ≤ 90
 cells_left n bits old runs rest cell number k is_high s width some least =
     elim (cases_lt 90 (cell + k)) [
       | inl lt ↦
           let at = pow-add 2 (k - 1) cell in
-          let above : 2 ^ (k - 1) * 2 ^ cell ≤ rest * 2 ^ cell = mul-le (2 ^ (k - 1)) (2 ^ cell) rest (2 ^ cell) least (omega arith) in
+          let above : 2 ^ (k - 1) * 2 ^ cell ≤ rest * 2 ^ cell = mul-le (2 ^ (k - 1)) (2 ^ cell) rest (2 ^ cell) least
+          (omega arith) in
           let far = pow-le-pow_right {n = 2} (omega arith) {i = 90} {j = k - 1 + cell} (omega (arith, lt, some)) in
           let value = s.value in
           absurd (omega (arith, at, above, far, value, width))
       | inr le ↦ le
     ]
 
-pub room : (n bits : ℕ) (old runs : List ℕ) (rest cell number : ℕ) (is_high : Bool) → WrittenSoFar n bits old runs rest cell number is_high → number ≤ cell
+pub room : (n bits : ℕ) (old runs : List ℕ) (rest cell number : ℕ) (is_high : Bool)
+    → WrittenSoFar n bits old runs rest cell number is_high → number ≤ cell
 room n bits old runs rest cell number is_high s =
     let few = few_runs s.list s.have in
     let count = s.count in
     let all = s.all in
     omega (arith, few, count, all)
 
-value_with : (bits list rest high low cell k run : ℕ) → bits ≡ list + rest * 2 ^ cell → high * 2 ^ k + low ≡ rest → low ≡ run
+value_with : (bits list rest high low cell k run : ℕ) → bits ≡ list + rest * 2 ^ cell → high * 2 ^ k + low ≡ rest
+    → low ≡ run
     → bits ≡ list + run * 2 ^ cell + high * 2 ^ (cell + k)
 value_with bits list rest high low cell k run e split same =
     let p = pow-add 2 cell k in
@@ -109,10 +117,13 @@ none_more zero level = refl
 none_more (suc n) level = refl
 
 -- one run more is written
-pub write_more : (n bits : ℕ) (old runs : List ℕ) (rest cell number k : ℕ) (is_high : Bool) → WrittenSoFar n bits old runs rest cell number is_high
-    → bits < 2 ^ 90 → number < 90 → 1 ≤ k → 2 ^ (k - 1) ≤ rest → rest % 2 ^ k ≡ bits_of_run is_high k → ((rest / 2 ^ k % 2 ≡ 1) ↔ (is_high ≡ false))
+pub write_more : (n bits : ℕ) (old runs : List ℕ) (rest cell number k : ℕ) (is_high : Bool)
+    → WrittenSoFar n bits old runs rest cell number is_high
+    → bits < 2 ^ 90 → number < 90 → 1 ≤ k → 2 ^ (k - 1) ≤ rest → rest % 2 ^ k ≡ bits_of_run is_high k
+    → ((rest / 2 ^ k % 2 ≡ 1) ↔ (is_high ≡ false))
     → k ≡ run_length is_high rest → 1 ≤ rest
-    → WrittenSoFar n bits old (set runs number ((cell + k) * n / 115 - cell * n / 115)) (rest / 2 ^ k) (cell + k) (number + 1) (not is_high)
+    → WrittenSoFar n bits old (set runs number ((cell + k) * n / 115 - cell * n / 115)) (rest / 2 ^ k) (cell + k)
+    (number + 1) (not is_high)
 write_more n bits old runs rest cell number k is_high s width room some least run change exact bits_left =
     let size = s.size in
     let lt : number < length runs = omega (arith, size, room) in
@@ -121,7 +132,8 @@ write_more n bits old runs rest cell number k is_high s width room some least ru
     let sum = s.all in
     let longer = length-last s.list k in
     let count = s.count in
-    let value = value_with bits (bits_of true s.list) rest (rest / 2 ^ k) (rest % 2 ^ k) cell k (bits_of_run is_high k) s.value (shr_split rest k) run in
+    let value = value_with bits (bits_of true s.list) rest (rest / 2 ^ k) (rest % 2 ^ k) cell k (bits_of_run is_high k)
+    s.value (shr_split rest k) run in
     let last_bits = bits_of-last true s.list k in
     record {
       list = s.list ++ k ∷ [];
@@ -142,20 +154,24 @@ write_more n bits old runs rest cell number k is_high s width room some least ru
     }
 
 -- nothing is left
-pub all_written : (n bits : ℕ) (old runs : List ℕ) (cell number : ℕ) (is_high : Bool) → WrittenSoFar n bits old runs 0 cell number is_high
+pub all_written : (n bits : ℕ) (old runs : List ℕ) (cell number : ℕ) (is_high : Bool)
+    → WrittenSoFar n bits old runs 0 cell number is_high
     → AreRunsOf n bits (take number runs)
 all_written n bits old runs cell number is_high s =
     let value = s.value in
     (s.list, s.have, odd_runs s.list (sym s.level ∙ s.last refl), omega (arith, value), s.front)
 
 -- the runs that are written are those of the bits
-pub exactly_written : (n bits : ℕ) (old runs : List ℕ) (cell number : ℕ) (is_high : Bool) → WrittenSoFar n bits old runs 0 cell number is_high
+pub exactly_written : (n bits : ℕ) (old runs : List ℕ) (cell number : ℕ) (is_high : Bool)
+    → WrittenSoFar n bits old runs 0 cell number is_high
     → take number runs ≡ runs_in n bits
 exactly_written n bits old runs cell number is_high s =
-    let all : s.list ≡ cells_in 90 true bits = sym (append-nil s.list) ∙ ap (λ (l : List ℕ). s.list ++ l) (sym (none_more (90 - number) is_high)) ∙ s.left in
+    let all : s.list ≡ cells_in 90 true bits = sym (append-nil s.list)
+    ∙ ap (λ (l : List ℕ). s.list ++ l) (sym (none_more (90 - number) is_high)) ∙ s.left in
     s.front ∙ ap (runs_from n 0) all
 
-pub odd_number : (n bits : ℕ) (old runs : List ℕ) (cell number : ℕ) (is_high : Bool) → WrittenSoFar n bits old runs 0 cell number is_high
+pub odd_number : (n bits : ℕ) (old runs : List ℕ) (cell number : ℕ) (is_high : Bool)
+    → WrittenSoFar n bits old runs 0 cell number is_high
     → (number % 2 ≡ 1) × (number ≤ 89)
 odd_number n bits old runs cell number is_high s =
     let odd = odd_runs s.list (sym s.level ∙ s.last refl) in
@@ -166,7 +182,8 @@ odd_number n bits old runs cell number is_high s =
     let odd' : number % 2 ≡ 1 = rw count at odd in
     (odd', omega (arith, odd', few, count, all, within))
 
-pub read_back : (n bits : ℕ) (old runs : List ℕ) (cell number : ℕ) (is_high : Bool) → 460 ≤ n → WrittenSoFar n bits old runs 0 cell number is_high
+pub read_back : (n bits : ℕ) (old runs : List ℕ) (cell number : ℕ) (is_high : Bool) → 460 ≤ n
+    → WrittenSoFar n bits old runs 0 cell number is_high
     → StandFor n (take number runs) bits
 read_back n bits old runs cell number is_high least s =
     let value = s.value in

@@ -50,7 +50,8 @@ pub fn lines_have_one_answer()
 /// the word's line, each to a quarter of a cell, and every other line is so or at fault; in conflict exactly where the
 /// first two lines that differ are these words' lines; nothing where every line is at fault, the first one with this.
 pub fn an_answer_says_whose_lines_they_are()
-    ensures says { (system : System) (n : ℕ) (lines : List (List ℕ)) (answer : FieldAnswer) → IsAnswer system n lines answer
+    ensures says { (system : System) (n : ℕ) (lines : List (List ℕ)) (answer : FieldAnswer)
+        → IsAnswer system n lines answer
         → SaysOf system n lines answer }
     ensures only { (system : System) (n : ℕ) (lines : List (List ℕ)) (answer : FieldAnswer) → IsLineLength n
         → SaysOf system n lines answer → IsAnswer system n lines answer }

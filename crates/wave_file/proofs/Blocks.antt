@@ -1,5 +1,7 @@
--- A whole block at the front of data gives its sample, and leaves the data behind it. So does a run of blocks, block by block.
-use Rattle.std.proofs.Common.{true, false, ◌≡◌, ℕ, zero, suc, ◌+◌, ◌-◌, ◌*◌, ◌/◌, ◌%◌, ◌<◌, ◌≤◌, min, Bool, List, [], ◌∷◌, ◌++◌, Option, Some, length, take, drop}
+-- A whole block at the front of data gives its sample, and leaves the data behind it. So does a run of blocks, block
+-- by block.
+use Rattle.std.proofs.Common.{true, false, ◌≡◌, ℕ, zero, suc, ◌+◌, ◌-◌, ◌*◌, ◌/◌, ◌%◌, ◌<◌, ◌≤◌, min, Bool, List, []}
+use Rattle.std.proofs.Common.{◌∷◌, ◌++◌, Option, Some, length, take, drop}
 use Rattle.std.proofs.Common.{refl, ap, ◌∙◌, arith, subst, sym, append_assoc}
 use Rattle.std.specs.Prelude.{nat_lt, ◌==◌, if◌then◌else◌, ℤ}
 use Rattle.std.proofs.lemmas.Bool.{le-leb, lt-leb, ltb-true, ltb-false}
@@ -38,7 +40,8 @@ ends_more : (extent : Extent) (w : ℕ) (block more : List ℕ) → length block
     → may_end_at w extent (block ++ more) ≡ may_end_at w (extent_behind extent w) more
 ends_more (Announced n) w block more len has =
     let all = length-append block more in
-    nat_le_same n (length (block ++ more)) (n - w) (length more) (λ h. omega (arith, len, all, h)) (λ h. omega (arith, len, has, all, h))
+    nat_le_same n (length (block ++ more)) (n - w) (length more) (λ h. omega (arith, len, all, h))
+    (λ h. omega (arith, len, has, all, h))
 ends_more Open w block more len has =
     let all = length-append block more in
     let sum : length (block ++ more) ≡ w * 1 + length more = omega (arith, len, all) in
@@ -48,36 +51,45 @@ ends_more Open w block more len has =
 pub block_more : (asked : Asked) (format : WaveFormat) (extent : Extent) (room : ℕ) (block more : List ℕ)
     → length block ≡ format.block → 1 ≤ format.block → HasBytes format.block extent → 1 ≤ room
     → data_at asked format extent room (block ++ more)
-    ≡ with_samples (sample_in format asked block ∷ []) (data_at asked format (extent_behind extent format.block) (room - 1) more)
+    ≡ with_samples (sample_in format asked block ∷ [])
+    (data_at asked format (extent_behind extent format.block) (room - 1) more)
 unfolding samples_at
 block_more asked format extent room block more len some has least =
     let w = format.block in
     let inner = bytes_inside (extent_behind extent w) more / w in
     let count : bytes_inside extent (block ++ more) / w ≡ inner + 1 =
-    ap (λ (n : ℕ). n / w) (inside_more extent w block more len has) ∙ add-div_left (bytes_inside (extent_behind extent w) more) some in
-    let most : min room (bytes_inside extent (block ++ more) / w) ≡ suc (min (room - 1) inner) = omega (arith, count, least) in
-    let front : take w (block ++ more) ≡ block = subst (λ (n : ℕ). take n (block ++ more) ≡ block) len (take-append_seam block more) in
-    let behind : drop w (block ++ more) ≡ more = subst (λ (n : ℕ). drop n (block ++ more) ≡ more) len (drop-append_seam block more) in
+    ap (λ (n : ℕ). n / w) (inside_more extent w block more len has)
+    ∙ add-div_left (bytes_inside (extent_behind extent w) more) some in
+    let most : min room (bytes_inside extent (block ++ more) / w) ≡ suc (min (room - 1) inner) =
+    omega (arith, count, least) in
+    let front : take w (block ++ more) ≡ block = subst (λ (n : ℕ). take n (block ++ more) ≡ block) len
+    (take-append_seam block more) in
+    let behind : drop w (block ++ more) ≡ more = subst (λ (n : ℕ). drop n (block ++ more) ≡ more) len
+    (drop-append_seam block more) in
     same_reading (Some format) _ _ _ _ _ _
     (ap (λ (n : ℕ). samples_at format asked n (block ++ more)) most
-    ∙ ap (λ (l : List ℕ). sample_in format asked l ∷ samples_at format asked (min (room - 1) inner) (drop w (block ++ more))) front
+    ∙ ap (λ (l : List ℕ). sample_in format asked l ∷ samples_at format asked (min (room - 1) inner)
+    (drop w (block ++ more))) front
     ∙ ap (λ (l : List ℕ). sample_in format asked block ∷ samples_at format asked (min (room - 1) inner) l) behind)
     (ap (λ (b : Bool). if b then good else past_limit)
-    (nat_le_same (bytes_inside extent (block ++ more) / w) room inner (room - 1) (λ h. omega (arith, count, h)) (λ h. omega (arith, count, least, h))))
+    (nat_le_same (bytes_inside extent (block ++ more) / w) room inner (room - 1) (λ h. omega (arith, count, h))
+    (λ h. omega (arith, count, least, h))))
     (ends_more extent w block more len has)
 
 pub none_inside : (a b n : ℕ) → a < b → min n (a / b) ≡ 0
 none_inside a b n less = let none = div_below a b 1 (omega (arith, less)) (omega (arith, less)) in omega (arith, none)
 
 -- what is no block at the end of the data gives no sample
-pub at_data : (asked : Asked) (notes : Notes) (place : ℕ) (format : WaveFormat) (extent : Extent) (room : ℕ) (more : List ℕ)
+pub at_data : (asked : Asked) (notes : Notes) (place : ℕ) (format : WaveFormat) (extent : Extent) (room : ℕ)
+    (more : List ℕ)
     → at asked notes place (data_stage format extent room) more ≡ data_at asked format extent room more
 unfolding samples_at
 at_data asked notes place format Open room more = refl
 at_data asked notes place format (Announced left) room more = go (nat_lt left format.block) refl
   where
     go : (b : Bool) → nat_lt left format.block ≡ b
-        → at asked notes place (if b then Tail format left else Data format (Announced left) room) more ≡ data_at asked format (Announced left) room more
+        → at asked notes place (if b then Tail format left else Data format (Announced left) room) more ≡ data_at asked
+        format (Announced left) room more
     go false e = refl
     go true e =
         let less = ltb-true left format.block e in
@@ -85,7 +97,8 @@ at_data asked notes place format (Announced left) room more = go (nat_lt left fo
         let none = none_inside (min left (length more)) format.block room inside in
         let few = div_below (min left (length more)) format.block 1 (omega (arith, less)) (omega (arith, inside)) in
         same_reading (Some format) _ _ _ _ _ _ (sym (ap (λ (n : ℕ). samples_at format asked n more) none))
-        (sym (ap (λ (b : Bool). if b then good else past_limit) (le-leb (min left (length more) / format.block) room (omega (arith, few))))) refl
+        (sym (ap (λ (b : Bool). if b then good else past_limit)
+        (le-leb (min left (length more) / format.block) room (omega (arith, few))))) refl
 
 -- the data that a chunk begins
 pub record DataKept (asked : Asked) (place : ℕ) (format : WaveFormat) (stage : Stage) : Type 0 where
@@ -93,12 +106,15 @@ pub record DataKept (asked : Asked) (place : ℕ) (format : WaveFormat) (stage :
   pub wait : 1 ≤ width_of stage
   pub format_is : format_at_stage stage ≡ Some format
 
-pub data_kept : (asked : Asked) (place : ℕ) (format : WaveFormat) (extent : Extent) (room : ℕ) → IsTakenFor asked format → room ≤ MAX_SAMPLES
+pub data_kept : (asked : Asked) (place : ℕ) (format : WaveFormat) (extent : Extent) (room : ℕ) → IsTakenFor asked format
+    → room ≤ MAX_SAMPLES
     → DataKept asked place format (data_stage format extent room)
-data_kept asked place format Open room taken within = record { is = (taken, tt, within); wait = taken.some; format_is = refl }
+data_kept asked place format Open room taken within =
+    record { is = (taken, tt, within); wait = taken.some; format_is = refl }
 data_kept asked place format (Announced left) room taken within = go (nat_lt left format.block) refl
   where
-    go : (b : Bool) → nat_lt left format.block ≡ b → DataKept asked place format (if b then Tail format left else Data format (Announced left) room)
+    go : (b : Bool) → nat_lt left format.block ≡ b
+        → DataKept asked place format (if b then Tail format left else Data format (Announced left) room)
     go true e = record { is = taken; wait = omega arith; format_is = refl }
     go false e = record { is = (taken, ltb-false left format.block e, within); wait = taken.some; format_is = refl }
 
@@ -111,10 +127,12 @@ block_past asked format extent block more len some has =
     let w = format.block in
     let inner = bytes_inside (extent_behind extent w) more / w in
     let count : bytes_inside extent (block ++ more) / w ≡ inner + 1 =
-    ap (λ (n : ℕ). n / w) (inside_more extent w block more len has) ∙ add-div_left (bytes_inside (extent_behind extent w) more) some in
+    ap (λ (n : ℕ). n / w) (inside_more extent w block more len has)
+    ∙ add-div_left (bytes_inside (extent_behind extent w) more) some in
     let none : min 0 (bytes_inside extent (block ++ more) / w) ≡ 0 = omega arith in
     record {
-      verdict = ap (λ (b : Bool). if b then good else past_limit) (lt-leb (bytes_inside extent (block ++ more) / w) 0 (omega (arith, count)));
+      verdict = ap (λ (b : Bool). if b then good else past_limit)
+          (lt-leb (bytes_inside extent (block ++ more) / w) 0 (omega (arith, count)));
       samples = ap (λ (n : ℕ). samples_at format asked n (block ++ more)) none;
       format = refl;
     }
@@ -123,7 +141,8 @@ block_past asked format extent block more len some has =
 pub blocks_more : (asked : Asked) (format : WaveFormat) (count : ℕ) (extent : Extent) (room : ℕ) (blocks more : List ℕ)
     → length blocks ≡ count * format.block → 1 ≤ format.block → HasBytes (count * format.block) extent → count ≤ room
     → data_at asked format extent room (blocks ++ more)
-    ≡ with_samples (samples_at format asked count blocks) (data_at asked format (extent_behind extent (count * format.block)) (room - count) more)
+    ≡ with_samples (samples_at format asked count blocks)
+    (data_at asked format (extent_behind extent (count * format.block)) (room - count) more)
 unfolding samples_at
 blocks_more asked format zero extent room (b ∷ blocks) more len some has least =
     let none : 0 * format.block ≡ 0 = omega arith in absurd (omega (arith, len, none))
@@ -146,13 +165,18 @@ blocks_more asked format (suc k) extent room blocks more len some has least =
     let sum = length-append front rest in
     let whole = ap length cut in
     let rest_is : length rest ≡ k * w = omega (arith, len, one, front_is, sum, whole) in
-    let split : blocks ++ more ≡ front ++ (rest ++ more) = ap (λ (l : List ℕ). l ++ more) (sym cut) ∙ append_assoc front rest more in
+    let split : blocks ++ more ≡ front ++ (rest ++ more) = ap (λ (l : List ℕ). l ++ more) (sym cut)
+    ∙ append_assoc front rest more in
     ap (λ (l : List ℕ). data_at asked format extent room l) split
-    ∙ block_more asked format extent room front (rest ++ more) front_is some (has_one extent w k has) (omega (arith, least))
+    ∙ block_more asked format extent room front (rest ++ more) front_is some (has_one extent w k has)
+    (omega (arith, least))
     ∙ ap (with_samples (sample_in format asked front ∷ []))
-    (blocks_more asked format k (extent_behind extent w) (room - 1) rest more rest_is some (has_more extent w k has) (omega (arith, least)))
-    ∙ ap (λ (e : Extent). with_samples (samples_at format asked (suc k) blocks) (data_at asked format e (room - 1 - k) more)) (behind_more extent w k)
-    ∙ ap (λ (n : ℕ). with_samples (samples_at format asked (suc k) blocks) (data_at asked format (extent_behind extent (suc k * w)) n more)) (omega arith)
+    (blocks_more asked format k (extent_behind extent w) (room - 1) rest more rest_is some (has_more extent w k has)
+    (omega (arith, least)))
+    ∙ ap (λ (e : Extent). with_samples (samples_at format asked (suc k) blocks)
+    (data_at asked format e (room - 1 - k) more)) (behind_more extent w k)
+    ∙ ap (λ (n : ℕ). with_samples (samples_at format asked (suc k) blocks)
+    (data_at asked format (extent_behind extent (suc k * w)) n more)) (omega arith)
   where
     has_one : (extent : Extent) (w k : ℕ) → HasBytes (suc k * w) extent → HasBytes w extent
     has_one (Announced n) w k has = let one = suc-mul k w in omega (arith, has, one)
@@ -162,14 +186,16 @@ blocks_more asked format (suc k) extent room blocks more len some has least =
     has_more (Announced n) w k has = let one = suc-mul k w in omega (arith, has, one)
     has_more Open w k has = tt
 
-    behind_more : (extent : Extent) (w k : ℕ) → extent_behind (extent_behind extent w) (k * w) ≡ extent_behind extent (suc k * w)
+    behind_more : (extent : Extent) (w k : ℕ) → extent_behind (extent_behind extent w) (k * w) ≡ extent_behind extent
+        (suc k * w)
     behind_more (Announced n) w k = let one = suc-mul k w in ap Announced (omega (arith, one))
     behind_more Open w k = refl
 
 -- the samples of one block more
 pub samples_more : (format : WaveFormat) (asked : Asked) (count : ℕ) (bytes : List ℕ)
     → samples_at format asked (count + 1) bytes
-    ≡ samples_at format asked count bytes ++ sample_in format asked (take format.block (drop (count * format.block) bytes)) ∷ []
+    ≡ samples_at format asked count bytes ++ sample_in format asked
+    (take format.block (drop (count * format.block) bytes)) ∷ []
 unfolding samples_at
 samples_more format asked zero bytes =
     let none : 0 * format.block ≡ 0 = omega arith in rw none refl

@@ -86,7 +86,8 @@ thirty_two_bits = refl
 -- ---- sizes of 64 bits
 
 -- the size of the data stands at byte 8 of ds64; what follows the data is passed over
-long_sizes : file_at (of_track 1) (rf64 ++ unknown ++ wave ++ ds64 ++ 16 ∷ 0 ∷ 0 ∷ 0 ∷ 9 ∷ 9 ∷ 9 ∷ 9 ∷ 9 ∷ 9 ∷ 9 ∷ 9 ∷ 2 ∷ 0 ∷ 0
+long_sizes : file_at (of_track 1) (rf64 ++ unknown ++ wave ++ ds64 ++ 16 ∷ 0 ∷ 0 ∷ 0 ∷ 9 ∷ 9 ∷ 9 ∷ 9 ∷ 9 ∷ 9 ∷ 9 ∷ 9 ∷ 2
+    ∷ 0 ∷ 0
     ∷ 0 ∷ 0 ∷ 0 ∷ 0 ∷ 0 ∷ fmt
     ++ format_with 1 2 16 ++ samples ++ unknown ++ 1 ∷ 2 ∷ 3 ∷ 4 ∷ [])
     ≡ read_whole (format 1 2 16) (pos 513 ∷ [])
@@ -131,7 +132,8 @@ no_size_at_all : file_at (of_track 1) (riff ++ nothing ++ wave_fmt ++ format_wit
 unfolding riff nothing wave_fmt format_with samples format chunks_at samples_at
 no_size_at_all = refl
 
-the_size_of_the_header : file_at (of_track 1) (riff ++ 36 ∷ 0 ∷ 0 ∷ 0 ∷ wave_fmt ++ format_with 1 2 16 ++ samples ++ nothing
+the_size_of_the_header : file_at (of_track 1) (riff ++ 36 ∷ 0 ∷ 0 ∷ 0 ∷ wave_fmt ++ format_with 1 2 16 ++ samples
+    ++ nothing
     ++ 1 ∷ 2 ∷ 3 ∷ 4 ∷ [])
     ≡ read_whole (format 1 2 16) (pos 513 ∷ pos 1_027 ∷ [])
 unfolding riff nothing wave_fmt format_with samples format chunks_at samples_at

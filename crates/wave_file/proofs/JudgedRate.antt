@@ -1,4 +1,5 @@
--- A format that a sound file is read with was judged, so its rate is from the least that is asked to 6,250,000, and the ticks are not too
+-- A format that a sound file is read with was judged, so its rate is from the least that is asked to 6,250,000, and
+-- the ticks are not too
 -- many.
 use Rattle.std.proofs.Common.{◌≡◌, ℕ, zero, suc, ◌+◌, ◌*◌, ◌≤◌, Bool, true, false, not, ◌&&◌, List, [], ◌∷◌, length}
 use Rattle.std.proofs.Common.{take, drop}
@@ -41,14 +42,17 @@ rate_of_passed : (a b c d e f : Bool) (p q r s t u : WaveFault)
 rate_of_passed true true true d e f p q r s t u none = refl
 rate_of_passed _ _ _ _ _ _ p q r s t u none = absurd cc
 
-format_rate : (asked : Asked) (place : ℕ) (pcm : Bool) (f : WaveFormat) → field_fault asked place pcm f ≡ None → IsRated asked f
+format_rate : (asked : Asked) (place : ℕ) (pcm : Bool) (f : WaveFormat) → field_fault asked place pcm f ≡ None
+    → IsRated asked f
 format_rate asked place pcm f none =
-    let passed = rate_of_passed pcm (is_track_count f.tracks) (is_rate asked.least_rate f.rate) (8 * f.block == f.tracks * f.bits)
+    let passed = rate_of_passed pcm (is_track_count f.tracks) (is_rate asked.least_rate f.rate)
+    (8 * f.block == f.tracks * f.bits)
     (is_sample_size f.bits) (nat_lt f.tracks asked.track) _ _ _ _ _ _ none in
     let rate = and_parts _ _ passed in
     (leb-true asked.least_rate f.rate rate.0, leb-true f.rate 6_250_000 rate.1)
 
-judged : (asked : Asked) (failed : Option WaveFault) (f format : WaveFormat) → (failed ≡ None → IsRated asked f) → unless failed f ≡ Ok format
+judged : (asked : Asked) (failed : Option WaveFault) (f format : WaveFormat) → (failed ≡ None → IsRated asked f)
+    → unless failed f ≡ Ok format
     → IsRated asked format
 judged asked None f format rated is = let same : f ≡ format = cc in subst (IsRated asked) same (rated refl)
 judged asked (Some failed) f format rated is = absurd cc
@@ -90,7 +94,8 @@ data_rated asked place (Some extent) None own rated is = absurd cc
 data_rated asked place (Some extent) (Some format) own rated is =
     let same : chunk.Data format extent ≡ own = cc in subst (IsRatedChunk asked) same (rated format refl)
 
-chunk_rated : (asked : Asked) (is_data is_format is_sizes short short_too : Bool) (place size : ℕ) (found : Result Chunk WaveFault)
+chunk_rated : (asked : Asked) (is_data is_format is_sizes short short_too : Bool) (place size : ℕ)
+    (found : Result Chunk WaveFault)
     (own : Chunk) → (found ≡ Ok own → IsRatedChunk asked own)
     → (if is_data then found
     else if is_format then (if short then Err (fault.Format place) else Ok (chunk.Format size))
@@ -114,11 +119,13 @@ chunk_of_rated asked notes place letters size own noted is =
     (data_rated asked place (extent_of notes place size) notes.format own noted) is
 
 -- a format that is noted
-some_rated : (asked : Asked) (format : WaveFormat) → IsRated asked format → (other : WaveFormat) → Some format ≡ Some other → IsRated asked other
+some_rated : (asked : Asked) (format : WaveFormat) → IsRated asked format → (other : WaveFormat)
+    → Some format ≡ Some other → IsRated asked other
 some_rated asked format rated other same = let equal : format ≡ other = cc in subst (IsRated asked) equal rated
 
 chunk_has : (asked : Asked) (notes : Notes) (place : ℕ) (own : Chunk) (next : ℕ → Notes → Reading) (bytes : List ℕ)
-    → AreRated asked notes → IsRatedChunk asked own → ((size : ℕ) (more : Notes) → AreRated asked more → HasRate asked (next size more))
+    → AreRated asked notes → IsRatedChunk asked own
+    → ((size : ℕ) (more : Notes) → AreRated asked more → HasRate asked (next size more))
     → HasRate asked (chunk_at asked notes place own next bytes)
 chunk_has asked notes place (chunk.Format size) next bytes noted rated each =
     piece_has asked _ _ bytes (λ body rest. taken_has asked (format_in asked place body) _ (λ format is.
@@ -139,7 +146,8 @@ chunks_have asked (suc skip) notes place (byte ∷ more) noted = chunks_have ask
 chunks_have asked zero notes place (a ∷ b ∷ c ∷ d ∷ e ∷ f ∷ g ∷ h ∷ more) noted =
     taken_has asked (chunk_of notes place (big_number 4 (a ∷ b ∷ c ∷ d ∷ [])) (little_number 4 (e ∷ f ∷ g ∷ h ∷ []))) _
     (λ own is. chunk_has asked notes (place + 8) own _ more noted
-    (chunk_of_rated asked notes place (big_number 4 (a ∷ b ∷ c ∷ d ∷ [])) (little_number 4 (e ∷ f ∷ g ∷ h ∷ [])) own noted is)
+    (chunk_of_rated asked notes place (big_number 4 (a ∷ b ∷ c ∷ d ∷ [])) (little_number 4 (e ∷ f ∷ g ∷ h ∷ [])) own
+    noted is)
     (λ size later known. chunks_have asked (padded size) later (place + 8) more known))
 chunks_have asked skip notes place bytes noted = nothing_has asked unfinished refl
 

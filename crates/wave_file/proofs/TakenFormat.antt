@@ -17,10 +17,12 @@ record Passes (a b c d e f : Bool) : Type 0 where
   among : f ≡ false
 
 passes : (a b c d e f : Bool) (p q r s t u : WaveFault)
-    → (if not a then Some p else if not b then Some q else if not c then Some r else if not d then Some s else if not e then Some t
+    → (if not a then Some p else if not b then Some q else if not c then Some r else if not d then Some s else if not e
+    then Some t
     else if f then Some u else None) ≡ None
     → Passes a b c d e f
-passes true true true true true false p q r s t u none = record { tracks = refl; rate = refl; block = refl; bits = refl; among = refl }
+passes true true true true true false p q r s t u none =
+    record { tracks = refl; rate = refl; block = refl; bits = refl; among = refl }
 passes _ _ _ _ _ _ p q r s t u none = absurd cc
 
 record Sized (tracks bits block : ℕ) : Type 0 where
@@ -58,15 +60,18 @@ sized tracks bits block size e = elim (or_cases (bits == 8) _ size) [
         rw b (record { least = omega arith; most = omega arith; whole = refl; block_is = omega (arith, p) })
 
 -- the bytes of a block
-between : (tracks bits block : ℕ) → 1 ≤ tracks → tracks ≤ 64 → 8 ≤ bits → bits ≤ 32 → 8 * block ≡ tracks * bits → (1 ≤ block) × (block ≤ 256)
+between : (tracks bits block : ℕ) → 1 ≤ tracks → tracks ≤ 64 → 8 ≤ bits → bits ≤ 32 → 8 * block ≡ tracks * bits
+    → (1 ≤ block) × (block ≤ 256)
 between tracks bits block a b c d e =
     let low = mul-le 1 8 tracks bits a c in
     let high = mul-le tracks bits 64 32 b d in
     (omega (arith, low, e), omega (arith, high, e))
 
-pub taken_for : (asked : Asked) (place : ℕ) (pcm : Bool) (f : WaveFormat) → IsAsked asked → field_fault asked place pcm f ≡ None → IsTakenFor asked f
+pub taken_for : (asked : Asked) (place : ℕ) (pcm : Bool) (f : WaveFormat) → IsAsked asked
+    → field_fault asked place pcm f ≡ None → IsTakenFor asked f
 taken_for asked place pcm f first none =
-    let p = passes pcm (is_track_count f.tracks) (is_rate asked.least_rate f.rate) (8 * f.block == f.tracks * f.bits) (is_sample_size f.bits) (nat_lt f.tracks asked.track)
+    let p = passes pcm (is_track_count f.tracks) (is_rate asked.least_rate f.rate) (8 * f.block == f.tracks * f.bits)
+    (is_sample_size f.bits) (nat_lt f.tracks asked.track)
     _ _ _ _ _ _ none in
     let tracks = and_parts _ _ p.tracks in
     let rate = and_parts _ _ p.rate in

@@ -1,5 +1,7 @@
--- What bytes show of a sound file they show whatever follows: a piece that is whole stays so, and the blocks of more bytes begin with theirs.
-use Rattle.std.proofs.Common.{true, false, ◌≡◌, ℕ, zero, suc, ◌+◌, ◌-◌, ◌*◌, ◌/◌, ◌<◌, ◌≤◌, ◌⊎◌, inl, inr, min, Bool, List, [], ◌∷◌, ◌++◌, length, take, drop}
+-- What bytes show of a sound file they show whatever follows: a piece that is whole stays so, and the blocks of more
+-- bytes begin with theirs.
+use Rattle.std.proofs.Common.{true, false, ◌≡◌, ℕ, zero, suc, ◌+◌, ◌-◌, ◌*◌, ◌/◌, ◌<◌, ◌≤◌, ◌⊎◌, inl, inr, min, Bool}
+use Rattle.std.proofs.Common.{List, [], ◌∷◌, ◌++◌, length, take, drop}
 use Rattle.std.proofs.Common.{refl, ap, ap₂, ◌∙◌, arith, sym, Option, Some, None}
 use Rattle.std.specs.Prelude.{nat_le, ◌==◌, ℤ, if◌then◌else◌, Result, Ok, Err}
 use Rattle.std.proofs.lemmas.Bool.{cases_lt, le-leb, lt-leb, leb-true, leb-false}
@@ -30,7 +32,13 @@ use Rattle.wave_file.specs.declared.format.Asked.{Asked}
 -- ---- a piece
 
 pub same_goes_on : (r : Reading) → GoesOn r r
-same_goes_on r = record { format = inr refl; samples = ([], sym (append_none r.samples)); fault = λ f e. e; limit = λ e. e }
+same_goes_on r = record {
+  format = inr refl;
+  samples = ([], sym (append_none r.samples));
+  fault = λ f e. e;
+  limit =
+      λ e. e;
+}
   where
     append_none : (l : List ℤ) → l ++ [] ≡ l
     append_none [] = refl
@@ -38,7 +46,13 @@ same_goes_on r = record { format = inr refl; samples = ([], sym (append_none r.s
 
 -- bytes that end before the data begin say nothing yet
 unfinished_goes_on : (r : Reading) → GoesOn unfinished r
-unfinished_goes_on r = record { format = inl refl; samples = (r.samples, refl); fault = λ f e. absurd cc; limit = λ e. absurd cc }
+unfinished_goes_on r = record {
+  format = inl refl;
+  samples = (r.samples, refl);
+  fault = λ f e. absurd cc;
+  limit =
+      λ e. absurd cc;
+}
 
 -- what a whole piece brings goes on
 piece_goes_on : (width : ℕ) (brings later : List ℕ → List ℕ → Reading) (bytes more : List ℕ)
@@ -47,16 +61,19 @@ piece_goes_on : (width : ℕ) (brings later : List ℕ → List ℕ → Reading)
 piece_goes_on width brings later bytes more goes = by_test (nat_le width (length bytes)) refl
   where
     by_test : (b : Bool) → nat_le width (length bytes) ≡ b
-        → GoesOn (if b then brings (take width bytes) (drop width bytes) else unfinished) (piece width later (bytes ++ more))
+        → GoesOn (if b then brings (take width bytes) (drop width bytes) else unfinished)
+        (piece width later (bytes ++ more))
     by_test false e = unfinished_goes_on _
     by_test true e =
         let within = leb-true width (length bytes) e in
         let all = length-append bytes more in
-        let there : nat_le width (length (bytes ++ more)) ≡ true = le-leb width (length (bytes ++ more)) (omega (arith, within, all)) in
+        let there : nat_le width (length (bytes ++ more)) ≡ true =
+        le-leb width (length (bytes ++ more)) (omega (arith, within, all)) in
         rw (there, take-append-le width bytes more within, drop-append-le width bytes more within)
         (goes (take width bytes) (drop width bytes))
 
-taken_goes_on : {A : Type 0} (r : Result A WaveFault) (next later : A → Reading) → ((value : A) → GoesOn (next value) (later value))
+taken_goes_on : {A : Type 0} (r : Result A WaveFault) (next later : A → Reading)
+    → ((value : A) → GoesOn (next value) (later value))
     → GoesOn (taken r next) (taken r later)
 taken_goes_on (Ok value) next later goes = goes value
 taken_goes_on (Err f) next later goes = same_goes_on (bad f)
@@ -74,10 +91,12 @@ no_more_inside Open bytes = omega arith
 -- of more bytes there are no fewer blocks
 more_blocks : (a b block : ℕ) → a ≤ b → a / block ≤ b / block
 more_blocks a b zero less = omega arith
-more_blocks a b (suc n) less = let whole = div-mul-le_self a (suc n) in le-div (a / suc n) b (suc n) (omega arith) (omega (arith, whole, less))
+more_blocks a b (suc n) less = let whole = div-mul-le_self a (suc n) in le-div (a / suc n) b (suc n) (omega arith)
+    (omega (arith, whole, less))
 
 -- the samples of the blocks that are there come first
-samples_first : (format : WaveFormat) (asked : Asked) (count others : ℕ) (bytes more : List ℕ) → count ≤ others → count * format.block ≤ length bytes
+samples_first : (format : WaveFormat) (asked : Asked) (count others : ℕ) (bytes more : List ℕ) → count ≤ others
+    → count * format.block ≤ length bytes
     → (rest : List ℤ) × (samples_at format asked others (bytes ++ more) ≡ samples_at format asked count bytes ++ rest)
 unfolding samples_at
 samples_first format asked zero others bytes more less there = (samples_at format asked others (bytes ++ more), refl)
@@ -87,7 +106,8 @@ samples_first format asked (suc count) (suc others) bytes more less there =
     let one = suc-mul count w in
     let within : w ≤ length bytes = omega (arith, there, one) in
     let left = length-drop w bytes in
-    let rest = samples_first format asked count others (drop w bytes) more (omega (arith, less)) (omega (arith, there, one, left)) in (
+    let rest = samples_first format asked count others (drop w bytes) more (omega (arith, less))
+    (omega (arith, there, one, left)) in (
       rest.0,
       ap₂ (λ (block behind : List ℕ). sample_in format asked block ∷ samples_at format asked others behind)
           (take-append-le w bytes more within) (drop-append-le w bytes more within)
@@ -134,24 +154,30 @@ data_goes_on asked format extent room bytes more =
 
 -- the format in the bytes of a chunk, and what comes behind them; and the size of the data in the bytes of another
 abbrev format_brings : Asked → Notes → ℕ → (Notes → Reading) → List ℕ → Reading
-format_brings asked notes place next body = taken (format_in asked place body) (λ format. next (record notes { format = Some format }))
+format_brings asked notes place next body =
+    taken (format_in asked place body) (λ format. next (record notes { format = Some format }))
 
 abbrev sizes_bring : Notes → (Notes → Reading) → List ℕ → Reading
 sizes_bring notes next body = next (record notes { data_size = Some (little_number 8 (drop 8 body)) })
 
 -- what a chunk begins, where the chunks behind its bytes go on
-chunk_goes_on : (asked : Asked) (notes : Notes) (place : ℕ) (chunk : Chunk) (next later : ℕ → Notes → Reading) (bytes more : List ℕ)
+chunk_goes_on : (asked : Asked) (notes : Notes) (place : ℕ) (chunk : Chunk) (next later : ℕ → Notes → Reading)
+    (bytes more : List ℕ)
     → ((size : ℕ) (n : Notes) → GoesOn (next size n) (later size n))
     → GoesOn (chunk_at asked notes place chunk next bytes) (chunk_at asked notes place chunk later (bytes ++ more))
 chunk_goes_on asked notes place (chunk.Format size) next later bytes more behind =
     piece_goes_on (judged_width size) (λ body rest. format_brings asked notes place (next size) body)
     (λ body rest. format_brings asked notes place (later size) body) bytes more
-    (λ body rest. taken_goes_on (format_in asked place body) (λ format. next size (record notes { format = Some format }))
-    (λ format. later size (record notes { format = Some format })) (λ format. behind size (record notes { format = Some format })))
+    (λ body rest. taken_goes_on (format_in asked place body)
+    (λ format. next size (record notes { format = Some format }))
+    (λ format. later size (record notes { format = Some format }))
+    (λ format. behind size (record notes { format = Some format })))
 chunk_goes_on asked notes place (chunk.Sizes size) next later bytes more behind =
-    piece_goes_on 16 (λ body rest. sizes_bring notes (next size) body) (λ body rest. sizes_bring notes (later size) body) bytes more
+    piece_goes_on 16 (λ body rest. sizes_bring notes (next size) body)
+    (λ body rest. sizes_bring notes (later size) body) bytes more
     (λ body rest. behind size (record notes { data_size = Some (little_number 8 (drop 8 body)) }))
-chunk_goes_on asked notes place (chunk.Data format extent) next later bytes more behind = data_goes_on asked format extent asked.most_samples bytes more
+chunk_goes_on asked notes place (chunk.Data format extent) next later bytes more behind =
+    data_goes_on asked format extent asked.most_samples bytes more
 chunk_goes_on asked notes place (chunk.Other size) next later bytes more behind = behind size notes
 
 chunks_go_on : (asked : Asked) (skip : ℕ) (notes : Notes) (place : ℕ) (bytes more : List ℕ)
@@ -162,8 +188,10 @@ chunks_go_on asked zero notes place (a ∷ b ∷ c ∷ d ∷ e ∷ f ∷ g ∷ h
     let next = λ (size : ℕ) (n : Notes). chunks_at asked (padded size) n (place + 8) bytes in
     let later = λ (size : ℕ) (n : Notes). chunks_at asked (padded size) n (place + 8) (bytes ++ more) in
     taken_goes_on (chunk_of notes place (big_number 4 (a ∷ b ∷ c ∷ d ∷ [])) (little_number 4 (e ∷ f ∷ g ∷ h ∷ [])))
-    (λ chunk. chunk_at asked notes (place + 8) chunk next bytes) (λ chunk. chunk_at asked notes (place + 8) chunk later (bytes ++ more))
-    (λ chunk. chunk_goes_on asked notes (place + 8) chunk next later bytes more (λ size n. chunks_go_on asked (padded size) n (place + 8) bytes more))
+    (λ chunk. chunk_at asked notes (place + 8) chunk next bytes)
+    (λ chunk. chunk_at asked notes (place + 8) chunk later (bytes ++ more))
+    (λ chunk. chunk_goes_on asked notes (place + 8) chunk next later bytes more
+    (λ size n. chunks_go_on asked (padded size) n (place + 8) bytes more))
 chunks_go_on asked skip notes place bytes more = unfinished_goes_on (chunks_at asked skip notes place (bytes ++ more))
 
 -- ---- the file
@@ -173,18 +201,21 @@ file_goes_on asked bytes more =
     let brings = λ (letters rest : List ℕ). behind_form asked (form_of (big_number 4 letters)) rest in
     piece_goes_on 4 brings brings bytes more (λ letters rest. by_form (form_of (big_number 4 letters)) rest)
   where
-    by_letters : (b is_long : Bool) (size : ℕ) (rest : List ℕ) → GoesOn (if b then chunks_at asked 0 (no_notes is_long size) 12 rest else bad (fault.Wave 8))
+    by_letters : (b is_long : Bool) (size : ℕ) (rest : List ℕ)
+        → GoesOn (if b then chunks_at asked 0 (no_notes is_long size) 12 rest else bad (fault.Wave 8))
         (if b then chunks_at asked 0 (no_notes is_long size) 12 (rest ++ more) else bad (fault.Wave 8))
     by_letters true is_long size rest = chunks_go_on asked 0 (no_notes is_long size) 12 rest more
     by_letters false is_long size rest = same_goes_on _
 
-    by_form : (form : Option Bool) (rest : List ℕ) → GoesOn (behind_form asked form rest) (behind_form asked form (rest ++ more))
+    by_form : (form : Option Bool) (rest : List ℕ)
+        → GoesOn (behind_form asked form rest) (behind_form asked form (rest ++ more))
     by_form None rest = same_goes_on _
     by_form (Some is_long) rest =
         let brings = λ (wave rest : List ℕ). if big_number 4 (drop 4 wave) == WAVE
         then chunks_at asked 0 (no_notes is_long (little_number 4 wave)) 12 rest
         else bad (fault.Wave 8) in
-        piece_goes_on 8 brings brings rest more (λ wave rest. by_letters (big_number 4 (drop 4 wave) == WAVE) is_long (little_number 4 wave) rest)
+        piece_goes_on 8 brings brings rest more
+        (λ wave rest. by_letters (big_number 4 (drop 4 wave) == WAVE) is_long (little_number 4 wave) rest)
 
 -- past the greatest number of bytes nothing that was shown changes
 cut_goes_on : (r s : Reading) → GoesOn r s → GoesOn r (record s { verdict = and_more s.verdict; may_end = false })
@@ -195,7 +226,8 @@ cut_goes_on r s goes = record {
   limit = λ e. ap and_more (goes.limit e);
 }
 
-pub reading_goes_on : (asked : Asked) (bytes more : List ℕ) → GoesOn (reading_of asked bytes) (reading_of asked (bytes ++ more))
+pub reading_goes_on : (asked : Asked) (bytes more : List ℕ)
+    → GoesOn (reading_of asked bytes) (reading_of asked (bytes ++ more))
 reading_goes_on asked bytes more = go (cases_lt MAX_BYTES (length bytes)) (cases_lt MAX_BYTES (length (bytes ++ more)))
   where
     within : (l : List ℕ) → length l ≤ MAX_BYTES → nat_le (length l) MAX_BYTES ≡ true
@@ -204,7 +236,8 @@ reading_goes_on asked bytes more = go (cases_lt MAX_BYTES (length bytes)) (cases
     over : (l : List ℕ) → MAX_BYTES < length l → nat_le (length l) MAX_BYTES ≡ false
     over l e = lt-leb (length l) MAX_BYTES e
 
-    go : (MAX_BYTES < length bytes) ⊎ (length bytes ≤ MAX_BYTES) → (MAX_BYTES < length (bytes ++ more)) ⊎ (length (bytes ++ more) ≤ MAX_BYTES)
+    go : (MAX_BYTES < length bytes) ⊎ (length bytes ≤ MAX_BYTES) → (MAX_BYTES < length (bytes ++ more))
+        ⊎ (length (bytes ++ more) ≤ MAX_BYTES)
         → GoesOn (reading_of asked bytes) (reading_of asked (bytes ++ more))
     go (inr few) (inr fewer) = rw (within bytes few, within (bytes ++ more) fewer) (file_goes_on asked bytes more)
     go (inr few) (inl many) =
@@ -213,18 +246,22 @@ reading_goes_on asked bytes more = go (cases_lt MAX_BYTES (length bytes)) (cases
         let cut : take MAX_BYTES (bytes ++ more) ≡ bytes ++ take left more =
         ap (λ (n : ℕ). take n (bytes ++ more)) limit ∙ take-append-add bytes more left in
         rw (within bytes few, over (bytes ++ more) many, cut)
-        (cut_goes_on (file_at asked bytes) (file_at asked (bytes ++ take left more)) (file_goes_on asked bytes (take left more)))
+        (cut_goes_on (file_at asked bytes) (file_at asked (bytes ++ take left more))
+        (file_goes_on asked bytes (take left more)))
     go (inl much) (inl many) =
-        let cut : take MAX_BYTES (bytes ++ more) ≡ take MAX_BYTES bytes = take-append-le MAX_BYTES bytes more (omega (arith, much)) in
+        let cut : take MAX_BYTES (bytes ++ more) ≡ take MAX_BYTES bytes =
+        take-append-le MAX_BYTES bytes more (omega (arith, much)) in
         rw (over bytes much, over (bytes ++ more) many, cut) (same_goes_on _)
     go (inl much) (inr fewer) = let all = length-append bytes more in absurd (omega (arith, much, fewer, all))
 
 -- ---- how many samples, and behind which format
 
-length-samples : (format : WaveFormat) (asked : Asked) (count : ℕ) (bytes : List ℕ) → length (samples_at format asked count bytes) ≡ count
+length-samples : (format : WaveFormat) (asked : Asked) (count : ℕ) (bytes : List ℕ)
+    → length (samples_at format asked count bytes) ≡ count
 unfolding samples_at
 length-samples format asked zero bytes = refl
-length-samples format asked (suc count) bytes = let rest = length-samples format asked count (drop format.block bytes) in omega (arith, rest)
+length-samples format asked (suc count) bytes = let rest = length-samples format asked count (drop format.block bytes)
+    in omega (arith, rest)
 
 few_unfinished : (asked : Asked) → IsWithin asked unfinished
 few_unfinished asked = record { few = omega arith; none = λ e. refl; ends = λ e. refl }
@@ -232,7 +269,8 @@ few_unfinished asked = record { few = omega arith; none = λ e. refl; ends = λ 
 few_bad : (asked : Asked) (f : WaveFault) → IsWithin asked (bad f)
 few_bad asked f = record { few = omega arith; none = λ e. refl; ends = λ e. refl }
 
-few_in_piece : (asked : Asked) (width : ℕ) (brings : List ℕ → List ℕ → Reading) (bytes : List ℕ) → ((body rest : List ℕ) → IsWithin asked (brings body rest))
+few_in_piece : (asked : Asked) (width : ℕ) (brings : List ℕ → List ℕ → Reading) (bytes : List ℕ)
+    → ((body rest : List ℕ) → IsWithin asked (brings body rest))
     → IsWithin asked (piece width brings bytes)
 few_in_piece asked width brings bytes few = by_test (nat_le width (length bytes))
   where
@@ -240,38 +278,46 @@ few_in_piece asked width brings bytes few = by_test (nat_le width (length bytes)
     by_test true = few (take width bytes) (drop width bytes)
     by_test false = few_unfinished asked
 
-few_taken : {A : Type 0} (asked : Asked) (r : Result A WaveFault) (next : A → Reading) → ((value : A) → IsWithin asked (next value)) → IsWithin asked (taken r next)
+few_taken : {A : Type 0} (asked : Asked) (r : Result A WaveFault) (next : A → Reading)
+    → ((value : A) → IsWithin asked (next value)) → IsWithin asked (taken r next)
 few_taken asked (Ok value) next few = few value
 few_taken asked (Err f) next few = few_bad asked f
 
 few_in_chunk : (asked : Asked) (notes : Notes) (place : ℕ) (chunk : Chunk) (next : ℕ → Notes → Reading) (bytes : List ℕ)
-    → ((size : ℕ) (n : Notes) → IsWithin asked (next size n)) → IsWithin asked (chunk_at asked notes place chunk next bytes)
+    → ((size : ℕ) (n : Notes) → IsWithin asked (next size n))
+    → IsWithin asked (chunk_at asked notes place chunk next bytes)
 few_in_chunk asked notes place (chunk.Format size) next bytes behind =
     few_in_piece asked (judged_width size) (λ body rest. format_brings asked notes place (next size) body) bytes
-    (λ body rest. few_taken asked (format_in asked place body) (λ format. next size (record notes { format = Some format }))
+    (λ body rest. few_taken asked (format_in asked place body)
+    (λ format. next size (record notes { format = Some format }))
     (λ format. behind size (record notes { format = Some format })))
 few_in_chunk asked notes place (chunk.Sizes size) next bytes behind =
-    few_in_piece asked 16 (λ body rest. sizes_bring notes (next size) body) bytes (λ body rest. behind size (record notes { data_size = Some (little_number 8 (drop 8 body)) }))
+    few_in_piece asked 16 (λ body rest. sizes_bring notes (next size) body) bytes
+    (λ body rest. behind size (record notes { data_size = Some (little_number 8 (drop 8 body)) }))
 few_in_chunk asked notes place (chunk.Data format extent) next bytes behind =
     let count = length-samples format asked (min asked.most_samples (blocks_inside format extent bytes)) bytes in
     record { few = omega (arith, count); none = λ e. absurd cc; ends = λ e. absurd cc }
 few_in_chunk asked notes place (chunk.Other size) next bytes behind = behind size notes
 
-few_in_chunks : (asked : Asked) (skip : ℕ) (notes : Notes) (place : ℕ) (bytes : List ℕ) → IsWithin asked (chunks_at asked skip notes place bytes)
+few_in_chunks : (asked : Asked) (skip : ℕ) (notes : Notes) (place : ℕ) (bytes : List ℕ)
+    → IsWithin asked (chunks_at asked skip notes place bytes)
 unfolding chunks_at
 few_in_chunks asked (suc skip) notes place (byte ∷ bytes) = few_in_chunks asked skip notes (place + 1) bytes
 few_in_chunks asked zero notes place (a ∷ b ∷ c ∷ d ∷ e ∷ f ∷ g ∷ h ∷ bytes) =
     let next = λ (size : ℕ) (n : Notes). chunks_at asked (padded size) n (place + 8) bytes in
     few_taken asked (chunk_of notes place (big_number 4 (a ∷ b ∷ c ∷ d ∷ [])) (little_number 4 (e ∷ f ∷ g ∷ h ∷ [])))
     (λ chunk. chunk_at asked notes (place + 8) chunk next bytes)
-    (λ chunk. few_in_chunk asked notes (place + 8) chunk next bytes (λ size n. few_in_chunks asked (padded size) n (place + 8) bytes))
+    (λ chunk. few_in_chunk asked notes (place + 8) chunk next bytes
+    (λ size n. few_in_chunks asked (padded size) n (place + 8) bytes))
 few_in_chunks asked skip notes place bytes = few_unfinished asked
 
 few_in_file : (asked : Asked) (bytes : List ℕ) → IsWithin asked (file_at asked bytes)
 few_in_file asked bytes =
-    few_in_piece asked 4 (λ letters rest. behind_form asked (form_of (big_number 4 letters)) rest) bytes (λ letters rest. by_form (form_of (big_number 4 letters)) rest)
+    few_in_piece asked 4 (λ letters rest. behind_form asked (form_of (big_number 4 letters)) rest) bytes
+    (λ letters rest. by_form (form_of (big_number 4 letters)) rest)
   where
-    by_letters : (b is_long : Bool) (size : ℕ) (rest : List ℕ) → IsWithin asked (if b then chunks_at asked 0 (no_notes is_long size) 12 rest else bad (fault.Wave 8))
+    by_letters : (b is_long : Bool) (size : ℕ) (rest : List ℕ)
+        → IsWithin asked (if b then chunks_at asked 0 (no_notes is_long size) 12 rest else bad (fault.Wave 8))
     by_letters true is_long size rest = few_in_chunks asked 0 (no_notes is_long size) 12 rest
     by_letters false is_long size rest = few_bad asked (fault.Wave 8)
 
@@ -281,7 +327,8 @@ few_in_file asked bytes =
         let brings = λ (wave rest : List ℕ). if big_number 4 (drop 4 wave) == WAVE
         then chunks_at asked 0 (no_notes is_long (little_number 4 wave)) 12 rest
         else bad (fault.Wave 8) in
-        few_in_piece asked 8 brings rest (λ wave rest. by_letters (big_number 4 (drop 4 wave) == WAVE) is_long (little_number 4 wave) rest)
+        few_in_piece asked 8 brings rest
+        (λ wave rest. by_letters (big_number 4 (drop 4 wave) == WAVE) is_long (little_number 4 wave) rest)
 
 pub few_samples : (asked : Asked) (bytes : List ℕ) → IsWithin asked (reading_of asked bytes)
 few_samples asked bytes = by_test (nat_le (length bytes) MAX_BYTES)
@@ -290,4 +337,5 @@ few_samples asked bytes = by_test (nat_le (length bytes) MAX_BYTES)
         else let r = file_at asked (take MAX_BYTES bytes) in record r { verdict = and_more r.verdict; may_end = false })
     by_test true = few_in_file asked bytes
     by_test false =
-        let within = few_in_file asked (take MAX_BYTES bytes) in record { few = within.few; none = within.none; ends = λ e. refl }
+        let within = few_in_file asked (take MAX_BYTES bytes) in
+        record { few = within.few; none = within.none; ends = λ e. refl }

@@ -67,7 +67,8 @@ at_end n some = let less : 0 < n = omega (arith, some) in ap (λ (m : ℕ). m ==
 pub data_read : (asked : Asked) (format : WaveFormat) (extent : Extent) (blocks : List (List Sample)) (tail : List ℕ)
     → IsTakenFor asked format → AllByRecursion (IsBlock format) blocks → length blocks ≤ asked.most_samples
     → Covers extent (length (data_text blocks)) tail
-    → data_at asked format extent asked.most_samples (data_text blocks ++ tail) ≡ read_whole format (track_of asked.track blocks)
+    → data_at asked format extent asked.most_samples (data_text blocks ++ tail) ≡ read_whole format
+    (track_of asked.track blocks)
 data_read asked format extent blocks tail fits whole few covers =
     let count = length blocks in
     let size = data_length format asked blocks fits whole in
@@ -86,7 +87,8 @@ data_read asked format extent blocks tail fits whole few covers =
 
     left : (extent : Extent) → length (data_text blocks) ≡ length blocks * format.block
         → Covers extent (length (data_text blocks)) tail
-        → data_at asked format (extent_behind extent (length blocks * format.block)) (asked.most_samples - length blocks) tail
+        → data_at asked format (extent_behind extent (length blocks * format.block))
+        (asked.most_samples - length blocks) tail
         ≡ read_whole format []
     left (Announced n) size covers =
         let none : n - length blocks * format.block ≡ 0 = omega (arith, size, covers) in
@@ -95,7 +97,8 @@ data_read asked format extent blocks tail fits whole few covers =
         (le-leb 0 (length tail) (omega arith))
     left Open size covers =
         ap (λ (l : List ℕ). data_at asked format Open (asked.most_samples - length blocks) l) covers
-        ∙ nothing_left asked format Open (asked.most_samples - length blocks) [] fits.some refl (at_end format.block fits.some)
+        ∙ nothing_left asked format Open (asked.most_samples - length blocks) [] fits.some refl
+        (at_end format.block fits.some)
 
 -- ---- the head of a chunk
 
@@ -218,7 +221,8 @@ no_fault asked place f fits =
     some : 1 ≤ asked.track → asked.track ≤ f.tracks → 1 ≤ f.tracks
     some a b = omega (arith, a, b)
 
-format_read : (asked : Asked) (place : ℕ) (f : WaveFormat) → IsTakenFor asked f → format_in asked place (format_text f) ≡ Ok f
+format_read : (asked : Asked) (place : ℕ) (f : WaveFormat) → IsTakenFor asked f
+    → format_in asked place (format_text f) ≡ Ok f
 format_read asked place f fits =
     let body = format_text f in
     let back = format_back asked f fits in
@@ -266,7 +270,8 @@ sizes_chunk asked place file_size size data_size more below =
 abbrev noted : Notes → WaveFormat → Notes
 noted notes format = record notes { format = Some format }
 
-pub behind_read : (asked : Asked) (notes : Notes) (place : ℕ) (before : List OtherChunk) (format : WaveFormat) (size : ℕ)
+pub behind_read : (asked : Asked) (notes : Notes) (place : ℕ) (before : List OtherChunk) (format : WaveFormat)
+    (size : ℕ)
     (blocks : List (List Sample)) (tail : List ℕ) (extent : Extent) → AreParts asked before format blocks
     → size < 2 ^ 32
     → extent_of (noted notes format) (place + length (others_text before) + 24) size ≡ Some extent
@@ -344,7 +349,8 @@ told_size file_size place size format some less =
     let none = ne_eqb size 0 (λ e. omega (arith, e, some)) in
     rw (greatest, great, none) refl
 
-pub told_file : (asked : Asked) (file_size : ℕ) (before : List OtherChunk) (format : WaveFormat) (blocks : List (List Sample))
+pub told_file : (asked : Asked) (file_size : ℕ) (before : List OtherChunk) (format : WaveFormat)
+    (blocks : List (List Sample))
     (tail : List ℕ)
     → AreParts asked before format blocks → 1 ≤ length blocks → file_size < 2 ^ 32
     → length (data_text blocks) < 2 ^ 31 - 2 ^ 16
@@ -399,7 +405,8 @@ pub made_file : (asked : Asked) (format : WaveFormat) (blocks : List (List Sampl
 made_file asked format blocks bytes file = within_file asked bytes file.within ∙ by_form file.made
   where
     by_form : TellsItsSize asked format blocks bytes ⊎ TellsNoSize asked format blocks bytes
-        ⊎ TellsALongSize asked format blocks bytes → file_at asked bytes ≡ read_whole format (track_of asked.track blocks)
+        ⊎ TellsALongSize asked format blocks bytes
+        → file_at asked bytes ≡ read_whole format (track_of asked.track blocks)
     by_form (inl f) =
         ap (file_at asked) f.are
         ∙ told_file asked f.file_size f.before format blocks f.tail f.parts f.some f.fits f.told

@@ -66,7 +66,8 @@ sample_at w (suc k) (s ∷ block) d all less = sample_at w k block d all.1 (omeg
 
 read_at : (format : WaveFormat) (asked : Asked) (bytes rest : List ℕ) (s : Sample) → 1 ≤ asked.track
     → IsOfWidth (sample_width format) s
-    → drop ((asked.track - 1) * sample_width format) bytes ≡ sample_text s ++ rest → sample_in format asked bytes ≡ value_of s
+    → drop ((asked.track - 1) * sample_width format) bytes ≡ sample_text s ++ rest
+    → sample_in format asked bytes ≡ value_of s
 read_at format asked bytes rest (Eight byte) first is there =
     let w = sample_width format in
     let at : (asked.track - 1) * w + 0 ≡ asked.track - 1 = ap (λ (n : ℕ). (asked.track - 1) * n + 0) is
@@ -99,7 +100,8 @@ pub block_is_whole : (format : WaveFormat) (asked : Asked) (block : List Sample)
 block_is_whole format asked block taken is =
     block_length (sample_width format) block is.1 ∙ ap (λ (n : ℕ). n * sample_width format) is.0 ∙ sym taken.block
 
-block_read : (format : WaveFormat) (asked : Asked) (block : List Sample) → IsTakenFor asked format → IsBlock format block
+block_read : (format : WaveFormat) (asked : Asked) (block : List Sample) → IsTakenFor asked format
+    → IsBlock format block
     → sample_in format asked (block_text block) ≡ value_of (get_or block (asked.track - 1) (Eight 0))
 block_read format asked block taken is =
     let w = sample_width format in

@@ -124,37 +124,40 @@ abbrev pub read_whole : WaveFormat → List ℤ → Reading
 read_whole format samples = record { format = Some format; samples = samples; verdict = good; may_end = true }
 
 -- the bytes are a file in RIFF that tells the size of its data
-pub record TellsItsSize (asked : Asked) (format : WaveFormat) (blocks : List (List Sample)) (bytes : List ℕ) : Type 0 where
-  pub file_size : ℕ
-  pub before : List OtherChunk
-  pub tail : List ℕ
-  pub are : bytes ≡ file_of file_size before format (length (data_text blocks)) blocks tail
-  pub parts : AreParts asked before format blocks
-  pub some : 1 ≤ length blocks
-  pub fits : file_size < 2 ^ 32
-  pub told : length (data_text blocks) < LEAST_OPEN_SIZE
+pub record TellsItsSize (asked : Asked) (format : WaveFormat) (blocks : List (List Sample)) (bytes : List ℕ) : Type 0
+  where
+    pub file_size : ℕ
+    pub before : List OtherChunk
+    pub tail : List ℕ
+    pub are : bytes ≡ file_of file_size before format (length (data_text blocks)) blocks tail
+    pub parts : AreParts asked before format blocks
+    pub some : 1 ≤ length blocks
+    pub fits : file_size < 2 ^ 32
+    pub told : length (data_text blocks) < LEAST_OPEN_SIZE
 
 -- they are one in RIFF whose size tells no length, and that ends with its data
-pub record TellsNoSize (asked : Asked) (format : WaveFormat) (blocks : List (List Sample)) (bytes : List ℕ) : Type 0 where
-  pub file_size : ℕ
-  pub before : List OtherChunk
-  pub size : ℕ
-  pub are : bytes ≡ file_of file_size before format size blocks []
-  pub parts : AreParts asked before format blocks
-  pub fits : (file_size < 2 ^ 32) × (size < 2 ^ 32)
-  pub untold : is_open (no_notes false file_size) (36 + length (others_text before)) size ≡ true
+pub record TellsNoSize (asked : Asked) (format : WaveFormat) (blocks : List (List Sample)) (bytes : List ℕ) : Type 0
+  where
+    pub file_size : ℕ
+    pub before : List OtherChunk
+    pub size : ℕ
+    pub are : bytes ≡ file_of file_size before format size blocks []
+    pub parts : AreParts asked before format blocks
+    pub fits : (file_size < 2 ^ 32) × (size < 2 ^ 32)
+    pub untold : is_open (no_notes false file_size) (36 + length (others_text before)) size ≡ true
 
 -- they are one in RF64 or BW64, whose `ds64` tells the size of its data
-pub record TellsALongSize (asked : Asked) (format : WaveFormat) (blocks : List (List Sample)) (bytes : List ℕ) : Type 0 where
-  pub form : ℕ
-  pub file_size : ℕ
-  pub before : List OtherChunk
-  pub tail : List ℕ
-  pub are : bytes ≡ long_file_of form file_size (length (data_text blocks)) before format blocks tail
-  pub parts : AreParts asked before format blocks
-  pub some : 1 ≤ length blocks
-  pub long : (form ≡ RF64) ⊎ (form ≡ BW64)
-  pub told : length (data_text blocks) < 2 ^ 64
+pub record TellsALongSize (asked : Asked) (format : WaveFormat) (blocks : List (List Sample)) (bytes : List ℕ) : Type 0
+  where
+    pub form : ℕ
+    pub file_size : ℕ
+    pub before : List OtherChunk
+    pub tail : List ℕ
+    pub are : bytes ≡ long_file_of form file_size (length (data_text blocks)) before format blocks tail
+    pub parts : AreParts asked before format blocks
+    pub some : 1 ≤ length blocks
+    pub long : (form ≡ RF64) ⊎ (form ≡ BW64)
+    pub told : length (data_text blocks) < 2 ^ 64
 
 -- they are a sound file that was made of these blocks, of no more bytes than are read
 pub record IsMadeOf (asked : Asked) (format : WaveFormat) (blocks : List (List Sample)) (bytes : List ℕ) : Type 0 where

@@ -1,5 +1,6 @@
 -- Which bytes a decoder of a sound file stands for. No promise but its clauses speaks of it.
-use Rattle.std.specs.Prelude.{◌≡◌, ⊤, ◌≤◌, ◌<◌, ℕ, zero, ◌+◌, ◌-◌, ◌/◌, min, ℤ, Bool, List, [], ◌∷◌, ◌++◌, length, take, Option, Some, None}
+use Rattle.std.specs.Prelude.{◌≡◌, ⊤, ◌≤◌, ◌<◌, ℕ, zero, ◌+◌, ◌-◌, ◌/◌, min, ℤ, Bool, List, [], ◌∷◌, ◌++◌, length, take}
+use Rattle.std.specs.Prelude.{Option, Some, None}
 use Rattle.wave_file.specs.declared.chunk.Notes.{Notes}
 use Rattle.wave_file.specs.declared.decoder.Taken.{Taken}
 use Rattle.wave_file.specs.declared.decoder.Taken.TheVariants.{Nothing, Begin, Sample, Fault, Limit}
@@ -19,7 +20,8 @@ use Rattle.wave_file.specs.declared.fault.WaveFault.{WaveFault}
 use Rattle.wave_file.specs.declared.format.Asked.{Asked}
 use Rattle.wave_file.specs.Format.{IsAsked}
 
--- what is asked, what the chunks so far say, the place behind the whole pieces, what the next bytes are, and the bytes of
+-- what is asked, what the chunks so far say, the place behind the whole pieces, what the next bytes are, and the
+-- bytes of
 -- a piece that is not whole
 pub record Decoding : Type 0 where
   pub asked : Asked
@@ -77,7 +79,8 @@ abbrev pub data_among : Extent → ℕ → ℕ
 data_among (extent.Announced n) count = min n count
 data_among extent.Open count = count
 
--- how many whole blocks are taken at the front of so many bytes, with so many places for their samples: all that are data
+-- how many whole blocks are taken at the front of so many bytes, with so many places for their samples: all that are
+-- data
 -- and within both limits, and none inside a block
 abbrev pub blocks_at : ℕ → Stage → ℕ → ℕ → ℕ → ℕ
 blocks_at place (Data format extent left) zero count places =
@@ -96,10 +99,11 @@ AddsTaken old new bytes (Fault f) = new ≡ old
 AddsTaken old new bytes Limit = new ≡ old
 
 -- what bytes show that end the reading, behind this format and these samples
-pub record IsTold (r : Reading) (format : Option WaveFormat) (samples : List ℤ) (verdict : Verdict WaveFault) : Type 0 where
-  pub format_is : r.format ≡ format
-  pub samples_are : r.samples ≡ samples
-  pub verdict_is : r.verdict ≡ verdict
+pub record IsTold (r : Reading) (format : Option WaveFormat) (samples : List ℤ) (verdict : Verdict WaveFault) : Type 0
+  where
+    pub format_is : r.format ≡ format
+    pub samples_are : r.samples ≡ samples
+    pub verdict_is : r.verdict ≡ verdict
 
 -- bytes that end the reading, whatever follows
 abbrev pub StopsAt : Decoding → List ℕ → List ℤ → Taken → Type 0

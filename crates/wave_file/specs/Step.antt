@@ -21,7 +21,8 @@ pub record IsPast (stage : Stage) (r : Reading) : Type 0 where
   pub format : r.format ≡ format_at_stage stage
 
 -- the stage behind a piece says the same of the bytes that follow
-pub record Leads (asked : Asked) (notes : Notes) (place : ℕ) (stage : Stage) (piece : List ℕ) (samples : List ℤ) (new : Notes) (next : Stage) : Type 0 where
+pub record Leads (asked : Asked) (notes : Notes) (place : ℕ) (stage : Stage) (piece : List ℕ) (samples : List ℤ)
+    (new : Notes) (next : Stage) : Type 0 where
   pub noted : IsNoted asked notes → IsNoted asked new
   pub is : IsStage asked (place + length piece) next
   pub wait : 1 ≤ width_of next

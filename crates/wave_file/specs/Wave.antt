@@ -78,7 +78,8 @@ judged_width size = min 26 size
 -- `fmt ` of a size whose bytes stand at a place
 abbrev pub format_at : Asked → Notes → ℕ → ℕ → (Notes → Reading) → List ℕ → Reading
 format_at asked notes place size next bytes =
-    piece (judged_width size) (λ body rest. taken (format_in asked place body) (λ format. next (record notes { format = Some format }))) bytes
+    piece (judged_width size)
+    (λ body rest. taken (format_in asked place body) (λ format. next (record notes { format = Some format }))) bytes
 
 -- `ds64`: the size of the data stands at its byte 8
 abbrev pub sizes_at : Notes → (Notes → Reading) → List ℕ → Reading

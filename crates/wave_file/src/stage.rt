@@ -149,7 +149,13 @@ pub(crate) fn passed(stage: &Stage, length: usize) -> Option<(usize, Stage)>
 }
 
 /// What a whole piece at a place brings.
-pub(crate) fn step_over(asked: Asked, notes: &Notes, stage: &Stage, place: u64, piece: &[u8]) -> Step
+pub(crate) fn step_over(
+    asked: Asked,
+    notes: &Notes,
+    stage: &Stage,
+    place: u64,
+    piece: &[u8],
+) -> Step
     requires asked { IsAsked asked }
     requires notes { IsNoted asked notes.now }
     requires stage { IsStage asked place stage.now }

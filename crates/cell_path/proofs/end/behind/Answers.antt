@@ -15,7 +15,8 @@ returns-clause-size c =
     let b : FitsSigned w64 c.ago.result = search rules in
     let e : c.of.result ≡ signed c.args.sign c.args.sound = rw (to_z-of_z s) at c.of.ensures in
     let x : IsWithin (c.args.length * 2 ^ 16) c.of.result =
-    subst (IsWithin (c.args.length * 2 ^ 16)) (sym e) (signed-within (c.args.length * 2 ^ 16) c.args.sign c.args.sound c.requires.sound) in
+    subst (IsWithin (c.args.length * 2 ^ 16)) (sym e)
+    (signed-within (c.args.length * 2 ^ 16) c.args.sign c.args.sound c.requires.sound) in
     let y = c.ago.ensures.size in
     let few = c.ago.ensures.count in
     let sum : IsWithin (limit c.args.rows.now.count 2) (c.of.result +ℤ c.ago.result) = record {

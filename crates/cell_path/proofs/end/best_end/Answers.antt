@@ -9,8 +9,10 @@ use Rattle.cell_path.proofs.EndOfSteps.{better_ends, better_within}
 use Rattle.cell_path.proofs.end.best_end.Goals as goal
 
 record Known (c : goal.After-better) : Type 0 where
-  zero_is : c.behind.result ≡ signed c.args.sign c.sound-zero.result +ℤ number_ago c.args.rows.now (c.length_at-length.result - 1) c.args.place (sign_before Zero c.args.sign)
-  one_is : c.behind-2.result ≡ signed c.args.sign c.sound-one.result +ℤ number_ago c.args.rows.now (c.length_at-length.result - 1) c.args.place (sign_before One c.args.sign)
+  zero_is : c.behind.result ≡ signed c.args.sign c.sound-zero.result +ℤ number_ago c.args.rows.now
+      (c.length_at-length.result - 1) c.args.place (sign_before Zero c.args.sign)
+  one_is : c.behind-2.result ≡ signed c.args.sign c.sound-one.result +ℤ number_ago c.args.rows.now
+      (c.length_at-length.result - 1) c.args.place (sign_before One c.args.sign)
   picks_zero : c.behind-2.result ≤ℤ c.behind.result → c.better.result ≡ record { number = c.behind.result; bit = Zero }
   picks_one : c.behind.result <ℤ c.behind-2.result → c.better.result ≡ record { number = c.behind-2.result; bit = One }
 
@@ -34,12 +36,15 @@ returns-clause-ends c = λ step before sums rows.
     let long = c.length_at-length.ensures in
     let m : length_in LENGTHS c.args.place ≡ (n - 1) + 1 = omega (arith, long.value, long.least) in
     let near : n - 1 ≤ 96 = omega (arith, long.most) in
-    let x = k.zero_is ∙ ap (λ s. signed c.args.sign s +ℤ number_ago c.args.rows.now (n - 1) c.args.place (sign_before Zero c.args.sign)) (c.sound-zero.ensures.value (step ∷ before) sums) in
-    let y = k.one_is ∙ ap (λ s. signed c.args.sign s +ℤ number_ago c.args.rows.now (n - 1) c.args.place (sign_before One c.args.sign)) (c.sound-one.ensures.value (step ∷ before) sums) in
+    let x = k.zero_is ∙ ap (λ s. signed c.args.sign s +ℤ number_ago c.args.rows.now (n - 1) c.args.place
+    (sign_before Zero c.args.sign)) (c.sound-zero.ensures.value (step ∷ before) sums) in
+    let y = k.one_is ∙ ap (λ s. signed c.args.sign s +ℤ number_ago c.args.rows.now (n - 1) c.args.place
+    (sign_before One c.args.sign)) (c.sound-one.ensures.value (step ∷ before) sums) in
     let low = number_ago c.args.rows.now (n - 1) c.args.place (sign_before Zero c.args.sign) in
     let high = number_ago c.args.rows.now (n - 1) c.args.place (sign_before One c.args.sign) in
     better_ends step before (n - 1) c.args.place c.args.sign low high c.behind.result c.behind-2.result c.better.result
-    m c.requires (rows (n - 1) c.args.place (sign_before Zero c.args.sign) near c.requires) (rows (n - 1) c.args.place (sign_before One c.args.sign) near c.requires)
+    m c.requires (rows (n - 1) c.args.place (sign_before Zero c.args.sign) near c.requires)
+    (rows (n - 1) c.args.place (sign_before One c.args.sign) near c.requires)
     (x ∙ ap (λ k. signed c.args.sign (sound_in Zero k (step ∷ before)) +ℤ low) long.value)
     (y ∙ ap (λ k. signed c.args.sign (sound_in One k (step ∷ before)) +ℤ high) long.value)
     k.picks_zero k.picks_one

@@ -8,7 +8,8 @@ use Rattle.cell_path.proofs.end.sound.Goals as goal
 pub returns-in-Zero-clause-value : goal.returns-in-Zero-clause-value
 returns-in-Zero-clause-value c =
     let a : FitsSigned w64 c.between.result = search rules in
-    rw (to_z-of_z a, c.in-Zero.is) (λ steps stand. c.between.ensures.value ∙ sound_of_zero c.args.sums.now c.args.length steps stand c.requires)
+    rw (to_z-of_z a, c.in-Zero.is) (λ steps stand. c.between.ensures.value
+    ∙ sound_of_zero c.args.sums.now c.args.length steps stand c.requires)
 
 pub returns-in-One-clause-value : goal.returns-in-One-clause-value
 returns-in-One-clause-value c =

@@ -9,7 +9,13 @@ returns-clause-plus_way c =
     let v = c.number_of_way.result in
     let w = c.number_of_way-2.result in
     let e : (a + 2 * b + 4 * v + 16 * w) / 4 % 4 ≡ v =
-    omega (arith, c.number_of_bit.ensures.most, c.number_of_bit-2.ensures.most, c.number_of_way.ensures.most, c.number_of_way-2.ensures.most) in
+    omega (
+      arith,
+      c.number_of_bit.ensures.most,
+      c.number_of_bit-2.ensures.most,
+      c.number_of_way.ensures.most,
+      c.number_of_way-2.ensures.most,
+    ) in
     ap way_from e ∙ c.number_of_way.ensures.value
 
 pub returns-clause-minus_way : goal.returns-clause-minus_way
@@ -19,5 +25,11 @@ returns-clause-minus_way c =
     let v = c.number_of_way.result in
     let w = c.number_of_way-2.result in
     let e : (a + 2 * b + 4 * v + 16 * w) / 16 % 4 ≡ w =
-    omega (arith, c.number_of_bit.ensures.most, c.number_of_bit-2.ensures.most, c.number_of_way.ensures.most, c.number_of_way-2.ensures.most) in
+    omega (
+      arith,
+      c.number_of_bit.ensures.most,
+      c.number_of_bit-2.ensures.most,
+      c.number_of_way.ensures.most,
+      c.number_of_way-2.ensures.most,
+    ) in
     ap way_from e ∙ c.number_of_way-2.ensures.value

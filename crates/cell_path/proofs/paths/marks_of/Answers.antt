@@ -12,11 +12,19 @@ loop-place-init c = record {
 pub loop-place-preserved : goal.loop-place-preserved
 loop-place-preserved c =
     let m = c.mark_of.ensures in
-    one_more_mark c.args.heard.now c.loop-place.place c.mark_of.result c.loop-place.marks c.loop-place.invariant c.loop-place-test.true
+    one_more_mark c.args.heard.now c.loop-place.place c.mark_of.result c.loop-place.marks c.loop-place.invariant
+    c.loop-place-test.true
     m.plus m.minus m.plus_way m.minus_way
 
 pub returns-clause-marked : goal.returns-clause-marked
 returns-clause-marked c = λ steps ends starts best.
     let all : c.loop-place.place ≡ 45 = omega (arith, c.loop-place-test.false, c.loop-place.auto.place-end) in
-    all_marked c.args.heard.now (record { marks = c.loop-place.marks; best_place = c.args.heard.now.best.place; best_sign = c.args.heard.now.best.sign })
-    steps (all_lengths c.args.heard.now c.loop-place.place c.loop-place.marks all c.loop-place.invariant) refl refl ends starts best
+    all_marked c.args.heard.now
+    (record {
+      marks = c.loop-place.marks;
+      best_place = c.args.heard.now.best.place;
+      best_sign =
+          c.args.heard.now.best.sign;
+    })
+    steps (all_lengths c.args.heard.now c.loop-place.place c.loop-place.marks all c.loop-place.invariant) refl refl ends
+    starts best

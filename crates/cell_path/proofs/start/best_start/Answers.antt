@@ -13,7 +13,8 @@ pub returns-clause-begins : goal.returns-clause-begins
 returns-clause-begins c = λ step before place_of_best sign_of_best level ends best.
     let a : FitsSigned w64 c.at.result = search rules in
     let end = ends c.args.place c.args.sign c.requires.place in
-    let first = same_best LENGTHS (step ∷ before) c.args.place c.args.sign (number_at c.args.ends.now c.args.place c.args.sign) end.bit (omega arith) end.is in
+    let first = same_best LENGTHS (step ∷ before) c.args.place c.args.sign
+    (number_at c.args.ends.now c.args.place c.args.sign) end.bit (omega arith) end.is in
     let one : IsBestBefore LENGTHS (step ∷ before) 1 c.args.place c.args.sign c.at.result Same =
     subst (λ n. IsBestBefore LENGTHS (step ∷ before) 1 c.args.place c.args.sign n Same) (sym c.at.ensures) first in
     let two = rw (to_z-of_z a) at c.or_shorter.ensures.next in

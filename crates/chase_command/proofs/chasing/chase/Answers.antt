@@ -8,7 +8,13 @@ use Rattle.chase_command.proofs.chasing.chase.Goals as goal
 pub returns-in-Ok-clause-answer : goal.returns-in-Ok-clause-answer
 returns-in-Ok-clause-answer g c =
     let e = c.in-Ok.ensures.ends in
-    let went : Exchange = record { pulled = e.0; left = g.S.Source.left c.trace_script.new.source; written = e.1; note = [] } in (
+    let went : Exchange = record {
+      pulled = e.0;
+      left = g.S.Source.left c.trace_script.new.source;
+      written = e.1;
+      note =
+          [];
+    } in (
       went,
       record { bytes = e.3; left = refl },
       e.4,
@@ -23,7 +29,13 @@ returns-in-Ok-clause-answer g c =
 pub returns-in-Err-clause-answer : goal.returns-in-Err-clause-answer
 returns-in-Err-clause-answer g c =
     let e = c.in-Err.ensures.stops in
-    let went : Exchange = record { pulled = e.0; left = g.S.Source.left c.trace_script.new.source; written = e.1; note = c.note.result.items } in (
+    let went : Exchange = record {
+      pulled = e.0;
+      left = g.S.Source.left c.trace_script.new.source;
+      written = e.1;
+      note =
+          c.note.result.items;
+    } in (
       went,
       record { bytes = e.2; left = refl },
       e.3,

@@ -20,9 +20,19 @@ pub returns-then-len-gt-MAX_SCRIPT-clause-stops : goal.returns-then-len-gt-MAX_S
 returns-then-len-gt-MAX_SCRIPT-clause-stops g c =
     let t = c.in_ok-count.ensures.takes in
     let fits : length c.pulls.script.items + length (take c.min-room.result c.pulls.buf) ≤ MAX_SCRIPT + 1 =
-    room_fits c.pulls.script.items c.pulls.buf c.min-room.result (omega (arith, c.pulls.invariant.short, c.min-room.ensures, c.len.ensures)) in
+    room_fits c.pulls.script.items c.pulls.buf c.min-room.result
+    (omega (arith, c.pulls.invariant.short, c.min-room.ensures, c.len.ensures)) in
     let long : length c.pull_behind.new.script.items ≡ length (c.pulls.script.items ++ t.0) = ap length t.2 in (
       c.pulls.script.items ++ t.0,
       Consumes-trans _ _ _ c.pulls.script.items t.0 c.pulls.invariant.pulled t.1,
-      omega (arith, c.if-len-gt-MAX_SCRIPT.true, c.len-in-pulls.ensures, long, length-append c.pulls.script.items t.0, t.3, t.4, fits),
+      omega (
+        arith,
+        c.if-len-gt-MAX_SCRIPT.true,
+        c.len-in-pulls.ensures,
+        long,
+        length-append c.pulls.script.items t.0,
+        t.3,
+        t.4,
+        fits,
+      ),
     )

@@ -1,4 +1,5 @@
-use Rattle.std.proofs.Common.{Bor, List, ℕ, ◌≡◌, ◌∙◌, ◌+◌, sym, refl, rules, inl, inr, true, [], Some, Err, length, arith, ap}
+use Rattle.std.proofs.Common.{Bor, List, ℕ, ◌≡◌, ◌∙◌, ◌+◌, sym, refl, rules, inl, inr, true, [], Some, Err, length}
+use Rattle.std.proofs.Common.{arith, ap}
 use Rattle.std.specs.Result.{is_ok}
 use Rattle.csv.specs.Reading.{Reached, default_config, strip_bom}
 use Rattle.csv.specs.Records.{fields_of}
@@ -33,10 +34,12 @@ unfolding Reached
 returns-in-Err-row_in-clause-refuses c =
     let inv = c.records.invariant in
     let read = rw c.if-not-found.false at c.in-Ok.ensures.reads inv.trim inv.ready in
-    let m = rows-more (λ (s : Bor (List ℕ)). Some s.now) c.records.reader c.read_byte_record.new.self (fields_of c.read_byte_record.new.row)
+    let m = rows-more (λ (s : Bor (List ℕ)). Some s.now) c.records.reader c.read_byte_record.new.self
+    (fields_of c.read_byte_record.new.row)
     default_config c.records.reader.state inv.left inv.left [] inv.config inv.source (refl, refl) read in
     let refused = a_row_refused c.args.count c.args.bytes.now c.records.rows.items c.records.reader.state
-    c.read_byte_record.new.self.state inv.left m.0 (fields_of c.read_byte_record.new.row) c.in-Err-row_in.column inv.are m.2
+    c.read_byte_record.new.self.state inv.left m.0 (fields_of c.read_byte_record.new.row) c.in-Err-row_in.column inv.are
+    m.2
     (sym c.row_in.ensures.value ∙ c.in-Err-row_in.is) in
     let place : 1 + length c.records.rows.items ≡ c.len.result + 1 = omega (arith, c.len.ensures) in
     let at = λ (n : ℕ). let fault : RowFault = record { row = n; column = c.in-Err-row_in.column } in fault in
@@ -48,7 +51,8 @@ unfolding Reached
 records-preserved c =
     let inv = c.records.invariant in
     let read = rw c.if-not-found.false at c.in-Ok.ensures.reads inv.trim inv.ready in
-    let m = rows-more (λ (s : Bor (List ℕ)). Some s.now) c.records.reader c.read_byte_record.new.self (fields_of c.read_byte_record.new.row)
+    let m = rows-more (λ (s : Bor (List ℕ)). Some s.now) c.records.reader c.read_byte_record.new.self
+    (fields_of c.read_byte_record.new.row)
     default_config c.records.reader.state inv.left inv.left [] inv.config inv.source (refl, refl) read in
     let good : is_ok c.push.result ≡ true = search rules in
     let items = rw good at c.push.ensures.items in
@@ -60,7 +64,8 @@ records-preserved c =
       ready = inl (c.in-Ok.ensures.ready inv.trim);
       config = read.2 ∙ inv.config;
       flexible = c.in-Ok.ensures.flexible ∙ inv.flexible;
-      fit = rw items (one_row_more c.args.count c.records.rows.items c.in-Ok-row_in.row inv.fit c.in-Ok-row_in.ensures.fits);
+      fit = rw items (one_row_more c.args.count c.records.rows.items c.in-Ok-row_in.row inv.fit
+          c.in-Ok-row_in.ensures.fits);
       left = m.0;
       source = m.1;
       are = rw items more;
@@ -72,5 +77,6 @@ returns-then-not-found-clause-reads c =
     let inv = c.records.invariant in
     let read = rw c.if-not-found.true at c.in-Ok.ensures.reads inv.trim inv.ready in
     nothing_left c.args.count c.args.bytes.now c.records.rows.items c.records.reader.state inv.left inv.are
-    (rows-end (λ (s : Bor (List ℕ)). Some s.now) c.records.reader c.read_byte_record.new.self (fields_of c.read_byte_record.new.row) default_config
+    (rows-end (λ (s : Bor (List ℕ)). Some s.now) c.records.reader c.read_byte_record.new.self
+    (fields_of c.read_byte_record.new.row) default_config
     inv.left inv.config inv.source read)

@@ -19,11 +19,16 @@ returns c =
     let range : ValueRange = record { start_inclusive = 0; end_inclusive = usize_max } in
     let many : c.num_args.result.num_vals ≡ Some range = the_value _ range c.num_args.ensures.1 in
     let values_arg = c.action-values.ensures
-    ∙ ap (λ (a : Arg). record a { action = Some Append }) (c.num_args.ensures.0 ∙ ap (λ o. record c.new-2.result { num_vals = o }) many) in
+    ∙ ap (λ (a : Arg). record a { action = Some Append })
+    (c.num_args.ensures.0 ∙ ap (λ o. record c.new-2.result { num_vals = o }) many) in
     let values_is : rule_of c.action-values.result ≡ values_rule =
-    ap rule_of values_arg ∙ ap (λ (r : Rule). record r { range = Some range; action = Some Append }) c.new-2.ensures.rule in
+    ap rule_of values_arg ∙ ap (λ (r : Rule). record r { range = Some range; action = Some Append })
+    c.new-2.ensures.rule in
     let fields = rw c.no_binary_name.ensures at c.disable_help_flag.ensures in
     let bare_is : app_of c.disable_help_flag.result ≡ bare =
-    ap app_of_fields fields ∙ ap (λ (a : App). record a { top = record a.top { no_binary_name = true; disable_help_flag = true } }) c.new-3.ensures.app in
+    ap app_of_fields fields
+    ∙ ap (λ (a : App). record a { top = record a.top { no_binary_name = true; disable_help_flag = true } })
+    c.new-3.ensures.app in
     let app_is = c.in_ok-arg.ensures.shape (search rules) ∙ ap₂ with_rule bare_is command_is in
-    IfOk-weaker c.arg-2.result _ _ (λ command adds. adds.shape (search rules) ∙ ap₂ with_rule app_is values_is) c.arg-2.ensures
+    IfOk-weaker c.arg-2.result _ _ (λ command adds. adds.shape (search rules) ∙ ap₂ with_rule app_is values_is)
+    c.arg-2.ensures

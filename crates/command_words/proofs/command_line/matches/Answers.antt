@@ -9,7 +9,8 @@ pub returns-clause-found : goal.returns-clause-found
 returns-clause-found c =
     let words = map string_bytes c.args.words.now in
     let some : 0 < length words = rw length-map c.requires.some in
-    IfOk-weaker c.try_get_matches_from.result _ _ (λ m has. found_line _ m words c.in_ok-grammar.ensures some c.requires.plain has)
+    IfOk-weaker c.try_get_matches_from.result _ _
+    (λ m has. found_line _ m words c.in_ok-grammar.ensures some c.requires.plain has)
     c.try_get_matches_from.ensures.matches
 
 -- clap takes them, so it fails for want of memory alone

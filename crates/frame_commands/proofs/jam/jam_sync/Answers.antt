@@ -23,6 +23,7 @@ returns-in-Asked g c =
     record {
       told = c.a_copy_is_told.ensures;
       worked = worked_by g.S.Source.left g.S.Source.ends g.S.Source.faults g.K.Sink.written g.K.Sink.faults
-          c.args.source.now c.work_along-in-Asked.new.source c.args.out.now c.work_along-in-Asked.new.out c.work_along-in-Asked.result
+          c.args.source.now c.work_along-in-Asked.new.source c.args.out.now c.work_along-in-Asked.new.out
+          c.work_along-in-Asked.result
           c.args.jam.flight (file_of_frames c.args.jam) witness.Asked is c.work_along-in-Asked.ensures;
     }

@@ -1,4 +1,5 @@
-use Rattle.frame_commands.proofs.FramesFirst.{cells_in_order, lines_in_order, messages_in_order, spans_in_order, steps_in_order}
+use Rattle.frame_commands.proofs.FramesFirst.{cells_in_order, lines_in_order, messages_in_order, spans_in_order}
+use Rattle.frame_commands.proofs.FramesFirst.{steps_in_order}
 use Rattle.frame_commands.proofs.laws.each_sink_of_frames_adds_in_order.Goals as goal
 
 pub returns-clause-lines : goal.returns-clause-lines

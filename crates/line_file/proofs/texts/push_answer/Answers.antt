@@ -19,4 +19,5 @@ returns-in-Conflict-clause-items c =
       c.push_word-in-Conflict.ensures.items,
       c.push_bytes-in-Conflict.ensures.items,
       c.in-Conflict.is,
-    ) (four c.args.line.now.items (codes " conflict ") (word_text c.in-Conflict.word) (codes " and ") (word_text c.in-Conflict.other))
+    ) (four c.args.line.now.items (codes " conflict ") (word_text c.in-Conflict.word) (codes " and ")
+    (word_text c.in-Conflict.other))

@@ -8,6 +8,7 @@ use Rattle.ltc_jam.proofs.cells.cells_of.Given as goal
 -- the intervals so far and those of the bits that are left are the whole
 abbrev pub invariant-cells : goal.invariant-cells
 invariant-cells l = record {
-  cells : l.intervals.items ++ flat (steady_cells l.fn.cell (low_bits (80 - l._done) l.rest)) ≡ flat (steady_cells l.fn.cell (low_bits 80 l.fn.bits));
+  cells : l.intervals.items ++ flat (steady_cells l.fn.cell (low_bits (80 - l._done) l.rest))
+      ≡ flat (steady_cells l.fn.cell (low_bits 80 l.fn.bits));
   len : array_vec_len l.intervals ≤ 2 * l._done;
 }

@@ -6,4 +6,5 @@ pub returns-clause-one : goal.returns-clause-one
 returns-clause-one c = λ system word bits i s le ones. only_there bits i (stops system word bits s) (omega arith) ones
 
 pub returns-clause-between : goal.returns-clause-between
-returns-clause-between c = λ system a b x y i p q lt ones. only_in_two x y i p.width (stops system a x p) (stops system b y q) lt ones
+returns-clause-between c = λ system a b x y i p q lt ones. only_in_two x y i p.width (stops system a x p)
+    (stops system b y q) lt ones

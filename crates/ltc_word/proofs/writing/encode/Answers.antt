@@ -25,7 +25,8 @@ returns-then-is_balanced-word c =
     let system : c.system_of-system.result ≡ system_with w.fields.label.count = cc in
     let made = made_of w c.system_of-system.result c.table.result c.holding.result c.field_bits.result
     system c.table.ensures c.holding.ensures c.field_bits.ensures.sum in
-    spells_as_is c.a_row_is_its_sum.ensures.holds c.fields_are_exact.ensures w _ c.is_balanced.result c.label.ensures.valid
+    spells_as_is c.a_row_is_its_sum.ensures.holds c.fields_are_exact.ensures w _ c.is_balanced.result
+    c.label.ensures.valid
     c.field_bits.ensures.eight made c.is_balanced.ensures c.if-is_balanced-word.true
 
 -- they have the other one, and the correction turns it
@@ -37,5 +38,6 @@ returns-else-is_balanced-word c =
     system c.table.ensures c.holding.ensures c.field_bits.ensures.sum in
     let plain = c.holding.result + c.field_bits.result in
     let more = ap (λ n. plain + n) (c.correction.ensures.value ∙ ap (λ s. 2 ^ polarity_bit s) system) in
-    spells_corrected c.a_row_is_its_sum.ensures.holds c.fields_are_exact.ensures w plain _ c.is_balanced.result c.label.ensures.valid
+    spells_corrected c.a_row_is_its_sum.ensures.holds c.fields_are_exact.ensures w plain _ c.is_balanced.result
+    c.label.ensures.valid
     c.field_bits.ensures.eight made more c.is_balanced.ensures c.if-is_balanced-word.false

@@ -8,7 +8,8 @@ loop-number-init c = c.first-best.ensures (worth c.args.row.now c.args.place c.a
 
 pub loop-number-preserved : goal.loop-number-preserved
 loop-number-preserved c =
-    c.or-best.ensures (worth c.args.row.now c.args.place c.args.step) c.loop-number.invariant c.worth-in-loop-number.ensures
+    c.or-best.ensures (worth c.args.row.now c.args.place c.args.step) c.loop-number.invariant
+    c.worth-in-loop-number.ensures
 
 pub returns : goal.returns
 returns c =

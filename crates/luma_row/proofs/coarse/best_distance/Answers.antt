@@ -18,7 +18,8 @@ loop-number-init c =
 pub loop-number-preserved : goal.loop-number-preserved
 loop-number-preserved c =
     let apart = c.distance-in-loop-number.result in
-    let at = c.distance-in-loop-number.ensures.value ∙ ap (λ w. distance w c.loop-number.number) c.width_of-width.ensures.value in
+    let at = c.distance-in-loop-number.ensures.value
+    ∙ ap (λ w. distance w c.loop-number.number) c.width_of-width.ensures.value in
     let start = c.best_start-start-in-loop-number in
     let most = first_is_greatest (starts (length c.args.row.now) apart) (sum_at c.args.row.now apart)
     start.result.sum start.result.number start.ensures in

@@ -10,7 +10,8 @@ pub loop-pixel-preserved : goal.loop-pixel-preserved
 loop-pixel-preserved c = (
   omega (arith, c.loop-pixel-test.true),
   one_filled (fall_at c.args.row.now) 4096 (2 ^ 26) c.loop-pixel.pixel c.fall_at.result c.loop-pixel.falls
-      c.loop-pixel.invariant.1 (omega (arith, c.loop-pixel-test.true, c.requires.row.1)) c.fall_at.ensures.value c.fall_at.ensures.most,
+      c.loop-pixel.invariant.1 (omega (arith, c.loop-pixel-test.true, c.requires.row.1)) c.fall_at.ensures.value
+      c.fall_at.ensures.most,
 )
 
 pub returns : goal.returns

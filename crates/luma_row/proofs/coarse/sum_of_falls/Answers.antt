@@ -43,4 +43,5 @@ pub returns : goal.returns
 unfolding coarse_sum
 returns c =
     let all : c.loop-pair.pair ≡ 9 = omega (arith, c.loop-pair.invariant.0, c.loop-pair-test.false) in
-    subst (λ n. c.loop-pair.sum ≡ sum_of n (coarse_fall c.args.row.now c.args.apart c.args.first)) all c.loop-pair.invariant.1
+    subst (λ n. c.loop-pair.sum ≡ sum_of n (coarse_fall c.args.row.now c.args.apart c.args.first)) all
+    c.loop-pair.invariant.1

@@ -16,4 +16,5 @@ returns-clause-back c = λ s is. made_is_read c.steps_lead_to_labels.ensures c.w
 pub returns-clause-read : goal.returns-clause-read
 returns-clause-read c = λ s is.
     let few = made_is_short c.shaped_cells_are_a_chain.ensures.bits s is in
-    c.a_file_is_read_as_it_was_written.ensures.read _ (made_header s) (flat (made_cells s)) (returns-clause-back c s is).file (omega (arith, few))
+    c.a_file_is_read_as_it_was_written.ensures.read _ (made_header s) (flat (made_cells s))
+    (returns-clause-back c s is).file (omega (arith, few))

@@ -14,7 +14,8 @@ use Rattle.made_commands.specs.declared.chance.Chance.{Chance}
 use Rattle.made_commands.specs.declared.ltc_load.Counts.{Counts}
 use Rattle.made_commands.specs.KeptLoad.{line_with}
 use Rattle.generator.specs.Draw.{drawn}
-use Rattle.made_commands.specs.Load.{begins_with, begun, cell_of, cells_by, first_label, load_cells, load_events, load_line, load_word, next_bits, one_cell}
+use Rattle.made_commands.specs.Load.{begins_with, begun, cell_of, cells_by, first_label, load_cells, load_events}
+use Rattle.made_commands.specs.Load.{load_line, load_word, next_bits, one_cell}
 use Rattle.made_commands.proofs.CountedLabels.{line_of_events}
 use Rattle.made_commands.proofs.LoadInPieces.{all_were_read, locked, word_read}
 use Rattle.made_commands.proofs.ltc_load.load_text.Goals as goal
@@ -37,8 +38,10 @@ words-init c =
       reads = (
         _,
         c.cell-2.ensures.reads _ (c.cell.ensures.reads _ c.new-tally.ensures.reads),
-        locked run c.next_cell.result c.next_cell-2.result c.next_cell.new.self c.next_cell-2.new.self c.first_label-label.result (run.words - 0)
-            (c.next_cell.ensures.cell ∙ ap (λ (g : Chance). cell_of false (one_cell g)) begins) (c.next_cell.ensures.next ∙ ap one_cell begins)
+        locked run c.next_cell.result c.next_cell-2.result c.next_cell.new.self c.next_cell-2.new.self
+            c.first_label-label.result (run.words - 0)
+            (c.next_cell.ensures.cell ∙ ap (λ (g : Chance). cell_of false (one_cell g)) begins)
+            (c.next_cell.ensures.next ∙ ap one_cell begins)
             c.next_cell-2.ensures.cell c.next_cell-2.ensures.next label (omega arith),
       );
     }
@@ -66,8 +69,10 @@ words-preserved c =
       reads = (
         fed.0 ++ flat (cells_by c.draw.new.self (low_bits 80 c.spelling.result)),
         c.bits.ensures.reads fed.0 fed.1,
-        word_read g c.draw.new.self c.bits.new.chance label c.advance-label.result (low_bits 80 c.spelling.result) left (c.args.run.now.words - c.words._done)
-            fed.0 (flat (load_cells c.args.run.now)) c.draw.ensures.next list c.bits.ensures.next c.advance-label.ensures.label one fed.2,
+        word_read g c.draw.new.self c.bits.new.chance label c.advance-label.result (low_bits 80 c.spelling.result) left
+            (c.args.run.now.words - c.words._done)
+            fed.0 (flat (load_cells c.args.run.now)) c.draw.ensures.next list c.bits.ensures.next
+            c.advance-label.ensures.label one fed.2,
       );
     }
 
@@ -77,13 +82,15 @@ returns c =
     let run = c.args.run.now in
     let none : run.words - c.words._done ≡ 0 = omega arith in
     let fed = c.words.invariant.reads in
-    let all = all_were_read c.words.chance c.words.label (run.words - c.words._done) fed.0 (flat (load_cells run)) none fed.2 in
+    let all = all_were_read c.words.chance c.words.label (run.words - c.words._done) fed.0 (flat (load_cells run)) none
+    fed.2 in
     let read = fed.1 in
     let reader = c.words.tally.reader in
     let events = c.a_reader_gives_the_events_of_its_list.ensures reader fed.0 read.events read.stands in
     let at_25 = subst (λ (s : System). AreEvents s (profile_of reader.tracker) fed.0 read.events) read.system events in
     let normal = subst (λ (p : Profile). AreEvents F25 p fed.0 read.events) read.profile at_25 in
     let whole = subst (λ (l : List ℕ). AreEvents F25 Normal l read.events) all normal in
-    let same = c.a_list_has_one_list_of_events.ensures F25 Normal (flat (load_cells run)) read.events (load_events run) whole c.is_all_read.ensures.events in
+    let same = c.a_list_has_one_list_of_events.ensures F25 Normal (flat (load_cells run)) read.events (load_events run)
+    whole c.is_all_read.ensures.events in
     c.line.ensures ∙ ap (λ (n : Counts). line_with run n) read.counts ∙ line_of_events run read.events
     ∙ ap (λ (e : List Event). load_line run e) same

@@ -14,7 +14,8 @@ runs_of-number-requires-clause-high c =
     let word = c.args.word.now in
     let small : word.fields.user < 2 ^ 32 = search rules in
     let laws = c.each_word_has_its_line.ensures in
-    let same = c.spelling_is_exact.ensures.one_spelling (system_with word.fields.label.count) word c.encode.result (line_of word) c.encode.ensures
+    let same = c.spelling_is_exact.ensures.one_spelling (system_with word.fields.label.count) word c.encode.result
+    (line_of word) c.encode.ensures
     (laws.spells word c.encode.ensures.valid small) in
     ap (λ (n : ℕ). n % 2) same ∙ laws.odd word c.encode.ensures.valid small
 
@@ -30,10 +31,13 @@ returns c =
     let word = c.args.word.now in
     let small : word.fields.user < 2 ^ 32 = search rules in
     let laws = c.each_word_has_its_line.ensures in
-    let same = c.spelling_is_exact.ensures.one_spelling (system_with word.fields.label.count) word c.encode.result (line_of word) c.encode.ensures
+    let same = c.spelling_is_exact.ensures.one_spelling (system_with word.fields.label.count) word c.encode.result
+    (line_of word) c.encode.ensures
     (laws.spells word c.encode.ensures.valid small) in
     let runs = take c.runs_of-number.result c.runs_of-number.new.runs in
-    line_of_runs c.push_runs.new.line.items c.push.new.self.items c.new-line.result.items c.runs_of-number.result runs c.push_runs.ensures
+    line_of_runs c.push_runs.new.line.items c.push.new.self.items c.new-line.result.items c.runs_of-number.result runs
+    c.push_runs.ensures
     c.push.ensures.items c.new-line.ensures
-    (sym (length-take-le c.runs_of-number.result c.runs_of-number.new.runs (omega (arith, c.runs_of-number.ensures.number, c.runs_of-number.array_long))))
+    (sym (length-take-le c.runs_of-number.result c.runs_of-number.new.runs
+    (omega (arith, c.runs_of-number.ensures.number, c.runs_of-number.array_long))))
     ∙ ap line_bytes (c.runs_of-number.ensures.exact ∙ ap (λ (n : ℕ). runs_in c.args.length n) same)

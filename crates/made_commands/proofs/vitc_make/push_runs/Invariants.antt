@@ -7,6 +7,7 @@ use Rattle.made_commands.proofs.vitc_make.push_runs.Given as goal
 -- what was written, and the runs that are left, are the whole
 abbrev pub invariant-runs : goal.invariant-runs
 invariant-runs l = record {
-  items : l.line.items ++ flat_map (big_bytes 2) (drop l.index l.fn.runs) ≡ l.fn.line.items ++ flat_map (big_bytes 2) l.fn.runs;
+  items : l.line.items ++ flat_map (big_bytes 2) (drop l.index l.fn.runs) ≡ l.fn.line.items ++ flat_map (big_bytes 2)
+      l.fn.runs;
   len : array_vec_len l.line ≡ array_vec_len l.fn.line + 2 * l.index;
 }

@@ -10,4 +10,5 @@ pub returns-in-Err : goal.returns-in-Err
 returns-in-Err c =
     let a = c.args in
     full_refused c.in-Err.fault (full_address a.hours a.minutes a.seconds a.frames) a.place
-    (c.in-Err.ensures ∙ ap (λ (n : Count). label_or_fault (address n (a.hours % 32) a.minutes a.seconds a.frames)) c.count_of.ensures)
+    (c.in-Err.ensures ∙ ap (λ (n : Count). label_or_fault (address n (a.hours % 32) a.minutes a.seconds a.frames))
+    c.count_of.ensures)

@@ -13,7 +13,8 @@ overflow_mul-fineness c =
 -- in whole samples a tick within the fineness is the only one
 pub returns-then-fineness-eq1 : goal.returns-then-fineness-eq1
 returns-then-fineness-eq1 c =
-    let within = tick_in_step-within c.args.fineness c.args.threshold c.args.a c.args.b c.requires.least c.requires.above in
+    let within = tick_in_step-within c.args.fineness c.args.threshold c.args.a c.args.b c.requires.least
+    c.requires.above in
     record {
       value = omega (arith, within, c.if-fineness-eq1.true);
       least = omega arith;

@@ -9,4 +9,5 @@ returns-then-at-end-clause-value g c =
     let fits_too : FitsSigned w32 c.from.result = search rules in
     let value = rw (to_z-of_z fits) at c.from.ensures in
     rw (to_z-of_z fits_too) (value ∙ c.at.ensures
-    ∙ sym (last-of c.args.before (g.S.Samples.list c.args.samples.now) c.args.at c.args.end c.if-at-end.true c.requires.within))
+    ∙ sym (last-of c.args.before (g.S.Samples.list c.args.samples.now) c.args.at c.args.end c.if-at-end.true
+    c.requires.within))

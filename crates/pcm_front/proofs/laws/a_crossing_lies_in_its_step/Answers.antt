@@ -5,4 +5,5 @@ pub returns-clause-place : goal.returns-clause-place
 returns-clause-place c = λ threshold samples place is. after_first threshold samples place is
 
 pub returns-clause-tick : goal.returns-clause-tick
-returns-clause-tick c = λ fineness threshold samples place some is. tick_at-within fineness threshold samples place some is
+returns-clause-tick c = λ fineness threshold samples place some is. tick_at-within fineness threshold samples place some
+    is

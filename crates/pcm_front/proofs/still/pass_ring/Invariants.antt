@@ -13,7 +13,8 @@ invariant-samples g l = record {
   level : IsInRange l.passed.level;
   smooth : l.now.smooth ≡ l.fn.turn.smooth;
   ring : IsRing l.now.smooth l.ring l.now.oldest l.now.sum;
-  passes : PassesTo l.side l.threshold (g.S.Samples.list l.samples) l.fn.from l.passed (window_of l.fn.turn.smooth l.fn.ring l.fn.turn.oldest)
+  passes : PassesTo l.side l.threshold (g.S.Samples.list l.samples) l.fn.from l.passed
+      (window_of l.fn.turn.smooth l.fn.ring l.fn.turn.oldest)
       (window_of l.now.smooth l.ring l.now.oldest);
 }
 

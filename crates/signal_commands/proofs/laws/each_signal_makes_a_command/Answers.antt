@@ -11,7 +11,8 @@ pub returns-clause-samples : goal.returns-clause-samples
 returns-clause-samples c = samples_are_command c.intervals_of_a_front_come_first.ensures
 
 pub returns-clause-tracks : goal.returns-clause-tracks
-returns-clause-tracks c = track_is_command c.intervals_of_a_front_come_first.ensures c.what_a_sound_file_shows_stays.ensures
+returns-clause-tracks c = track_is_command c.intervals_of_a_front_come_first.ensures
+    c.what_a_sound_file_shows_stays.ensures
 
 pub returns-clause-fields : goal.returns-clause-fields
 returns-clause-fields c = fields_are_command (record {

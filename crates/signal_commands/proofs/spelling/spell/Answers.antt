@@ -18,7 +18,8 @@ returns-in_err-spell_whole-clause-front g c =
     let rest = intervals_bytes One (option_to_list p.rest) in
     let last = intervals_bytes One (replicate p.begun p.length) in
     at_err c.from_residual.result
-    (subst (λ l. AppendsFront (g.K.Sink.written c.args.out.now) (g.K.Sink.written c.spell_whole.new.out) (room ++ l)) (sym (three_parts p))
+    (subst (λ l. AppendsFront (g.K.Sink.written c.args.out.now) (g.K.Sink.written c.spell_whole.new.out) (room ++ l))
+    (sym (three_parts p))
     (front_of_longer _ _ room first (rest ++ last) c.in_err-spell_whole.ensures.front))
 
 -- its rest was not
@@ -29,7 +30,8 @@ returns-in_err-spell_rest-clause-front g c =
     let first = intervals_bytes One (replicate p.whole p.length) in
     let rest = intervals_bytes One (option_to_list p.rest) in
     let last = intervals_bytes One (replicate p.begun p.length) in
-    let failed = put_then_front _ _ _ room first c.spell_whole.new.gathered.room.items rest c.in_ok-spell_whole.ensures.all
+    let failed = put_then_front _ _ _ room first c.spell_whole.new.gathered.room.items rest
+    c.in_ok-spell_whole.ensures.all
     c.in_err-spell_rest.ensures.front in
     at_err c.from_residual-in_err-spell_rest.result
     (subst (λ l. AppendsFront (g.K.Sink.written c.args.out.now) (g.K.Sink.written c.spell_rest.new.out) (room ++ l))
@@ -43,10 +45,12 @@ returns-clause-all g c =
     let first = intervals_bytes One (replicate p.whole p.length) in
     let rest = intervals_bytes One (option_to_list p.rest) in
     let last = intervals_bytes One (replicate p.begun p.length) in
-    let before = put_more _ _ _ room first c.spell_whole.new.gathered.room.items rest c.spell_rest.new.gathered.room.items (first ++ rest)
+    let before = put_more _ _ _ room first c.spell_whole.new.gathered.room.items rest
+    c.spell_rest.new.gathered.room.items (first ++ rest)
     c.in_ok-spell_whole.ensures.all c.in_ok-spell_rest.ensures.all refl in
     on_ok c.spell_whole-2.result c.spell_whole-2.ensures.all (λ put.
-    put_more _ _ _ room (first ++ rest) c.spell_rest.new.gathered.room.items last c.spell_whole-2.new.gathered.room.items _ before put
+    put_more _ _ _ room (first ++ rest) c.spell_rest.new.gathered.room.items last
+    c.spell_whole-2.new.gathered.room.items _ before put
     (three_parts p ∙ sym (append_assoc first rest last)))
 
 pub returns-clause-front : goal.returns-clause-front
@@ -56,7 +60,8 @@ returns-clause-front g c =
     let first = intervals_bytes One (replicate p.whole p.length) in
     let rest = intervals_bytes One (option_to_list p.rest) in
     let last = intervals_bytes One (replicate p.begun p.length) in
-    let before = put_more _ _ _ room first c.spell_whole.new.gathered.room.items rest c.spell_rest.new.gathered.room.items (first ++ rest)
+    let before = put_more _ _ _ room first c.spell_whole.new.gathered.room.items rest
+    c.spell_rest.new.gathered.room.items (first ++ rest)
     c.in_ok-spell_whole.ensures.all c.in_ok-spell_rest.ensures.all refl in
     on_err c.spell_whole-2.result c.spell_whole-2.ensures.front (λ front.
     subst (λ l. AppendsFront (g.K.Sink.written c.args.out.now) (g.K.Sink.written c.spell_whole-2.new.out) (room ++ l))

@@ -11,4 +11,5 @@ pub returns-in-Some-clause-front : goal.returns-in-Some-clause-front
 returns-in-Some-clause-front g c =
     let room = c.args.gathered.now.room.items in
     let rest = intervals_bytes One (option_to_list c.args.rest) in
-    on_err c.put.result c.put.ensures.front (λ front. put_front _ _ _ room [] room rest rest (none_put _ room [] refl) front refl)
+    on_err c.put.result c.put.ensures.front
+    (λ front. put_front _ _ _ room [] room rest rest (none_put _ room [] refl) front refl)

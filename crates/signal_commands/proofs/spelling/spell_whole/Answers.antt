@@ -13,8 +13,10 @@ returns-in_err-put-clause-front g c =
     let i = c.pieces.invariant in
     let n = c.args.length in
     at_err c.from_residual.result
-    (put_front _ _ _ c.args.gathered.now.room.items (intervals_bytes One (replicate c.pieces._done n)) c.pieces.gathered.room.items
-    (intervals_bytes One (replicate (c.args.count - c.pieces._done) n)) (intervals_bytes One (replicate c.args.count n)) i.put
+    (put_front _ _ _ c.args.gathered.now.room.items (intervals_bytes One (replicate c.pieces._done n))
+    c.pieces.gathered.room.items
+    (intervals_bytes One (replicate (c.args.count - c.pieces._done) n)) (intervals_bytes One (replicate c.args.count n))
+    i.put
     c.in_err-put.ensures.front (pieces_from n c.pieces._done c.args.count (omega (arith, c.pieces-test.true))))
 
 -- an interval more
@@ -23,8 +25,10 @@ pieces-preserved g c =
     let i = c.pieces.invariant in
     let e = rw c.four_bytes.ensures at c.in_ok-put.ensures in
     record {
-      put = put_more _ _ _ c.args.gathered.now.room.items (intervals_bytes One (replicate c.pieces._done c.args.length)) c.pieces.gathered.room.items
-          (spelling One c.args.length) c.put.new.self.room.items (intervals_bytes One (replicate (c.pieces._done + 1) c.args.length)) i.put e.all
+      put = put_more _ _ _ c.args.gathered.now.room.items (intervals_bytes One (replicate c.pieces._done c.args.length))
+          c.pieces.gathered.room.items
+          (spelling One c.args.length) c.put.new.self.room.items
+          (intervals_bytes One (replicate (c.pieces._done + 1) c.args.length)) i.put e.all
           (one_piece c.args.length c.pieces._done);
       same = e.cause ∙ i.same;
     }

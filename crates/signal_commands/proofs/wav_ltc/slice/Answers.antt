@@ -18,8 +18,10 @@ use Rattle.signal_commands.proofs.wav_ltc.slice.Goals as goal
 pub intervals_of_samples-count-requires-clause-room : goal.intervals_of_samples-count-requires-clause-room
 intervals_of_samples-count-requires-clause-room g c =
     let i = c.samples.invariant in
-    rest_fits (tick_of c.args.slicer.now) (settings_of c.args.slicer.now).fineness c.samples.at (tick_of c.samples.slicer)
-    (settings_of c.samples.slicer).fineness c.args.samples.now i.tick (ap (λ (x : Settings). x.fineness) i.settings) i.within c.requires.room
+    rest_fits (tick_of c.args.slicer.now) (settings_of c.args.slicer.now).fineness c.samples.at
+    (tick_of c.samples.slicer)
+    (settings_of c.samples.slicer).fineness c.args.samples.now i.tick (ap (λ (x : Settings). x.fineness) i.settings)
+    i.within c.requires.room
 
 -- no sample yet
 pub samples-init : goal.samples-init
@@ -62,14 +64,17 @@ samples-preserved g c =
       settings = e.settings ∙ i.settings;
       tick = next_tick (tick_of c.args.slicer.now) (settings_of c.args.slicer.now).fineness c.samples.at n _ _ _ i.tick
           (ap (λ (x : Settings). x.fineness) i.settings) e.tick;
-      stands = λ front stands. subst (pcm.StandsFor c.intervals_of_samples-count.new.self) (joined c.samples.at n front xs i.within inside)
+      stands = λ front stands. subst (pcm.StandsFor c.intervals_of_samples-count.new.self)
+          (joined c.samples.at n front xs i.within inside)
           (e.stands (front ++ take c.samples.at xs) (i.stands front stands));
       put = λ front stands.
           let put = i.put front stands in (
             put.0 ++ due_at brought,
-            run_due c.args.pace (settings_of c.args.slicer.now) (settings_of c.samples.slicer) c.samples.at n front xs put.0 brought i.settings i.within
+            run_due c.args.pace (settings_of c.args.slicer.now) (settings_of c.samples.slicer) c.samples.at n front xs
+                put.0 brought i.settings i.within
                 inside put.1 (e.intervals (front ++ take c.samples.at xs) (i.stands front stands)),
-            put_more _ _ _ c.args.gathered.now.room.items put.0 c.samples.gathered.room.items (due_at brought) c.spell.new.gathered.room.items _ put.2
+            put_more _ _ _ c.args.gathered.now.room.items put.0 c.samples.gathered.room.items (due_at brought)
+                c.spell.new.gathered.room.items _ put.2
                 c.in_ok-spell.ensures.all refl,
           );
       same = c.in_ok-spell.ensures.cause ∙ i.same;
@@ -87,11 +92,14 @@ returns-in_err-spell-clause-front g c = at_err c.from_residual.result (λ front 
     let brought = c.intervals_of_samples-count.result.1 in
     let inside = run_within c.samples.at n xs i.within e.within in
     let put = i.put front stands in
-    let here = run_due c.args.pace s (settings_of c.samples.slicer) c.samples.at n front xs put.0 brought i.settings i.within inside put.1
+    let here = run_due c.args.pace s (settings_of c.samples.slicer) c.samples.at n front xs put.0 brought i.settings
+    i.within inside put.1
     (e.intervals (front ++ take c.samples.at xs) (i.stands front stands)) in
-    let rest = due_of c.intervals_of_a_front_come_first.ensures c.args.pace s (front ++ take at xs) (drop at xs) c.requires.pace in
+    let rest = due_of c.intervals_of_a_front_come_first.ensures c.args.pace s (front ++ take at xs) (drop at xs)
+    c.requires.pace in
     let due = put.0 ++ due_at brought in
-    let failed = put_then_front _ _ _ c.args.gathered.now.room.items put.0 c.samples.gathered.room.items (due_at brought) put.2
+    let failed = put_then_front _ _ _ c.args.gathered.now.room.items put.0 c.samples.gathered.room.items
+    (due_at brought) put.2
     c.in_err-spell.ensures.front in (
       due ++ rest.0,
       due_behind c.args.pace s front (take at xs) (drop at xs) xs due rest.0 (take-append-drop at xs) here rest.1,

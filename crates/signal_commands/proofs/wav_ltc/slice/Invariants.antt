@@ -12,7 +12,8 @@ invariant-samples g l = record {
   settings : settings_of l.slicer ≡ settings_of l.fn.slicer;
   tick : tick_of l.slicer ≡ tick_of l.fn.slicer + (settings_of l.fn.slicer).fineness * l.at;
   stands : (front : List ℤ) → pcm.StandsFor l.fn.slicer front → pcm.StandsFor l.slicer (front ++ take l.at l.samples);
-  put : (front : List ℤ) → pcm.StandsFor l.fn.slicer front → (due : List ℕ) × AreDue l.fn.pace (settings_of l.fn.slicer) front (take l.at l.samples) due
+  put : (front : List ℤ) → pcm.StandsFor l.fn.slicer front → (due : List ℕ)
+      × AreDue l.fn.pace (settings_of l.fn.slicer) front (take l.at l.samples) due
       × IsPut (g.K.Sink.written l.fn.out) (g.K.Sink.written l.out) l.fn.gathered.room.items due l.gathered.room.items;
   same : g.K.Sink.faults l.out ≡ g.K.Sink.faults l.fn.out;
 }

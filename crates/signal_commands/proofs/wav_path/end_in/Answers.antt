@@ -6,12 +6,14 @@ use Rattle.signal_commands.proofs.wav_path.end_in.Goals as goal
 pub returns-in-Some-clause-ends : goal.returns-in-Some-clause-ends
 returns-in-Some-clause-ends g c =
     on_ok c.end.result c.end.ensures.ends (λ ends t format samples written heard.
-    track_ended t c.in-Some.sound format samples written _ _ (rw c.in-Some.is at heard) (λ hears. ends samples written hears))
+    track_ended t c.in-Some.sound format samples written _ _ (rw c.in-Some.is at heard)
+    (λ hears. ends samples written hears))
 
 pub returns-in-Some-clause-fails : goal.returns-in-Some-clause-fails
 returns-in-Some-clause-fails g c =
     on_err c.end.result c.end.ensures.fails (λ fails t format samples written heard.
-    track_fails_at_end t c.in-Some.sound format samples written _ _ (rw c.in-Some.is at heard) (λ hears. fails samples written hears))
+    track_fails_at_end t c.in-Some.sound format samples written _ _ (rw c.in-Some.is at heard)
+    (λ hears. fails samples written hears))
 
 -- there is none
 pub returns-in-None-clause-ends : goal.returns-in-None-clause-ends

@@ -15,7 +15,8 @@ pub returns-in-Some-clause-fails : goal.returns-in-Some-clause-fails
 returns-in-Some-clause-fails g c =
     let e = c.hear_all.ensures in
     on_err c.hear_all.result e.fails (λ fails t format before written heard.
-    track_fails t c.in-Some.sound format before c.args.samples.now written _ _ (rw c.in-Some.is at heard) (λ hears. fails before written hears))
+    track_fails t c.in-Some.sound format before c.args.samples.now written _ _ (rw c.in-Some.is at heard)
+    (λ hears. fails before written hears))
 
 -- there are none
 pub returns-in-None-clause-works : goal.returns-in-None-clause-works

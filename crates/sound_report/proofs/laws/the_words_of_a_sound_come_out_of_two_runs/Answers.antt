@@ -18,7 +18,8 @@ returns-clause-report c = λ profile s tape words sound text is piped.
 pub returns-clause-spans : goal.returns-clause-spans
 returns-clause-spans c = λ flight s tape words sound text asked is piped.
     let out = outputs_of (jobs.PcmLtc s) (jobs.LtcSpans flight) sound text piped in
-    c.the_spans_of_a_margin_are_told.ensures flight s tape words sound out.between text asked is.is is.margin is.fits is.whole
+    c.the_spans_of_a_margin_are_told.ensures flight s tape words sound out.between text asked is.is is.margin is.fits
+    is.whole
     is.begins is.spelled out.wrote out.read
 
 pub returns-clause-one_span : goal.returns-clause-one_span

@@ -19,7 +19,8 @@ returns-clause-report c = λ profile w format tape words file text is piped.
 pub returns-clause-spans : goal.returns-clause-spans
 returns-clause-spans c = λ flight w format tape words file text asked is piped.
     let out = outputs_of (jobs.WavLtc w) (jobs.LtcSpans flight) file text piped in
-    c.the_spans_of_a_track_are_told.ensures flight w format tape words file out.between text asked is.is is.margin is.late
+    c.the_spans_of_a_track_are_told.ensures flight w format tape words file out.between text asked is.is is.margin
+    is.late
     is.fits is.whole is.begins is.spelled out.wrote out.read
 
 pub returns-clause-one_span : goal.returns-clause-one_span
@@ -28,5 +29,6 @@ returns-clause-one_span c = λ flight w format tape first more file text asked i
     c.words_that_count_on_are_one_span.ensures (track_header w format) flight is.margin.delay
     (is.margin.start + duration (take 2 tape)) tape first more
     (distances_from_start 16 w.threshold (sums w.smooth (reading_of (asked_by w) file).samples)) text
-    (c.the_spans_of_a_track_are_told.ensures flight w format tape (first ∷ more) file out.between text asked is.is is.margin
+    (c.the_spans_of_a_track_are_told.ensures flight w format tape (first ∷ more) file out.between text asked is.is
+    is.margin
     is.late is.fits is.whole is.begins is.spelled out.wrote out.read) on pace

@@ -7,4 +7,5 @@ use Rattle.tape_sound.proofs.laws.distances_are_the_cells_as_they_are_found.Goal
 pub returns : goal.returns
 returns c = λ fineness noise low high delay start threshold tape clean sound some noisy stays over long.
     found_whole delay start tape (moments fineness threshold sound) long
-    (goes_over_within fineness noise low high delay threshold (transitions start tape) clean sound some noisy stays over)
+    (goes_over_within fineness noise low high delay threshold (transitions start tape) clean sound some noisy stays
+    over)

@@ -21,7 +21,12 @@ returns-clause-fewer c = (
     0,
     omega arith,
     refl,
-    (0, omega arith, refl, (0, omega arith, refl, (0, omega arith, refl, (0, omega arith, (8, omega arith, refl, refl), tt)))),
+    (
+      0,
+      omega arith,
+      refl,
+      (0, omega arith, refl, (0, omega arith, refl, (0, omega arith, (8, omega arith, refl, refl), tt))),
+    ),
   ),
   λ follow. let half = follow.1.0.1 in omega (arith, half),
 )

@@ -6,4 +6,5 @@ pub returns-clause-ones : goal.returns-clause-ones
 returns-clause-ones c = even_ones
 
 pub returns-clause-whole : goal.returns-clause-whole
-returns-clause-whole c = λ half delay room. ((omega (arith, room), omega (arith, room)), (omega (arith, room), omega (arith, room)))
+returns-clause-whole c =
+    λ half delay room. ((omega (arith, room), omega (arith, room)), (omega (arith, room), omega (arith, room)))

@@ -6,4 +6,5 @@ use Rattle.tape_spans.proofs.laws.the_open_span_has_the_last_line.Goals as goal
 
 pub returns : goal.returns
 returns c = λ rate system frames.
-    let begun = goes_further rate system blank [] frames stands_at_first in all_lines rate system begun.tape frames begun.stands
+    let begun = goes_further rate system blank [] frames stands_at_first in
+    all_lines rate system begun.tape frames begun.stands

@@ -14,6 +14,7 @@ returns-clause-label c =
     let day = c.day_labels.ensures.value ∙ ap day_length c.count-count.ensures.value in
     let steps : to_z w64 (of_z w64 c.args.steps) ≡ c.args.steps = omega (arith, ints) in
     let place : c.moved.result ≡ moved (day_length c.args.label.now.count) (number_of c.args.label.now) c.args.steps =
-    c.moved.ensures ∙ ap (λ z. moved c.day_labels.result c.number.result z) steps ∙ ap (λ d. moved d c.number.result c.args.steps) day
+    c.moved.ensures ∙ ap (λ z. moved c.day_labels.result c.number.result z) steps
+    ∙ ap (λ d. moved d c.number.result c.args.steps) day
     ∙ ap (λ n. moved (day_length c.args.label.now.count) n c.args.steps) c.number.ensures.before in
     step_at _ _ _ _ found place

@@ -6,7 +6,8 @@ use Rattle.tc_address.proofs.spelling.read_text.Goals as goal
 
 -- the text of a label has no wrong place
 pub returns-in-Some-clause-only : goal.returns-in-Some-clause-only
-returns-in-Some-clause-only c = λ label l e t. absurd (no_wrong_place _ _ c.in-Some.place label l e t c.in-Some.ensures.some)
+returns-in-Some-clause-only c =
+    λ label l e t. absurd (no_wrong_place _ _ c.in-Some.place label l e t c.in-Some.ensures.some)
 
 -- the text is that of the address that its bytes say, which is the label
 pub returns-clause-reads : goal.returns-clause-reads
@@ -21,7 +22,8 @@ returns-clause-reads c =
 
 -- a text with a wrong place is no label's text
 pub returns-in-Some-clause-spelled : goal.returns-in-Some-clause-spelled
-returns-in-Some-clause-spelled c = label_in-none _ _ (λ a l e t. no_wrong_place _ _ c.in-Some.place a l e t c.in-Some.ensures.some)
+returns-in-Some-clause-spelled c =
+    label_in-none _ _ (λ a l e t. no_wrong_place _ _ c.in-Some.place a l e t c.in-Some.ensures.some)
 
 pub returns-clause-spelled : goal.returns-clause-spelled
 returns-clause-spelled c = let read = returns-clause-reads c in label_in-text_of _ _ _ read.2 read.1 read.0

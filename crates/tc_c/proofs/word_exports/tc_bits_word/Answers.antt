@@ -10,7 +10,7 @@ pub returns-in-Some-eighty-clause-reads : goal.returns-in-Some-eighty-clause-rea
 returns-in-Some-eighty-clause-reads c = λ s w named below spells.
     let bits = number_of_bits c.args.bits.now in
     let here : Spells c.in-Some.system w bits =
-        subst (λ (t : System). Spells t w bits) (sym (same_system _ s (c.in-Some.ensures.only s named))) spells in
+    subst (λ (t : System). Spells t w bits) (sym (same_system _ s (c.in-Some.ensures.only s named))) spells in
     c.read_word.ensures.reads w (subst (λ (n : ℕ). Spells c.in-Some.system w n) (sym c.in-Some-eighty.ensures.is) here)
 
 -- a bit above the 80 is set

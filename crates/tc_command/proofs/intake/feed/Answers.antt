@@ -19,10 +19,13 @@ bytes-preserved g c =
       budget = omega (arith, e.budget, i.budget);
       falls = λ some. omega (arith, e.budget, i.budget);
       choice = e.choice ∙ i.choice;
-      works = subst (λ bs. Works (g.E.Engine.stands c.args.engine.now) (g.E.Engine.stands c.take.new.self) (g.K.Sink.written c.args.out.now)
+      works = subst (λ bs. Works (g.E.Engine.stands c.args.engine.now) (g.E.Engine.stands c.take.new.self)
+          (g.K.Sink.written c.args.out.now)
           (g.K.Sink.written c.take.new.out) bs) cut
-          (works_on (g.E.Engine.stands c.args.engine.now) (g.E.Engine.stands c.bytes.engine) (g.E.Engine.stands c.take.new.self)
-          (g.K.Sink.written c.args.out.now) (g.K.Sink.written c.bytes.out) (g.K.Sink.written c.take.new.out) _ _ i.works e.works);
+          (works_on (g.E.Engine.stands c.args.engine.now) (g.E.Engine.stands c.bytes.engine)
+          (g.E.Engine.stands c.take.new.self)
+          (g.K.Sink.written c.args.out.now) (g.K.Sink.written c.bytes.out) (g.K.Sink.written c.take.new.out) _ _ i.works
+          e.works);
       same = e.cause ∙ i.same;
     }
 

@@ -9,7 +9,8 @@ invariant-bytes g l = record {
   budget : g.E.Engine.budget l.engine ≤ g.E.Engine.budget l.fn.engine;
   falls : 0 < l.at → g.E.Engine.budget l.engine < g.E.Engine.budget l.fn.engine;
   choice : g.E.Engine.choice l.engine ≡ g.E.Engine.choice l.fn.engine;
-  works : Works (g.E.Engine.stands l.fn.engine) (g.E.Engine.stands l.engine) (g.K.Sink.written l.fn.out) (g.K.Sink.written l.out) (take l.at l.bytes);
+  works : Works (g.E.Engine.stands l.fn.engine) (g.E.Engine.stands l.engine) (g.K.Sink.written l.fn.out)
+      (g.K.Sink.written l.out) (take l.at l.bytes);
   same : g.K.Sink.faults l.out ≡ g.K.Sink.faults l.fn.out;
 }
 

@@ -40,10 +40,19 @@ returns-then-count-eq0-clause-ends g c =
     let f = c.in_ok-flush.ensures.works w.0 w.1 w.4 in
     let same = c.in_ok-flush.ensures.choice ∙ c.pulls.invariant.choice in
     let pushed = Appends-trans _ _ _ w.1 f.0 w.3 f.1 in
-    let end = ended_at _ _ _ w.0 c.pull.new.buf c.in-Ok.count w.2 c.if-count-eq0.true (omega (arith, c.pull.auto.buf)) c.in-Ok.ensures.bytes in
+    let end = ended_at _ _ _ w.0 c.pull.new.buf c.in-Ok.count w.2 c.if-count-eq0.true (omega (arith, c.pull.auto.buf))
+    c.in-Ok.ensures.bytes in
     on_ok c.finish.result c.finish.ensures.ends (λ ends.
-    let last = ends w.0 (w.1 ++ f.0) f.2 in
-    (w.0, (w.1 ++ f.0) ++ last.0, end.0, Appends-trans _ _ _ (w.1 ++ f.0) last.0 pushed last.1, w.5, (λ reads. end.1), rw (← same) last.2, rw (← same) last.3))
+    let last = ends w.0 (w.1 ++ f.0) f.2 in (
+      w.0,
+      (w.1 ++ f.0) ++ last.0,
+      end.0,
+      Appends-trans _ _ _ (w.1 ++ f.0) last.0 pushed last.1,
+      w.5,
+      (λ reads. end.1),
+      rw (← same) last.2,
+      rw (← same) last.3,
+    ))
 
 -- a stop at the end of what was pulled
 pub returns-then-count-eq0-clause-stops : goal.returns-then-count-eq0-clause-stops
@@ -52,10 +61,16 @@ returns-then-count-eq0-clause-stops g c =
     let f = c.in_ok-flush.ensures.works w.0 w.1 w.4 in
     let same = c.in_ok-flush.ensures.choice ∙ c.pulls.invariant.choice in
     let pushed = Appends-trans _ _ _ w.1 f.0 w.3 f.1 in
-    let end = ended_at _ _ _ w.0 c.pull.new.buf c.in-Ok.count w.2 c.if-count-eq0.true (omega (arith, c.pull.auto.buf)) c.in-Ok.ensures.bytes in
+    let end = ended_at _ _ _ w.0 c.pull.new.buf c.in-Ok.count w.2 c.if-count-eq0.true (omega (arith, c.pull.auto.buf))
+    c.in-Ok.ensures.bytes in
     if_err c.finish.result c.finish.ensures.stops (λ stop stops.
-    let last = stops w.0 (w.1 ++ f.0) f.2 in
-    (w.0, (w.1 ++ f.0) ++ last.0, end.0, Appends-trans _ _ _ (w.1 ++ f.0) last.0 pushed last.1, rw (← same) (along_at_end _ stop _ _ _ end.1 last.2)))
+    let last = stops w.0 (w.1 ++ f.0) f.2 in (
+      w.0,
+      (w.1 ++ f.0) ++ last.0,
+      end.0,
+      Appends-trans _ _ _ (w.1 ++ f.0) last.0 pushed last.1,
+      rw (← same) (along_at_end _ stop _ _ _ end.1 last.2),
+    ))
 
 -- a stop inside what was pulled
 pub returns-in_err-feed-clause-stops : goal.returns-in_err-feed-clause-stops

@@ -17,7 +17,8 @@ returns-in_err-at-clause-front g c =
 pub loop-at-preserved : goal.loop-at-preserved
 loop-at-preserved g c = record {
   within = omega (arith, c.in_ok-at.ensures.bound);
-  appended = more_pushed _ _ _ c.loop-at.at c.in_ok-at.field-0 c.args.bytes.now c.loop-at.invariant.appended c.in_ok-at.ensures.bytes;
+  appended = more_pushed _ _ _ c.loop-at.at c.in_ok-at.field-0 c.args.bytes.now c.loop-at.invariant.appended
+      c.in_ok-at.ensures.bytes;
   same = search (rules, c.in_ok-at.ensures.cause.same);
   untold = λ none. c.in_ok-at.ensures.untold (c.loop-at.invariant.untold none);
   idle = λ none. let empty : length c.args.bytes.now ≡ 0 = ap length none in absurd (omega arith);

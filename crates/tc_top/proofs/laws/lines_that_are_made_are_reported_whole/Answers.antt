@@ -11,4 +11,5 @@ returns-clause-input c = λ s is. are_input s (c.lines_that_are_made_are_read_ba
 pub returns-clause-report : goal.returns-clause-report
 returns-clause-report c = λ s written is output.
     let back = c.lines_that_are_made_are_read_back.ensures s is in
-    output.2 ∙ ap field_report (c.bytes_have_one_list_of_answers.ensures (made_lines s) output.0 _ output.1 back.answers)
+    output.2 ∙ ap field_report
+    (c.bytes_have_one_list_of_answers.ensures (made_lines s) output.0 _ output.1 back.answers)

@@ -14,5 +14,7 @@ returns c = λ s written is output.
     let back = c.what_is_made_is_read_whole.ensures.back s is in
     let read = c.what_is_made_is_read_whole.ensures.read s is in
     let whole = subst (λ (r : Recording). IsWholeOf (report Normal) r written) read.0 output in
-    let same = c.a_list_has_one_list_of_events.ensures (made_header s).system Normal (flat (made_cells s)) whole.events _ whole.are_events back.events in
-    whole.are ∙ ap (λ (events : List Event). lines (made_header s) events ++ last_line (flat (made_cells s)) events) same
+    let same = c.a_list_has_one_list_of_events.ensures (made_header s).system Normal (flat (made_cells s)) whole.events
+    _ whole.are_events back.events in
+    whole.are ∙ ap (λ (events : List Event). lines (made_header s) events ++ last_line (flat (made_cells s)) events)
+    same

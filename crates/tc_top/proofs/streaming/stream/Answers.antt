@@ -11,7 +11,8 @@ use Rattle.tc_top.proofs.streaming.stream.Goals as goal
 pub returns-in-Ok-clause-answer : goal.returns-in-Ok-clause-answer
 returns-in-Ok-clause-answer g c =
     let e = c.in-Ok.ensures.worked.ends in
-    let went : Exchange = record { pulled = e.0; left = g.S.Source.left c.work_on.new.source; written = e.1; note = [] } in (
+    let went : Exchange = record { pulled = e.0; left = g.S.Source.left c.work_on.new.source; written = e.1; note = [] }
+    in (
       went,
       record { bytes = e.2; left = refl },
       e.3,
@@ -35,7 +36,13 @@ returns-in-Ok-clause-answer g c =
 pub returns-in-Err-clause-answer : goal.returns-in-Err-clause-answer
 returns-in-Err-clause-answer g c =
     let e = c.in-Err.ensures.worked.stops in
-    let went : Exchange = record { pulled = e.0; left = g.S.Source.left c.work_on.new.source; written = e.1; note = c.stop_note.result.items } in (
+    let went : Exchange = record {
+      pulled = e.0;
+      left = g.S.Source.left c.work_on.new.source;
+      written = e.1;
+      note =
+          c.stop_note.result.items;
+    } in (
       went,
       record { bytes = e.2; left = refl },
       e.3,

@@ -11,12 +11,20 @@ use Rattle.tc_top.proofs.top_call.run.Goals as goal
 pub returns-in-Err-clause-answer : goal.returns-in-Err-clause-answer
 returns-in-Err-clause-answer g c =
     let words = map string_bytes c.args.words.now in
-    let went : Exchange = record { pulled = []; left = g.S.Source.left c.args.source.now; written = []; note = c.usage_note.result.items } in (
+    let went : Exchange = record {
+      pulled = [];
+      left = g.S.Source.left c.args.source.now;
+      written = [];
+      note =
+          c.usage_note.result.items;
+    } in (
       went,
       record { bytes = Consumes-nil _; left = refl },
       Appends-nil _,
       record { front = c.push_note.ensures.front; all = c.push_note.ensures.all },
-      rw c.of_words.ensures (fault_answers words c.in-Err.fault _ c.usage_note.result.items (rw c.in-Err.is at c.read_words.ensures.answer) c.usage_note.ensures),
+      rw c.of_words.ensures
+          (fault_answers words c.in-Err.fault _ c.usage_note.result.items
+          (rw c.in-Err.is at c.read_words.ensures.answer) c.usage_note.ensures),
     )
 
 -- the whole input leaves the status: the job is the one that the words name

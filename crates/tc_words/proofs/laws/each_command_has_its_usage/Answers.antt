@@ -7,5 +7,6 @@ use Rattle.tc_words.proofs.laws.each_command_has_its_usage.Goals as goal
 
 -- without values each command answers that it wants some, or its task
 pub returns-clause-only : goal.returns-clause-only
-unfolding flight_in ltc_rough ltc_jam ltc_chase ltc_make ltc_load ltc_convert pcm_ltc wav_ltc ltc_pcm vitc_make number label_of labels chase
+unfolding flight_in ltc_rough ltc_jam ltc_chase ltc_make ltc_load ltc_convert pcm_ltc wav_ltc ltc_pcm vitc_make number
+    label_of labels chase
 returns-clause-only c = search rules

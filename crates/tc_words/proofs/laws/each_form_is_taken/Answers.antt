@@ -9,4 +9,11 @@ use Rattle.tc_words.proofs.laws.each_form_is_taken.Goals as goal
 pub returns-clause-taken : goal.returns-clause-taken
 unfolding number_of labels addresses hour_of minute_of second_of
 returns-clause-taken c = forms_taken (c.number_and_label_are_inverse.ensures.label (address C30 0 0 0 0)
-    (record { hours = omega arith; minutes = omega arith; seconds = omega arith; frames = omega arith; counted = refl }))
+    (record {
+      hours = omega arith;
+      minutes = omega arith;
+      seconds = omega arith;
+      frames = omega arith;
+      counted =
+          refl;
+    }))

@@ -15,7 +15,8 @@ abbrev after_dashes : Option ℕ → List (List ℕ) → Result Task WordsFault
 after_dashes dash words = elim dash [ Some place ↦ Err (Dash place) | None ↦ without_dashes words ]
 
 pub without_dashes-requires : goal.without_dashes-requires
-without_dashes-requires c = position-map begins_with_dash string_bytes c.args.words.now ∙ sym c.first_dash.ensures ∙ c.in-None.is
+without_dashes-requires c = position-map begins_with_dash string_bytes c.args.words.now ∙ sym c.first_dash.ensures
+    ∙ c.in-None.is
 
 pub returns-in-Some-clause-answer : goal.returns-in-Some-clause-answer
 returns-in-Some-clause-answer c =

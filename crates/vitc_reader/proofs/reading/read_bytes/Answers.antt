@@ -9,7 +9,8 @@ use Rattle.lemmas.specs.Results.{through}
 use Rattle.vitc_reader.proofs.reading.read_bytes.Goals as goal
 
 pub with-requires-clause-bits : goal.with-requires-clause-bits
-with-requires-clause-bits c = below c.args.length (runs_of_bytes c.args.bytes.now) c.runs.index c.runs.line.bits c.runs.line.cells c.runs.invariant
+with-requires-clause-bits c = below c.args.length (runs_of_bytes c.args.bytes.now) c.runs.index c.runs.line.bits
+    c.runs.line.cells c.runs.invariant
 
 pub returns-in_err-line-clause-refuses : goal.returns-in_err-line-clause-refuses
 returns-in_err-line-clause-refuses c =
@@ -17,9 +18,11 @@ returns-in_err-line-clause-refuses c =
     let there = c.runs-test.true in
     let lt : c.runs.index < length (runs_of_bytes bytes) = rw (count_of bytes) there in
     let run : c.read_u16-run.result ≡ get_or (runs_of_bytes bytes) c.runs.index 0 =
-    c.read_u16-run.ensures ∙ ap (big_number 2) (take_rest bytes (2 * c.runs.index)) ∙ pair_at c.runs.index bytes there in
+    c.read_u16-run.ensures ∙ ap (big_number 2) (take_rest bytes (2 * c.runs.index))
+    ∙ pair_at c.runs.index bytes there in
     through c.from_residual.result c.from_residual.ensures.1 (λ fault same.
-    rw same (refused_at c.args.length (runs_of_bytes bytes) c.runs.index c.read_u16-run.result c.runs.line c.in_err-line.field-0.0 c.runs.invariant lt run
+    rw same (refused_at c.args.length (runs_of_bytes bytes) c.runs.index c.read_u16-run.result c.runs.line
+    c.in_err-line.field-0.0 c.runs.invariant lt run
     c.in_err-line.ensures.refuses))
 
 pub returns-in_err-line-clause-only : goal.returns-in_err-line-clause-only
@@ -30,7 +33,8 @@ returns-in_err-line-clause-only c = λ bits stand.
     let least = c.requires.length.0 in
     let lt : c.runs.index < length (runs_of_bytes bytes) = rw (count_of bytes) there in
     let run : c.read_u16-run.result ≡ get_or (runs_of_bytes bytes) c.runs.index 0 =
-    c.read_u16-run.ensures ∙ ap (big_number 2) (take_rest bytes (2 * c.runs.index)) ∙ pair_at c.runs.index bytes there in
+    c.read_u16-run.ensures ∙ ap (big_number 2) (take_rest bytes (2 * c.runs.index))
+    ∙ pair_at c.runs.index bytes there in
     absurd (not_read c.args.length runs c.runs.index c.read_u16-run.result c.runs.line c.in_err-line.field-0.0 bits
     (omega (arith, least)) c.runs.invariant lt run c.in_err-line.ensures.refuses stand)
 
@@ -40,8 +44,10 @@ runs-preserved c =
     let there = c.runs-test.true in
     let lt : c.runs.index < length (runs_of_bytes bytes) = rw (count_of bytes) there in
     let run : c.read_u16-run.result ≡ get_or (runs_of_bytes bytes) c.runs.index 0 =
-    c.read_u16-run.ensures ∙ ap (big_number 2) (take_rest bytes (2 * c.runs.index)) ∙ pair_at c.runs.index bytes there in
-    turned_by c.args.length (runs_of_bytes bytes) c.runs.index c.read_u16-run.result c.runs.line c.in_ok-line.line c.runs.invariant lt run
+    c.read_u16-run.ensures ∙ ap (big_number 2) (take_rest bytes (2 * c.runs.index))
+    ∙ pair_at c.runs.index bytes there in
+    turned_by c.args.length (runs_of_bytes bytes) c.runs.index c.read_u16-run.result c.runs.line c.in_ok-line.line
+    c.runs.invariant lt run
     c.in_ok-line.ensures.next
 
 pub returns-clause-reads : goal.returns-clause-reads
@@ -61,4 +67,5 @@ returns-clause-only c = λ bits stand.
 pub returns-clause-width : goal.returns-clause-width
 returns-clause-width c =
     below_ninety c.runs.line.bits c.runs.line.cells
-    (below c.args.length (runs_of_bytes c.args.bytes.now) c.runs.index c.runs.line.bits c.runs.line.cells c.runs.invariant) c.runs.invariant.so_far.few
+    (below c.args.length (runs_of_bytes c.args.bytes.now) c.runs.index c.runs.line.bits c.runs.line.cells
+    c.runs.invariant) c.runs.invariant.so_far.few

@@ -13,13 +13,18 @@ returns-then-is_high c =
       within = rw e h.0.within;
       run = rw (c.if-is_high.true, e) h.0.run;
       some = rw e h.0.some;
-      change = (λ one. let z = rw (← e) at h.1 in absurd (omega (arith, one, z)), λ low. let high = c.if-is_high.true in absurd cc);
+      change = (
+        λ one. let z = rw (← e) at h.1 in absurd (omega (arith, one, z)),
+        λ low. let high = c.if-is_high.true in
+            absurd cc,
+      );
     }
 
 -- and a low one at the lowest 1
 pub returns-else-is_high : goal.returns-else-is_high
 returns-else-is_high c =
-    let even = not_odd c.args.rest (λ odd. let high = c.requires.level.0 odd in let low = c.if-is_high.false in absurd cc) in
+    let even = not_odd c.args.rest (λ odd. let high = c.requires.level.0 odd in let low = c.if-is_high.false in
+    absurd cc) in
     let h = zeros_level c.args.rest c.requires.width c.requires.some even in
     record {
       exact = rw c.if-is_high.false refl;

@@ -1,6 +1,7 @@
 use Rattle.std.proofs.Common.{arith}
 use Rattle.std.proofs.lemmas.List.{length-take-le}
-use Rattle.vitc_reader.proofs.WrittenSoFar.{cells_left, room, write_more, all_written, exactly_written, odd_number, read_back}
+use Rattle.vitc_reader.proofs.WrittenSoFar.{cells_left, room, write_more, all_written, exactly_written, odd_number}
+use Rattle.vitc_reader.proofs.WrittenSoFar.{read_back}
 use Rattle.vitc_reader.proofs.writing.runs_of.Goals as goal
 
 -- bits that are left are within the line
@@ -51,24 +52,29 @@ loop-rest-preserved c =
     let least = c.run_of-cells.ensures.least in
     let more = write_more c.args.length c.args.bits c.args.runs.now c.loop-rest.runs
     c.loop-rest.rest c.loop-rest.cell c.loop-rest.number c.run_of-cells.result c.loop-rest.is_high
-    c.loop-rest.invariant c.requires.width (omega (arith, left, room, least)) c.run_of-cells.ensures.least c.run_of-cells.ensures.some
-    c.run_of-cells.ensures.run c.run_of-cells.ensures.change c.run_of-cells.ensures.exact (omega (arith, c.loop-rest-test.true)) in
+    c.loop-rest.invariant c.requires.width (omega (arith, left, room, least)) c.run_of-cells.ensures.least
+    c.run_of-cells.ensures.some
+    c.run_of-cells.ensures.run c.run_of-cells.ensures.change c.run_of-cells.ensures.exact
+    (omega (arith, c.loop-rest-test.true)) in
     rw (c.begin_of.ensures.value, c.begin_of-in-loop-rest.ensures.value) more
 
 pub returns-clause-number : goal.returns-clause-number
 returns-clause-number c =
     let s = rw c.loop-rest-test.false at c.loop-rest.invariant in
-    (odd_number c.args.length c.args.bits c.args.runs.now c.loop-rest.runs c.loop-rest.cell c.loop-rest.number c.loop-rest.is_high s).1
+    (odd_number c.args.length c.args.bits c.args.runs.now c.loop-rest.runs c.loop-rest.cell c.loop-rest.number
+    c.loop-rest.is_high s).1
 
 pub returns-clause-written : goal.returns-clause-written
 returns-clause-written c =
     let s = rw c.loop-rest-test.false at c.loop-rest.invariant in
-    all_written c.args.length c.args.bits c.args.runs.now c.loop-rest.runs c.loop-rest.cell c.loop-rest.number c.loop-rest.is_high s
+    all_written c.args.length c.args.bits c.args.runs.now c.loop-rest.runs c.loop-rest.cell c.loop-rest.number
+    c.loop-rest.is_high s
 
 pub returns-clause-back : goal.returns-clause-back
 returns-clause-back c =
     let s = rw c.loop-rest-test.false at c.loop-rest.invariant in
-    let odd = odd_number c.args.length c.args.bits c.args.runs.now c.loop-rest.runs c.loop-rest.cell c.loop-rest.number c.loop-rest.is_high s in
+    let odd = odd_number c.args.length c.args.bits c.args.runs.now c.loop-rest.runs c.loop-rest.cell c.loop-rest.number
+    c.loop-rest.is_high s in
     let size = c.loop-rest.invariant.size in
     let few = odd.1 in
     let e = length-take-le c.loop-rest.number c.loop-rest.runs (omega (arith, size, few)) in
@@ -77,9 +83,11 @@ returns-clause-back c =
 pub returns-clause-same : goal.returns-clause-same
 returns-clause-same c =
     let s = rw c.loop-rest-test.false at c.loop-rest.invariant in
-    read_back c.args.length c.args.bits c.args.runs.now c.loop-rest.runs c.loop-rest.cell c.loop-rest.number c.loop-rest.is_high c.requires.length.0 s
+    read_back c.args.length c.args.bits c.args.runs.now c.loop-rest.runs c.loop-rest.cell c.loop-rest.number
+    c.loop-rest.is_high c.requires.length.0 s
 
 pub returns-clause-exact : goal.returns-clause-exact
 returns-clause-exact c =
     let s = rw c.loop-rest-test.false at c.loop-rest.invariant in
-    exactly_written c.args.length c.args.bits c.args.runs.now c.loop-rest.runs c.loop-rest.cell c.loop-rest.number c.loop-rest.is_high s
+    exactly_written c.args.length c.args.bits c.args.runs.now c.loop-rest.runs c.loop-rest.cell c.loop-rest.number
+    c.loop-rest.is_high s

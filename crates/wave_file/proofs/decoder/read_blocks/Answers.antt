@@ -1,4 +1,5 @@
-use Rattle.std.proofs.Common.{◌≡◌, ◌≤◌, ◌<◌, ◌+◌, ◌-◌, ◌*◌, ◌++◌, ◌∷◌, [], ℕ, List, length, take, drop, refl, sym, arith, rules, ap, ◌∙◌}
+use Rattle.std.proofs.Common.{◌≡◌, ◌≤◌, ◌<◌, ◌+◌, ◌-◌, ◌*◌, ◌++◌, ◌∷◌, [], ℕ, List, length, take, drop, refl, sym}
+use Rattle.std.proofs.Common.{arith, rules, ap, ◌∙◌}
 use Rattle.std.proofs.lemmas.Nat.{row_fits}
 use Rattle.std.proofs.lemmas.List.{length-set, take_more_set}
 use Rattle.std.proofs.lemmas.Int.{to_z-of_z}
@@ -11,8 +12,10 @@ use Rattle.wave_file.proofs.Blocks.{samples_more}
 use Rattle.wave_file.proofs.decoder.read_blocks.Goals as goal
 
 -- the next block is there
-next_there : (place block at count length : ℕ) → place < count → at ≡ place * block → length ≡ count * block → at + block ≤ length
-next_there place block at count length less is all = let row = row_fits place block count block less (omega arith) in omega (arith, is, all, row)
+next_there : (place block at count length : ℕ) → place < count → at ≡ place * block → length ≡ count * block
+    → at + block ≤ length
+next_there place block at count length less is all = let row = row_fits place block count block less (omega arith) in
+    omega (arith, is, all, row)
 
 pub each-init : goal.each-init
 unfolding samples_at
@@ -22,13 +25,15 @@ pub overflow_add-next : goal.overflow_add-next
 overflow_add-next c =
     let block = c.from-block.ensures in
     let room = c.requires.taken.room in
-    let there = next_there c.each.place c.args.format.now.block c.each.at _ _ c.each-test.true c.each.invariant.at_is c.requires.blocks in
+    let there = next_there c.each.place c.args.format.now.block c.each.at _ _ c.each-test.true c.each.invariant.at_is
+    c.requires.blocks in
     omega (arith, there, block, room)
 
 pub slice_bounds-sample_in-end : goal.slice_bounds-sample_in-end
 slice_bounds-sample_in-end c =
     let block = c.from-block.ensures in
-    let there = next_there c.each.place c.args.format.now.block c.each.at _ _ c.each-test.true c.each.invariant.at_is c.requires.blocks in
+    let there = next_there c.each.place c.args.format.now.block c.each.at _ _ c.each-test.true c.each.invariant.at_is
+    c.requires.blocks in
     let ends : c.each.at + c.from-block.result ≤ length c.args.blocks.now = omega (arith, there, block) in
     search (rules, ends)
 

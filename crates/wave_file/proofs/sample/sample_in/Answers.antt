@@ -14,7 +14,8 @@ use Rattle.wave_file.specs.declared.format.Asked.{Asked}
 -- the two bytes from a place on
 bytes_at : (format : WaveFormat) (asked : Asked) (width : ℕ) (block : List ℕ) (sample : ℤ) → width ≡ sample_width format
     → ¬ (width ≡ 1)
-    → sample ≡ cast_signed w16 (little_number 2 (take (length block - (asked.track * width - 2)) (drop (asked.track * width - 2)
+    → sample ≡ cast_signed w16
+    (little_number 2 (take (length block - (asked.track * width - 2)) (drop (asked.track * width - 2)
     block)))
     → sample ≡ sample_in format asked block
 bytes_at format asked width block sample is wide e =

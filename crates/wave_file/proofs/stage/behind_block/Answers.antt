@@ -10,12 +10,14 @@ use Rattle.wave_file.proofs.stage.behind_block.Goals as goal
 
 pub returns-then-room-eq0 : goal.returns-then-room-eq0
 returns-then-room-eq0 c = λ notes place more. rw c.if-room-eq0.true
-    (block_past c.args.asked c.args.format.now c.args.extent c.args.block.now more c.requires.block c.requires.taken.some c.requires.extent)
+    (block_past c.args.asked c.args.format.now c.args.extent c.args.block.now more c.requires.block
+    c.requires.taken.some c.requires.extent)
 
 pub returns : goal.returns
 returns c = λ notes place.
     let some = c.if-room-eq0.false in
-    let k = data_kept c.args.asked (place + length c.args.block.now) c.args.format.now c.behind.result (c.args.room - 1) c.requires.taken
+    let k = data_kept c.args.asked (place + length c.args.block.now) c.args.format.now c.behind.result (c.args.room - 1)
+    c.requires.taken
     (let within = c.requires.room in omega (arith, within)) in
     let fits : SFits w16 c.sample_in.result = search rules in
     rw (to_z-of_z w16 c.sample_in.result fits, c.data_stage.ensures, c.sample_in.ensures) (
@@ -25,7 +27,8 @@ returns c = λ notes place.
         wait = k.wait;
         says = λ more.
             rw (c.behind.ensures, c.from.ensures)
-            (block_more c.args.asked c.args.format.now c.args.extent c.args.room c.args.block.now more c.requires.block c.requires.taken.some
+            (block_more c.args.asked c.args.format.now c.args.extent c.args.room c.args.block.now more c.requires.block
+            c.requires.taken.some
             c.requires.extent (omega (arith, some))
             ∙ ap (λ (r : Reading). with_samples (sample_in c.args.format.now c.args.asked c.args.block.now ∷ []) r)
             (sym (at_data c.args.asked notes (place + length c.args.block.now) c.args.format.now

@@ -15,7 +15,8 @@ returns-in-Ok c = rw c.padded.ensures (
     noted = λ _. c.in-Ok.ensures.taken;
     is = tt;
     wait = chunk_wait _;
-    says = λ more. format_brings c.args.asked c.args.notes.now c.args.place c.args.size c.args.piece.now more c.in-Ok.format
+    says = λ more. format_brings c.args.asked c.args.notes.now c.args.place c.args.size c.args.piece.now more
+        c.in-Ok.format
         c.requires.piece (sym c.format_in.ensures.value ∙ c.in-Ok.is);
   },
   refl,

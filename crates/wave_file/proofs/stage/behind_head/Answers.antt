@@ -19,14 +19,17 @@ returns-in-Ok-Data c =
     let format = c.in-Ok-Data.format in
     let extent = c.in-Ok-Data.extent in
     let there = rw c.in-Ok-Data.field-0-is at (c.in-Ok-Data.ensures.chunk asked c.requires.noted) in
-    let k = data_kept asked (c.args.place + length c.args.piece.now) format extent asked.most_samples there c.requires.asked.few in
+    let k = data_kept asked (c.args.place + length c.args.piece.now) format extent asked.most_samples there
+    c.requires.asked.few in
     rw c.data_stage.ensures (
       record {
         noted = λ h. h;
         is = k.is;
         wait = k.wait;
-        says = λ more. head_brings asked c.args.notes.now c.args.place c.args.piece.now more (Ok (chunk.Data format extent)) c.requires.piece
-            (sym (rw (c.read_u32.ensures, c.size_in.ensures) at c.chunk_of.ensures.value) ∙ c.in-Ok-Data.is ∙ ap Ok c.in-Ok-Data.field-0-is)
+        says = λ more. head_brings asked c.args.notes.now c.args.place c.args.piece.now more
+            (Ok (chunk.Data format extent)) c.requires.piece
+            (sym (rw (c.read_u32.ensures, c.size_in.ensures) at c.chunk_of.ensures.value) ∙ c.in-Ok-Data.is
+            ∙ ap Ok c.in-Ok-Data.field-0-is)
             ∙ sym (at_data asked c.args.notes.now _ format extent asked.most_samples more);
       },
       refl,
@@ -38,10 +41,13 @@ returns-in-Ok-Format c = let asked = c.args.asked in (
   record {
     noted = λ h. h;
     is = rw c.in-Ok-Format.field-0-is at (c.in-Ok-Format.ensures.chunk asked c.requires.noted);
-    wait = let least : 16 ≤ c.in-Ok-Format.size = rw c.in-Ok-Format.field-0-is at (c.in-Ok-Format.ensures.chunk asked c.requires.noted) in omega (arith, least);
+    wait = let least : 16 ≤ c.in-Ok-Format.size =
+        rw c.in-Ok-Format.field-0-is at (c.in-Ok-Format.ensures.chunk asked c.requires.noted) in omega (arith, least);
     says = λ more. rw c.requires.piece
-        (head_brings asked c.args.notes.now c.args.place c.args.piece.now more (Ok (chunk.Format c.in-Ok-Format.size)) c.requires.piece
-        (sym (rw (c.read_u32.ensures, c.size_in.ensures) at c.chunk_of.ensures.value) ∙ c.in-Ok-Format.is ∙ ap Ok c.in-Ok-Format.field-0-is));
+        (head_brings asked c.args.notes.now c.args.place c.args.piece.now more (Ok (chunk.Format c.in-Ok-Format.size))
+        c.requires.piece
+        (sym (rw (c.read_u32.ensures, c.size_in.ensures) at c.chunk_of.ensures.value) ∙ c.in-Ok-Format.is
+        ∙ ap Ok c.in-Ok-Format.field-0-is));
   },
   refl,
   refl,
@@ -54,8 +60,10 @@ returns-in-Ok-Sizes c = let asked = c.args.asked in (
     is = rw c.in-Ok-Sizes.field-0-is at (c.in-Ok-Sizes.ensures.chunk asked c.requires.noted);
     wait = omega arith;
     says = λ more. rw c.requires.piece
-        (head_brings asked c.args.notes.now c.args.place c.args.piece.now more (Ok (chunk.Sizes c.in-Ok-Sizes.size)) c.requires.piece
-        (sym (rw (c.read_u32.ensures, c.size_in.ensures) at c.chunk_of.ensures.value) ∙ c.in-Ok-Sizes.is ∙ ap Ok c.in-Ok-Sizes.field-0-is));
+        (head_brings asked c.args.notes.now c.args.place c.args.piece.now more (Ok (chunk.Sizes c.in-Ok-Sizes.size))
+        c.requires.piece
+        (sym (rw (c.read_u32.ensures, c.size_in.ensures) at c.chunk_of.ensures.value) ∙ c.in-Ok-Sizes.is
+        ∙ ap Ok c.in-Ok-Sizes.field-0-is));
   },
   refl,
   refl,
@@ -71,8 +79,10 @@ returns-in-Ok-Other c =
         is = tt;
         wait = chunk_wait _;
         says = λ more. rw c.requires.piece
-            (head_brings asked c.args.notes.now c.args.place c.args.piece.now more (Ok (chunk.Other c.in-Ok-Other.size)) c.requires.piece
-            (sym (rw (c.read_u32.ensures, c.size_in.ensures) at c.chunk_of.ensures.value) ∙ c.in-Ok-Other.is ∙ ap Ok c.in-Ok-Other.field-0-is));
+            (head_brings asked c.args.notes.now c.args.place c.args.piece.now more (Ok (chunk.Other c.in-Ok-Other.size))
+            c.requires.piece
+            (sym (rw (c.read_u32.ensures, c.size_in.ensures) at c.chunk_of.ensures.value) ∙ c.in-Ok-Other.is
+            ∙ ap Ok c.in-Ok-Other.field-0-is));
       },
       refl,
       refl,

@@ -9,7 +9,8 @@ returns c = λ asked place.
         noted = λ h. h;
         is = tt;
         wait = chunk_wait _;
-        says = λ more. sizes_bring asked c.args.notes.now place c.args.size c.args.piece.now more c.requires.piece c.requires.least;
+        says = λ more. sizes_bring asked c.args.notes.now place c.args.size c.args.piece.now more c.requires.piece
+            c.requires.least;
       },
       refl,
       refl,

@@ -8,5 +8,6 @@ returns-clause-next c =
     let a : FitsSigned w64 c.at.result = search rules in
     let stays = rw (to_z-of_z a) at c.or.ensures.stays in
     let comes = rw (to_z-of_z a) at c.or.ensures.comes in
-    λ steps ends best. or_end c.args.ends.now steps c.args.self c.args.place c.args.sign c.at.result c.or.result c.requires.place
+    λ steps ends best. or_end c.args.ends.now steps c.args.self c.args.place c.args.sign c.at.result c.or.result
+    c.requires.place
     c.at.ensures stays comes ends best

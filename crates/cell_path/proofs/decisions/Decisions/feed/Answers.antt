@@ -25,7 +25,8 @@ returns-then-self-eq0-clause-stands c = λ steps given stand_now.
       paths = paths;
       count = long;
       decided = due_adds c.args.step steps given c.decide.new.waiting (inside.count + 1) inside.done decided long done
-          c.if-self-ge-FIRST.true c.if-self-eq0.true (c.decide.ensures.decided (c.args.step ∷ steps) paths (omega arith));
+          c.if-self-ge-FIRST.true c.if-self-eq0.true
+          (c.decide.ensures.decided (c.args.step ∷ steps) paths (omega arith));
       done = c.decide.ensures.done ∙ end_of_all inside.done c.decide.new.waiting given done;
       last = stand.last;
     }

@@ -10,5 +10,6 @@ returns-clause-stands c = λ steps stand_now.
     record {
       scores = heard.stands steps stand.scores;
       marks = c.push.ensures.stands c.args.step steps stand.marks
-          (c.marks_of.ensures.marked (c.args.step ∷ steps) (heard.ends steps stand.scores) (heard.starts steps stand.scores) (heard.best steps stand.scores));
+          (c.marks_of.ensures.marked (c.args.step ∷ steps) (heard.ends steps stand.scores)
+          (heard.starts steps stand.scores) (heard.best steps stand.scores));
     }

@@ -10,5 +10,6 @@ invariant_of-self c =
     let same = sym (ap (λ (s : RowsState). s.count) c.self.view_is) in
     let room : c.self.inside.count < 2 ^ 40 = omega (arith, same, c.requires.room) in
     still_rows (record { ring = c.self.inside.ring; count = c.self.inside.count }) c.args.numbers c.self.invariant
-    (subst (λ (n : ℕ). (place : ℕ) (sign : Sign) → place < 45 → IsWithin (limit (n + 1) 0) (number_at c.args.numbers place sign)) same c.requires.size)
+    (subst (λ (n : ℕ). (place : ℕ) (sign : Sign) → place < 45
+    → IsWithin (limit (n + 1) 0) (number_at c.args.numbers place sign)) same c.requires.size)
     room

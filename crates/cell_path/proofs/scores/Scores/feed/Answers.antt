@@ -13,7 +13,8 @@ best_starts-starts-requires-clause-best c =
     let both = c.self.invariant in
     let w = c.best_of_all-best.ensures.size (limit c.self.inside.rows.count 2) c.best_ends-ends.ensures.size in
     let few : c.self.inside.rows.count ≤ 2 ^ 40 = omega (arith, both, same, c.requires.room) in
-    rw (to_z-of_z f) (wider (limit c.self.inside.rows.count 2) (2 ^ 62 + 2 ^ 40) c.best_of_all-best.result.number (omega arith) w)
+    rw (to_z-of_z f) (wider (limit c.self.inside.rows.count 2) (2 ^ 62 + 2 ^ 40) c.best_of_all-best.result.number
+    (omega arith) w)
 
 pub push-requires-2-clause-size : goal.push-requires-2-clause-size
 push-requires-2-clause-size c =
@@ -60,8 +61,10 @@ returns-clause-best c = λ steps stand_now.
     let g : FitsSigned w32 c.args.step.sound = search rules in
     let latest = rw (to_z-of_z g) at c.push.ensures.latest in
     let are = c.best_ends-ends.ensures.ends c.args.step steps
-    (sums_fed c.self.inside.sums c.push.new.self c.args.step steps stand.sums latest c.push.ensures.others) stand.rows in
-    c.best_of_all-best.ensures.best (c.args.step ∷ steps) (omega arith) (numbers_end c.best_ends-ends.result (c.args.step ∷ steps) are)
+    (sums_fed c.self.inside.sums c.push.new.self c.args.step steps stand.sums latest c.push.ensures.others) stand.rows
+    in
+    c.best_of_all-best.ensures.best (c.args.step ∷ steps) (omega arith)
+    (numbers_end c.best_ends-ends.result (c.args.step ∷ steps) are)
 
 pub returns-clause-starts : goal.returns-clause-starts
 returns-clause-starts c = λ steps stand_now.
@@ -71,7 +74,8 @@ returns-clause-starts c = λ steps stand_now.
     let f : FitsSigned w64 c.best_of_all-best.result.number = search rules in
     let latest = rw (to_z-of_z g) at c.push.ensures.latest in
     let are = c.best_ends-ends.ensures.ends c.args.step steps
-    (sums_fed c.self.inside.sums c.push.new.self c.args.step steps stand.sums latest c.push.ensures.others) stand.rows in
+    (sums_fed c.self.inside.sums c.push.new.self c.args.step steps stand.sums latest c.push.ensures.others) stand.rows
+    in
     let ends = numbers_end c.best_ends-ends.result (c.args.step ∷ steps) are in
     let best = c.best_of_all-best.ensures.best (c.args.step ∷ steps) (omega arith) ends in
     let starts = rw (to_z-of_z f) at c.best_starts-starts.ensures.starts in

@@ -13,7 +13,8 @@ use Rattle.cell_path.proofs.StartOfCells.{less_within, or_way, or_within, start_
 use Rattle.cell_path.proofs.start.Start.or_shorter.Goals as goal
 
 record Tried (c : goal.After-or) : Type 0 where
-  number_is : c.less-number.result ≡ number_at c.args.ends.now (c.args.place - 1) c.args.sign -ℤ pos ((length_in LENGTHS c.args.place - length_in LENGTHS (c.args.place - 1)) * c.args.level)
+  number_is : c.less-number.result ≡ number_at c.args.ends.now (c.args.place - 1) c.args.sign -ℤ pos
+      ((length_in LENGTHS c.args.place - length_in LENGTHS (c.args.place - 1)) * c.args.level)
   few : (length_in LENGTHS c.args.place - length_in LENGTHS (c.args.place - 1)) ≤ 288
   stays : c.less-number.result ≤ℤ c.args.self.number → c.or.result ≡ c.args.self
   comes : c.args.self.number <ℤ c.less-number.result → c.or.result ≡ start_of c.less-number.result Shorter
@@ -44,16 +45,22 @@ pub returns-clause-next : goal.returns-clause-next
 returns-clause-next c = λ step before level ends best.
     let t = tried c in
     let end = ends (c.args.place - 1) c.args.sign (omega (arith, c.requires.place)) in
-    let here = shorter_best LENGTHS (step ∷ before) c.args.place (c.args.place - 1) c.args.sign (number_at c.args.ends.now (c.args.place - 1) c.args.sign) end.bit
+    let here = shorter_best LENGTHS (step ∷ before) c.args.place (c.args.place - 1) c.args.sign
+    (number_at c.args.ends.now (c.args.place - 1) c.args.sign) end.bit
     (omega (arith, c.if-place-eq0.false)) (omega arith) end.is in
-    let same : number_at c.args.ends.now (c.args.place - 1) c.args.sign -ℤ pos ((length_in LENGTHS c.args.place - length_in LENGTHS (c.args.place - 1)) * step.level) ≡ c.less-number.result =
-    ap (λ l. number_at c.args.ends.now (c.args.place - 1) c.args.sign -ℤ pos ((length_in LENGTHS c.args.place - length_in LENGTHS (c.args.place - 1)) * l)) level ∙ sym t.number_is in
-    or_way LENGTHS (step ∷ before) c.args.place c.args.sign c.args.self c.less-number.result Shorter c.or.result t.stays t.comes best
+    let same : number_at c.args.ends.now (c.args.place - 1) c.args.sign -ℤ pos
+    ((length_in LENGTHS c.args.place - length_in LENGTHS (c.args.place - 1)) * step.level) ≡ c.less-number.result =
+    ap (λ l. number_at c.args.ends.now (c.args.place - 1) c.args.sign -ℤ pos
+    ((length_in LENGTHS c.args.place - length_in LENGTHS (c.args.place - 1)) * l)) level ∙ sym t.number_is in
+    or_way LENGTHS (step ∷ before) c.args.place c.args.sign c.args.self c.less-number.result Shorter c.or.result t.stays
+    t.comes best
     (subst (IsBestOfWay LENGTHS (step ∷ before) c.args.place c.args.sign Shorter) same here)
 
 pub returns-clause-size : goal.returns-clause-size
 returns-clause-size c = λ most ends so_far.
     let t = tried c in
-    let new = less_within most (number_at c.args.ends.now (c.args.place - 1) c.args.sign) ((length_in LENGTHS c.args.place - length_in LENGTHS (c.args.place - 1))) c.args.level (ends (c.args.place - 1) c.args.sign (omega (arith, c.requires.place))) t.few c.requires.level in
+    let new = less_within most (number_at c.args.ends.now (c.args.place - 1) c.args.sign)
+    ((length_in LENGTHS c.args.place - length_in LENGTHS (c.args.place - 1))) c.args.level
+    (ends (c.args.place - 1) c.args.sign (omega (arith, c.requires.place))) t.few c.requires.level in
     or_within (most + 3 * 2 ^ 22) c.args.self c.less-number.result Shorter c.or.result t.stays t.comes so_far
     (subst (IsWithin (most + 3 * 2 ^ 22)) (sym t.number_is) new)

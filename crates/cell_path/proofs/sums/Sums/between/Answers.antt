@@ -31,4 +31,5 @@ returns-clause-size c =
     let are : AreSums c.args.self.now = subst AreSums c.self.view_is c.self.invariant in
     let same = ap₂ ◌-ℤ◌ c.ago.ensures.value c.ago-2.ensures.value in
     rw (to_z-of_z a, to_z-of_z b, to_z-of_z d)
-    (subst (IsWithin ((c.args.ago - c.args.later) * 2 ^ 16)) (sym same) (are.spread c.args.later c.args.ago c.requires.order c.requires.within))
+    (subst (IsWithin ((c.args.ago - c.args.later) * 2 ^ 16)) (sym same)
+    (are.spread c.args.later c.args.ago c.requires.order c.requires.within))

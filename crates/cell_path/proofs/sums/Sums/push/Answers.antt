@@ -14,7 +14,8 @@ sound_is : (c : goal.After-way_told-1) → c.from.result ≡ c.args.sound
 sound_is c = let s : FitsSigned w32 c.args.sound = search rules in rw (to_z-of_z s) at c.from.ensures
 
 new_fits : (c : goal.After-way_told-1) → FitsSigned w64 (sum_ago (kept c) 0 +ℤ c.args.sound)
-new_fits c = sum_fits c.self.inside.count (sum_ago (kept c) 0) c.args.sound c.self.invariant.count (c.self.invariant.size 0 (omega arith)) c.requires.sound
+new_fits c = sum_fits c.self.inside.count (sum_ago (kept c) 0) c.args.sound c.self.invariant.count
+    (c.self.invariant.size 0 (omega arith)) c.requires.sound
 
 few : (c : goal.After-way_told-1) → c.self.inside.count + 1 ≤ 2 ^ 40
 few c = let e = ap (λ (s : SumsState). s.count) c.self.view_is in omega (arith, e, c.requires.room)
@@ -34,4 +35,5 @@ returns-clause-latest c =
     let b : FitsSigned w64 c.from.result = search rules in
     let n = new_fits c in
     rw (to_z-of_z a, to_z-of_z b, latest c, sound_is c, to_z-of_z n)
-    (sum_latest (kept c) (sum_ago (kept c) 0 +ℤ c.args.sound) c.self.invariant ∙ ap (λ s. sum_ago s 0 +ℤ c.args.sound) c.self.view_is)
+    (sum_latest (kept c) (sum_ago (kept c) 0 +ℤ c.args.sound) c.self.invariant
+    ∙ ap (λ s. sum_ago s 0 +ℤ c.args.sound) c.self.view_is)

@@ -13,7 +13,9 @@ returns-clause-lock c =
     let day = rw c.new.ensures.start at c.new.ensures.day in
     record {
       stays = λ first last i leaves line steady at_first locked least most at_line.
-          c.a_locked_chase_stays_locked.ensures (starts_at label) rows first last i leaves line day are steady at_first locked least most at_line;
+          c.a_locked_chase_stays_locked.ensures (starts_at label) rows first last i leaves line day are steady at_first
+          locked least most at_line;
       pulls = λ row master first last n i line steady at near least most at_line.
-          c.pulling_ends.ensures.locks (starts_at label) rows row master first last n i line day are steady at.is at.reads at.pulls near least most at_line;
+          c.pulling_ends.ensures.locks (starts_at label) rows row master first last n i line day are steady at.is
+          at.reads at.pulls near least most at_line;
     }

@@ -8,4 +8,5 @@ pub returns-clause-line : goal.returns-clause-line
 returns-clause-line c =
     let s = c.self.inside in
     let none = drop_all s.at s.rows.items (omega (arith, c.if-self-len.false, c.len.ensures)) in
-    rw (← c.self.view_is) (end_of s.place _ s.at s.losses c.step_end_text.result.items s.is_ended c.if-self.false none c.step_end_text.ensures)
+    rw (← c.self.view_is) (end_of s.place _ s.at s.losses c.step_end_text.result.items s.is_ended c.if-self.false none
+    c.step_end_text.ensures)

@@ -11,7 +11,8 @@ pub worked-position-requires : goal.worked-position-requires
 unfolding AreRowsFor
 worked-position-requires c =
     let s = c.self.inside in
-    let next = next_row s.rows.items s.at c.index.result.now (rw (← c.self.view_is) at c.requires.some) c.index.ensures in
+    let next = next_row s.rows.items s.at c.index.result.now (rw (← c.self.view_is) at c.requires.some) c.index.ensures
+    in
     let fit : AreRowsFor s.count (c.index.result.now ∷ drop (s.at + 1) s.rows.items) = rw next at c.self.invariant.3 in
     rw c.self.invariant.2 fit.0
 
@@ -40,6 +41,9 @@ returns-clause-line c =
     let going = rw (← c.self.view_is) at c.requires.going in
     let next = next_row s.rows.items s.at c.index.result.now some c.index.ensures in
     let stepped = c.worked-position.ensures in
-    rw (← c.self.view_is) (line_of s.place c.worked-position.new.place c.index.result.now _ _ s.at s.losses c.lost.result c.worked-position.result.1
-    c.worked-position.result.0 s.count c.step_text.result.items s.is_ended going next c.self.invariant.2 stepped.report stepped.position
+    rw (← c.self.view_is)
+    (line_of s.place c.worked-position.new.place c.index.result.now _ _ s.at s.losses c.lost.result
+    c.worked-position.result.1
+    c.worked-position.result.0 s.count c.step_text.result.items s.is_ended going next c.self.invariant.2 stepped.report
+    stepped.position
     stepped.after c.lost.ensures c.step_text.ensures)

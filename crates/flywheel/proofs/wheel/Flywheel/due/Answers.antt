@@ -9,7 +9,9 @@ use Rattle.flywheel.proofs.wheel.Flywheel.due.Goals as goal
 pub returns-clause-stands : goal.returns-clause-stands
 returns-clause-stands c = λ words earlier given stands h late.
     let has = subst (λ wheel. StandsFor wheel words earlier given) (sym c.self.view_is) stands in
-    let behind = subst (λ (wheel : Wheel). IfSome wheel.reference (λ word. word.tick ≤ c.args.tick)) (sym c.self.view_is) c.requires.not_before in
+    let behind = subst (λ (wheel : Wheel). IfSome wheel.reference (λ word. word.tick ≤ c.args.tick))
+    (sym c.self.view_is) c.requires.not_before in
     let over = sym (first_due _ _ _ c.args.tick c.self.invariant.due behind c.requires.below) ∙ late in
     subst (λ wheel. HasGivenAll wheel words c.args.tick given) c.self.view_is
-    (waits c.self.inside.limit c.self.inside.reference c.self.inside.invented words earlier c.args.tick given has h over)
+    (waits c.self.inside.limit c.self.inside.reference c.self.inside.invented words earlier c.args.tick given has h
+    over)

@@ -17,7 +17,8 @@ returns-then-step-from-clause-stands c = λ words earlier given stands h.
     let due = subst (λ wheel. has_frame_due wheel c.args.tick ≡ true) (sym c.self.view_is) due_now in
     let within : c.self.inside.invented + 1 ≤ c.self.inside.limit = omega arith in
     let is_new = c.self-then-step-from.view_is ∙ c.since.ensures in
-    after_invented (wheel_of c.self.inside.limit c.self.inside.reference c.self.inside.invented) _ c.in_ok-word.word words earlier c.args.tick given _
+    after_invented (wheel_of c.self.inside.limit c.self.inside.reference c.self.inside.invented) _ c.in_ok-word.word
+    words earlier c.args.tick given _
     has h c.in_ok-word.was due within is_new
     (frame_is c.in_ok-word.word (c.self.inside.invented + 1) _ _ c.label_after.ensures c.tick_after.ensures.value)
 
@@ -29,5 +30,6 @@ returns-else-step-from-clause-stands c = λ words earlier given stands h.
     let due = subst (λ wheel. has_frame_due wheel c.args.tick ≡ true) (sym c.self.view_is) due_now in
     let over : c.self.inside.limit < c.self.inside.invented + 1 = omega arith in
     let is_new = c.self-else-step-from.view_is ∙ c.new.ensures.value in
-    after_gone (wheel_of c.self.inside.limit c.self.inside.reference c.self.inside.invented) _ c.in_ok-word.word words earlier c.args.tick given _
+    after_gone (wheel_of c.self.inside.limit c.self.inside.reference c.self.inside.invented) _ c.in_ok-word.word words
+    earlier c.args.tick given _
     has c.in_ok-word.was due over is_new c.tick_after-else-step-from.ensures.value

@@ -43,7 +43,8 @@ loop-frame-init g c =
           are = refl {a = earlier_words ++ words};
           earlier = earlier;
           before = before;
-          wheel = subst (λ (fs : List Frame). flies.StandsFor f.wheel earlier_words earlier fs) (sym (append-nil given)) stands;
+          wheel = subst (λ (fs : List Frame). flies.StandsFor f.wheel earlier_words earlier fs) (sym (append-nil given))
+              stands;
         }),
       );
     }

@@ -19,7 +19,8 @@ returns-in-None-clause-fits g c = λ count fits.
     let own = c.requires.fits.2.counts in
     let here = fits.counts in
     let room = c.requires.fits.1 in
-    rw (c.hear.ensures.frames, c.hear.ensures.sink) (quiet_fits h now s.frames (g.T.FrameSink.taken s.sink) count c.args.x
+    rw (c.hear.ensures.frames, c.hear.ensures.sink)
+    (quiet_fits h now s.frames (g.T.FrameSink.taken s.sink) count c.args.x
     fits (omega (arith, own, here, room)) c.hear.ensures.next c.hear.ensures.later
     (c.in-None.ensures.below refl))
 
@@ -46,7 +47,8 @@ give-requires-clause-ready g c =
     let now = g.R.Hearing.hearer c.hear.new.self.reader in
     let count = c.requires.fits.0 in (
       2 * (count + 1),
-      rw (c.hear.ensures.frames, c.until-until.ensures.value) (ready_for (g.R.Hearing.hearer s.reader) now s.frames c.words.new.words
+      rw (c.hear.ensures.frames, c.until-until.ensures.value)
+          (ready_for (g.R.Hearing.hearer s.reader) now s.frames c.words.new.words
           (g.T.FrameSink.taken s.sink) count c.args.x c.requires.fits.2 c.requires.fits.1 c.hear.ensures.next
           (rw (← c.until-until.ensures.value) c.until-until.ensures.below)),
     )
@@ -56,7 +58,8 @@ give-requires-clause-turns g c =
     let s = c.args.self.now in
     let h = g.R.Hearing.hearer s.reader in
     let now = g.R.Hearing.hearer c.hear.new.self.reader in
-    rw (c.hear.ensures.frames, c.until-until.ensures.value) (turns_of h s.frames (g.T.FrameSink.taken s.sink) c.requires.fits.0 now.until
+    rw (c.hear.ensures.frames, c.until-until.ensures.value)
+    (turns_of h s.frames (g.T.FrameSink.taken s.sink) c.requires.fits.0 now.until
     c.words.new.words c.requires.fits.2 (c.words.ensures.in_turn h.until c.in-Some.ensures.may))
 
 -- the frames that were due, and those of the words, were sent

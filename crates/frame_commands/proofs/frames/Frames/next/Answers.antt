@@ -211,7 +211,8 @@ returns c =
       counted = one_counted f mid last frame refl refl refl e.counted;
       fewer = rw (e.words, e.wheel) (omega (arith, size, left));
       gives = λ words given has.
-          let due = c.in_default.ensures.stands has.heard has.earlier given has.wheel (rw c.due_at.ensures has.before) in
+          let due = c.in_default.ensures.stands has.heard has.earlier given has.wheel (rw c.due_at.ensures has.before)
+          in
           let given_all = h.stands has.heard c.due_at.result given due.0 (omega (arith, same)) in
           let after : HasGiven last until words (given ++ frame ∷ []) = record {
             heard = has.heard ++ word ∷ [];

@@ -17,9 +17,11 @@ returns-clause-begins g c =
     let first : c.deref.result.now ≡ intervals_of_lead jam.cell = cc in
     let law = c.a_clean_recording_is_written_frame_by_frame.ensures in
     let begins = file_begins law jam c.args.header.now c.put_bytes.new.room.items c.deref.result.now head first in
-    let is : c.deref-2.result.now ≡ clean_file jam c.args.header.now [] = c.deref-2.ensures.0 ∙ c.push_intervals.ensures ∙ begins in (
+    let is : c.deref-2.result.now ≡ clean_file jam c.args.header.now [] = c.deref-2.ensures.0 ∙ c.push_intervals.ensures
+    ∙ begins in (
       refl,
-      subst (λ (l : List ℕ). Appends (g.K.Sink.written c.args.out.now) (g.K.Sink.written c.push_piece.new.out) l) is c.in_ok-push_piece.ensures.all,
+      subst (λ (l : List ℕ). Appends (g.K.Sink.written c.args.out.now) (g.K.Sink.written c.push_piece.new.out) l) is
+          c.in_ok-push_piece.ensures.all,
     )
 
 -- a front of it was
@@ -30,8 +32,10 @@ returns-in_err-push_piece-clause-front g c =
     let first : c.deref.result.now ≡ intervals_of_lead jam.cell = cc in
     let law = c.a_clean_recording_is_written_frame_by_frame.ensures in
     let begins = file_begins law jam c.args.header.now c.put_bytes.new.room.items c.deref.result.now head first in
-    let is : c.deref-2.result.now ≡ clean_file jam c.args.header.now [] = c.deref-2.ensures.0 ∙ c.push_intervals.ensures ∙ begins in
+    let is : c.deref-2.result.now ≡ clean_file jam c.args.header.now [] = c.deref-2.ensures.0 ∙ c.push_intervals.ensures
+    ∙ begins in
     through c.from_residual.result c.from_residual.ensures.1 (λ stop same. (
       rw same c.in_err-push_piece.ensures.why,
-      subst (λ (l : List ℕ). AppendsFront (g.K.Sink.written c.args.out.now) (g.K.Sink.written c.push_piece.new.out) l) is c.in_err-push_piece.ensures.front,
+      subst (λ (l : List ℕ). AppendsFront (g.K.Sink.written c.args.out.now) (g.K.Sink.written c.push_piece.new.out) l)
+          is c.in_err-push_piece.ensures.front,
     ))

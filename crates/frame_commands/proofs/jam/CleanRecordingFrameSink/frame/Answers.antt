@@ -15,13 +15,15 @@ returns-clause-sends g c = on_ok c.push_piece.result c.push_piece.ensures.all (�
     let piece = c.deref-2.result.now in
     let own = c.frame_cells.ensures ∙ ap (λ (n : ℕ). intervals_of_frame n frame) c.cell.ensures.value
     ∙ ap (λ (j : Jamming). intervals_of_frame j.cell frame) was in
-    let is = piece_is piece c.push_intervals.new.room.items c.new-room.result.items c.deref.result.now _ c.deref-2.ensures.0 c.push_intervals.ensures
+    let is = piece_is piece c.push_intervals.new.room.items c.new-room.result.items c.deref.result.now _
+    c.deref-2.ensures.0 c.push_intervals.ensures
     c.new-room.ensures (c.deref.ensures.0 ∙ own) in (
       was,
       (
         piece,
         file_grows law jam header frames (frame ∷ [])
-            ∙ ap (λ (l : List ℕ). clean_file jam header frames ++ l) (bytes_of_one jam.cell frame [] piece is ∙ append-nil piece),
+            ∙ ap (λ (l : List ℕ). clean_file jam header frames ++ l) (bytes_of_one jam.cell frame [] piece is
+            ∙ append-nil piece),
         pushed,
       ),
     ))
@@ -34,10 +36,12 @@ returns-clause-front g c = on_err c.push_piece.result c.push_piece.ensures.front
     let piece = c.deref-2.result.now in
     let own = c.frame_cells.ensures ∙ ap (λ (n : ℕ). intervals_of_frame n frame) c.cell.ensures.value
     ∙ ap (λ (j : Jamming). intervals_of_frame j.cell frame) was in
-    let is = piece_is piece c.push_intervals.new.room.items c.new-room.result.items c.deref.result.now _ c.deref-2.ensures.0 c.push_intervals.ensures
+    let is = piece_is piece c.push_intervals.new.room.items c.new-room.result.items c.deref.result.now _
+    c.deref-2.ensures.0 c.push_intervals.ensures
     c.new-room.ensures (c.deref.ensures.0 ∙ own) in
     let later = bytes_of_frames jam.cell rest in (
       piece ++ later,
-      file_grows law jam header frames (frame ∷ rest) ∙ ap (λ (l : List ℕ). clean_file jam header frames ++ l) (bytes_of_one jam.cell frame rest piece is),
+      file_grows law jam header frames (frame ∷ rest) ∙ ap (λ (l : List ℕ). clean_file jam header frames ++ l)
+          (bytes_of_one jam.cell frame rest piece is),
       front_of_more _ _ piece later front,
     ))

@@ -13,7 +13,8 @@ returns-clause-begins g c =
     let law = c.a_frame_adds_a_line.ensures in
     let laws : TraceLaws = record { none = law.none; line = law.line; lines = law.lines } in (
       none_followed laws MAX_FRAMES c.args.run _
-          (c.new.ensures ∙ ap (λ (label : Address). begun_at label c.seed.result c.bound.result) c.label-label.ensures.value
+          (c.new.ensures ∙ ap (λ (label : Address). begun_at label c.seed.result c.bound.result)
+          c.label-label.ensures.value
           ∙ ap₂ (begun_at c.args.run.label) c.seed.ensures c.bound.ensures.value)
           (c.count.ensures.value ∙ ap (λ (label : Address). label.count) c.label-label.ensures.value) refl refl refl,
       subst (λ (l : List ℕ). Appends (g.K.Sink.written c.args._out.now) (g.K.Sink.written c.args._out.now) l)

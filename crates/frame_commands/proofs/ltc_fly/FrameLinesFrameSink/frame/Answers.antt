@@ -16,5 +16,9 @@ returns-clause-sends g c =
 pub returns-clause-front : goal.returns-clause-front
 returns-clause-front g c =
     let line = c.frame_text.result.items in
-    on_err c.push_line.result c.push_line.ensures.front (λ front choice header frames rest was.
-    (line ++ frame_lines rest, lines_and_more frames c.args.frame.now rest line c.frame_text.ensures, front_of_more _ _ line (frame_lines rest) front))
+    on_err c.push_line.result c.push_line.ensures.front (λ front choice header frames rest was. (
+      line ++ frame_lines rest,
+      lines_and_more frames c.args.frame.now rest line c.frame_text.ensures,
+      front_of_more _ _
+          line (frame_lines rest) front,
+    ))

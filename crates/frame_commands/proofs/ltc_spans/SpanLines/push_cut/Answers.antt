@@ -11,14 +11,16 @@ returns-clause-all g c =
     let s = c.args.self.now in
     let cut = c.args.cut in
     on_ok c.push_gap.result c.push_gap.ensures.all (λ pushed.
-    Appends-trans _ _ _ (ended_lines s.tick_rate s.system cut.ended) (gap_lines cut.gap) c.in_ok-push_span.ensures.all pushed)
+    Appends-trans _ _ _ (ended_lines s.tick_rate s.system cut.ended) (gap_lines cut.gap) c.in_ok-push_span.ensures.all
+    pushed)
 
 -- a front of the first
 pub returns-in_err-push_span-clause-front : goal.returns-in_err-push_span-clause-front
 returns-in_err-push_span-clause-front g c =
     let s = c.args.self.now in
     let cut = c.args.cut in
-    at_err c.from_residual.result (front_of_more _ _ (ended_lines s.tick_rate s.system cut.ended) (gap_lines cut.gap) c.in_err-push_span.ensures.front)
+    at_err c.from_residual.result (front_of_more _ _ (ended_lines s.tick_rate s.system cut.ended) (gap_lines cut.gap)
+    c.in_err-push_span.ensures.front)
 
 -- the first, and a front of the second
 pub returns-clause-front : goal.returns-clause-front
@@ -28,4 +30,5 @@ returns-clause-front g c =
     let first = ended_lines s.tick_rate s.system cut.ended in
     let second = gap_lines cut.gap in
     on_err c.push_gap.result c.push_gap.ensures.front (λ front.
-    front_of_piece _ _ _ (first ++ second) first second second _ refl (sym (append-nil second)) c.in_ok-push_span.ensures.all front)
+    front_of_piece _ _ _ (first ++ second) first second second _ refl (sym (append-nil second))
+    c.in_ok-push_span.ensures.all front)

@@ -13,4 +13,5 @@ returns-in-Some-clause-front g c =
     let is : line ≡ ended_lines s.tick_rate s.system c.args.span =
     c.span_text.ensures ∙ ap (λ (x : Option Span). ended_lines s.tick_rate s.system x) (sym c.in-Some.is) in
     on_err c.push_span_line.result c.push_span_line.ensures.front (λ front.
-    subst (λ (l : List ℕ). AppendsFront (g.K.Sink.written c.args.out.now) (g.K.Sink.written c.push_span_line.new.out) l) is front)
+    subst (λ (l : List ℕ). AppendsFront (g.K.Sink.written c.args.out.now) (g.K.Sink.written c.push_span_line.new.out) l)
+    is front)

@@ -13,7 +13,12 @@ returns-clause-sends g c = on_ok c.push_cut.result c.push_cut.ensures.all (λ pu
     let frame = c.args.frame.now in
     let added = cut_added s.tape s.tick_rate s.system header frames frame cut was
     (c.frame-cut.ensures.lines frames header.tick_rate header.system was.stands) in (
-      record { stands = c.frame-cut.ensures.stands frames was.stands; rate_is = was.rate_is; system_is = was.system_is },
+      record {
+        stands = c.frame-cut.ensures.stands frames was.stands;
+        rate_is = was.rate_is;
+        system_is =
+            was.system_is;
+      },
       (cut_lines s.tick_rate s.system cut, added, pushed),
     ))
 

@@ -1,4 +1,5 @@
-use Rattle.std.proofs.Common.{◌≤◌, ◌+◌, ◌*◌, ◌∙◌, ◌++◌, [], List, ℕ, subst, sym, ap, append-nil, append_assoc, arith, refl}
+use Rattle.std.proofs.Common.{◌≤◌, ◌+◌, ◌*◌, ◌∙◌, ◌++◌, [], List, ℕ, subst, sym, ap, append-nil, append_assoc, arith}
+use Rattle.std.proofs.Common.{refl}
 use Rattle.std.proofs.KnownBytes.{Appends-trans}
 use Rattle.std.specs.Io.KnownBytes.{Appends}
 use Rattle.limits.specs.declared.recording.TheConstants.{MAX_INTERVALS}
@@ -71,7 +72,8 @@ returns-clause-all g c = on_ok c.push_one-3.result c.push_one-3.ensures.all (λ 
     let t = firm_lines header (firm_listed told.third) in
     subst (λ (l : List ℕ). Appends (g.K.Sink.written c.args.out.now) (g.K.Sink.written c.push_one-3.new.out) l)
     (sym (lines_of_three header told))
-    (Appends-trans _ _ _ (f ++ s) t (Appends-trans _ _ _ f s c.in_ok-push_one.ensures.all c.in_ok-push_one-2.ensures.all)
+    (Appends-trans _ _ _ (f ++ s) t
+    (Appends-trans _ _ _ f s c.in_ok-push_one.ensures.all c.in_ok-push_one-2.ensures.all)
     third))
 
 -- two, and a front of the third

@@ -16,7 +16,10 @@ pub returns-in-Ok-clause-prints : goal.returns-in-Ok-clause-prints
 returns-in-Ok-clause-prints g c =
     let h = c.in-Ok.ensures.prints in (
       h.0,
-      record { stands = λ intervals events stands. rw c.print.ensures.reader (c.step.ensures.stands intervals events h.0 stands h.1) },
+      record {
+        stands = λ intervals events stands. rw c.print.ensures.reader
+            (c.step.ensures.stands intervals events h.0 stands h.1);
+      },
       record { pushed = h.2.pushed; words = h.2.words; refused = h.2.refused; lost = h.2.lost },
     )
 
@@ -25,6 +28,9 @@ pub returns-in-Err-clause-front : goal.returns-in-Err-clause-front
 returns-in-Err-clause-front g c =
     let h = c.in-Err.ensures.front in (
       h.0,
-      record { stands = λ intervals events stands. rw c.print.ensures.reader (c.step.ensures.stands intervals events h.0 stands h.1) },
+      record {
+        stands = λ intervals events stands. rw c.print.ensures.reader
+            (c.step.ensures.stands intervals events h.0 stands h.1);
+      },
       h.2,
     )

@@ -1,7 +1,8 @@
 use Rattle.std.proofs.Common.{◌∙◌, ap}
 use Rattle.direction_reader.specs.Events.{event_list}
 use Rattle.interval_commands.specs.declared.ltc_read.Report.{Report}
-use Rattle.interval_commands.proofs.CountedEvents.{words-all_counted, refused-all_counted, lost-all_counted, brought_fits}
+use Rattle.interval_commands.proofs.CountedEvents.{words-all_counted, refused-all_counted, lost-all_counted}
+use Rattle.interval_commands.proofs.CountedEvents.{brought_fits}
 use Rattle.interval_commands.proofs.ltc_read.Report.print.Goals as goal
 
 -- the limits of the file keep the numbers of the events small
@@ -27,4 +28,5 @@ returns-in-Ok-clause-prints g c =
 
 -- a front of their lines was pushed
 pub returns-in-Err-clause-front : goal.returns-in-Err-clause-front
-returns-in-Err-clause-front g c = (c.events-events.result, c.events-events.ensures.told c.requires.may, c.in-Err.ensures.front)
+returns-in-Err-clause-front g c =
+    (c.events-events.result, c.events-events.ensures.told c.requires.may, c.in-Err.ensures.front)

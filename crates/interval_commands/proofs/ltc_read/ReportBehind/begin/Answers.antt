@@ -12,7 +12,8 @@ pub returns-clause-begins : goal.returns-clause-begins
 returns-clause-begins g c =
     let reader = c.new.result in
     let system : reader.system ≡ c.args.header.system = ap (λ (r : ReaderState). r.system) c.new.ensures.value in
-    let keeps : profile_of reader.tracker ≡ c.args.profile = ap (λ (r : ReaderState). profile_of r.tracker) c.new.ensures.value in
+    let keeps : profile_of reader.tracker ≡ c.args.profile = ap (λ (r : ReaderState). profile_of r.tracker)
+    c.new.ensures.value in
     let law = c.a_reader_gives_the_events_of_its_list.ensures reader [] [] c.new.ensures.stands in (
       [],
       Appends-nil _,

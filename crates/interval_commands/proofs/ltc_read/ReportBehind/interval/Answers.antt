@@ -11,7 +11,8 @@ returns-clause-works g c =
     on_ok c.feed.result c.feed.ensures.prints (λ h profile header intervals written stands. (
       lines r.header (event_list h.0),
       h.2.pushed,
-      more_printed r c.feed.new.self profile header intervals written c.args.x h.0 _ _ stands c.feed.ensures.header c.feed.ensures.takes h.1 h.2
+      more_printed r c.feed.new.self profile header intervals written c.args.x h.0 _ _ stands c.feed.ensures.header
+          c.feed.ensures.takes h.1 h.2
           c.a_reader_gives_the_events_of_its_list.ensures,
     ))
 

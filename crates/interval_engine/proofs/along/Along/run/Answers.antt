@@ -34,7 +34,8 @@ returns-in_err-interval-in-Interval g c =
     let p = g.B.Behind.printing s.choice in
     let mid = g.K.Sink.written c.run.out in
     let new = g.K.Sink.written c.interval.new.out in
-    let inside : at + m ≤ length bytes = (let test = c.run-test.true in let end = c.saturating_sub-end.ensures in omega arith) in
+    let inside : at + m ≤ length bytes =
+    (let test = c.run-test.true in let end = c.saturating_sub-end.ensures in omega arith) in
     let room : c.run.intervals < MAX_INTERVALS =
     (let test = c.run-test.true in let end = c.saturating_sub-end.ensures in let room = i.room in omega arith) in
     rw (passed_on c.from_residual.result _ c.from_residual.ensures.1, fault.0) record {
@@ -68,7 +69,8 @@ returns-in-Fault g c =
     let virtual : Progress = record s.decoder { taken = s.decoder.taken + at } in
     let p = g.B.Behind.printing s.choice in
     let now = g.K.Sink.written c.run.out in
-    let inside : at + m ≤ length bytes = (let test = c.run-test.true in let end = c.saturating_sub-end.ensures in omega arith) in
+    let inside : at + m ≤ length bytes =
+    (let test = c.run-test.true in let end = c.saturating_sub-end.ensures in omega arith) in
     let room : c.run.intervals < MAX_INTERVALS =
     (let test = c.run-test.true in let end = c.saturating_sub-end.ensures in let room = i.room in omega arith) in
     record {
@@ -107,7 +109,8 @@ run-preserved g c =
     let virtual : Progress = record s.decoder { taken = s.decoder.taken + at } in
     let next : Progress = record s.decoder { taken = s.decoder.taken + (at + width) } in
     let e = c.in_ok-interval-in-Interval.ensures in
-    let inside : at + m ≤ length bytes = (let test = c.run-test.true in let end = c.saturating_sub-end.ensures in omega arith) in
+    let inside : at + m ≤ length bytes =
+    (let test = c.run-test.true in let end = c.saturating_sub-end.ensures in omega arith) in
     let room : count < MAX_INTERVALS =
     (let test = c.run-test.true in let end = c.saturating_sub-end.ensures in let room = i.room in omega arith) in
     let narrow = within_window at width m bytes makes.4 in

@@ -15,8 +15,10 @@ invariant-run g l = record {
   whole : MayBeWhole l.version l.at;
   keeps : FitsBehind g.B.Behind.fits (Some l.behind) l.intervals;
   counts : FitsBytes (record l.fn.self.decoder { taken = l.fn.self.decoder.taken + l.at }) l.intervals;
-  works : Works (λ front written. Stands g.B.Behind.stands l.fn.self.decoder l.fn.self.behind l.fn.self.intervals l.fn.self.choice front written)
-      (λ front written. Stands g.B.Behind.stands (record l.fn.self.decoder { taken = l.fn.self.decoder.taken + l.at }) (Some l.behind) l.intervals
+  works : Works (λ front written. Stands g.B.Behind.stands l.fn.self.decoder l.fn.self.behind l.fn.self.intervals
+      l.fn.self.choice front written)
+      (λ front written. Stands g.B.Behind.stands (record l.fn.self.decoder { taken = l.fn.self.decoder.taken + l.at })
+      (Some l.behind) l.intervals
       l.fn.self.choice front written)
       (g.K.Sink.written l.fn.out) (g.K.Sink.written l.out) (take l.at l.bytes);
   same : g.K.Sink.faults l.out ≡ g.K.Sink.faults l.fn.out;

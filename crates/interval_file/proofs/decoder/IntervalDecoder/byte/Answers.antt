@@ -13,9 +13,11 @@ returns-in-Some-clause-text c = λ bytes before now taken stands are says with_i
 -- a byte of the first eight
 pub returns-in-None-clause-text : goal.returns-in-None-clause-text
 returns-in-None-clause-text c = λ bytes before now taken stands are says with_it.
-    exactly_brings bytes c.args.byte before now c.args.self.now _ taken c.head_byte.ensures.answers stands are (omega arith) says with_it
+    exactly_brings bytes c.args.byte before now c.args.self.now _ taken c.head_byte.ensures.answers stands are
+    (omega arith) says with_it
 
 -- a byte of a number
 pub returns-in-None-2-clause-text : goal.returns-in-None-2-clause-text
 returns-in-None-2-clause-text c = λ bytes before now taken stands are says with_it.
-    exactly_brings bytes c.args.byte before now c.args.self.now _ taken c.number_byte.ensures.answers stands are (omega arith) says with_it
+    exactly_brings bytes c.args.byte before now c.args.self.now _ taken c.number_byte.ensures.answers stands are
+    (omega arith) says with_it

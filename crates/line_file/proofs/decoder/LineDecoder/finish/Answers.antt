@@ -3,7 +3,8 @@ use Rattle.std.proofs.lemmas.Bool.{eqb-true, eqb-false, both_ways}
 use Rattle.line_file.specs.StandsFor.{Decoding, StandsFor}
 use Rattle.line_file.proofs.DecoderTakes.{end_there, no_end_there}
 use Rattle.line_file.proofs.decoder.LineDecoder.finish.Goals as goal
-use Rattle.line_file.proofs.decoder.LineDecoder.finish.Goals.{else-is_some-via-then-is_some+else-is_empty, else-is_some-via-else-is_some}
+use Rattle.line_file.proofs.decoder.LineDecoder.finish.Goals.{else-is_some-via-then-is_some+else-is_empty}
+use Rattle.line_file.proofs.decoder.LineDecoder.finish.Goals.{else-is_some-via-else-is_some}
 
 -- a header, and no part of a field
 pub returns-then-is_empty-clause-ok : goal.returns-then-is_empty-clause-ok
@@ -20,6 +21,7 @@ returns-else-is_some-clause-err c = λ bytes answers s.
     let is = subst (λ (x : Decoding). StandsFor x bytes answers) (sym c.self.view_is) s in
     rw c.len.ensures.value (no_end_there d.header d.place d.fields d.part.items bytes answers is
     (elim c.else-is_some.branch [
-      | else-is_some-via-then-is_some+else-is_empty w ↦ λ some none. eqb-false (length d.part.items) 0 (sym w.is_empty.ensures ∙ w.if-is_empty.false) none
+      | else-is_some-via-then-is_some+else-is_empty w ↦ λ some none. eqb-false (length d.part.items) 0
+          (sym w.is_empty.ensures ∙ w.if-is_empty.false) none
       | else-is_some-via-else-is_some w ↦ λ some none. both_ways _ (sym c.is_some.ensures ∙ w.if-is_some.false) some
     ]))

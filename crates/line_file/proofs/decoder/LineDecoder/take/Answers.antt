@@ -1,7 +1,8 @@
 use Rattle.std.proofs.Common.{◌≡◌, ◌+◌, ◌∙◌, length, take, refl, sym, ap, subst, arith, inr}
 use Rattle.std.proofs.lemmas.List.{length-append, length-take-le}
 use Rattle.line_file.specs.StandsFor.{Decoding, StandsFor}
-use Rattle.line_file.proofs.DecoderTakes.{at_header, header_there, at_field, at_short, at_fault, waits_less, waits_none, header_added, field_added}
+use Rattle.line_file.proofs.DecoderTakes.{at_header, header_there, at_field, at_short, at_fault, waits_less, waits_none}
+use Rattle.line_file.proofs.DecoderTakes.{header_added, field_added}
 use Rattle.line_file.proofs.DecoderTakes.{fault_there, limit_there}
 use Rattle.line_file.proofs.decoder.LineDecoder.take.Goals as goal
 use Rattle.line_file.proofs.decoder.LineDecoder.take.Goals.{then-bytes-room, else-bytes-room}
@@ -10,7 +11,8 @@ use Rattle.line_file.proofs.decoder.LineDecoder.take.Goals.{then-bytes-room, els
 pub overflow_sub-result : goal.overflow_sub-result
 overflow_sub-result c =
     let d = c.self.inside in
-    let s = at_header d.header d.place d.fields d.part.items _ c.in-Header.header c.self.invariant.waits c.in-Header.ensures.piece in
+    let s = at_header d.header d.place d.fields d.part.items _ c.in-Header.header c.self.invariant.waits
+    c.in-Header.ensures.piece in
     let kept = s.kept in
     let before = c.len-before.ensures.value in
     omega (arith, kept, before)
@@ -18,7 +20,8 @@ overflow_sub-result c =
 pub invariant_of-self : goal.invariant_of-self
 invariant_of-self c =
     let d = c.self.inside in
-    let s = at_header d.header d.place d.fields d.part.items _ c.in-Header.header c.self.invariant.waits c.in-Header.ensures.piece in
+    let s = at_header d.header d.place d.fields d.part.items _ c.in-Header.header c.self.invariant.waits
+    c.in-Header.ensures.piece in
     let begin = s.begin in
     rw c.clear.ensures (record {
       header = header_there d.header d.place d.part.items _ c.in-Header.header s;
@@ -32,7 +35,8 @@ pub overflow_add-self-in-Field-2 : goal.overflow_add-self-in-Field-2
 overflow_add-self-in-Field-2 c =
     let d = c.self.inside in
     let is = c.in-Field.ensures.piece in
-    let s = at_field d.header d.place d.fields d.part.items _ c.in-Field.answer c.in-Field.width c.self.invariant.waits is in
+    let s = at_field d.header d.place d.fields d.part.items _ c.in-Field.answer c.in-Field.width c.self.invariant.waits
+    is in
     let most = s.most in
     let place = c.self.invariant.bytes in
     let few = c.self.invariant.within in
@@ -42,7 +46,8 @@ pub overflow_sub-result-in-Field : goal.overflow_sub-result-in-Field
 overflow_sub-result-in-Field c =
     let d = c.self.inside in
     let is = c.in-Field.ensures.piece in
-    let s = at_field d.header d.place d.fields d.part.items _ c.in-Field.answer c.in-Field.width c.self.invariant.waits is in
+    let s = at_field d.header d.place d.fields d.part.items _ c.in-Field.answer c.in-Field.width c.self.invariant.waits
+    is in
     let kept = s.kept in
     let before = c.len-before.ensures.value in
     omega (arith, kept, before)
@@ -51,7 +56,8 @@ pub invariant_of-self-in-Field : goal.invariant_of-self-in-Field
 invariant_of-self-in-Field c =
     let d = c.self.inside in
     let is = c.in-Field.ensures.piece in
-    let s = at_field d.header d.place d.fields d.part.items _ c.in-Field.answer c.in-Field.width c.self.invariant.waits is in
+    let s = at_field d.header d.place d.fields d.part.items _ c.in-Field.answer c.in-Field.width c.self.invariant.waits
+    is in
     let most = s.most in
     let room = s.room in
     let place = c.self.invariant.bytes in
@@ -82,14 +88,16 @@ returns-in-Header-clause-takes c =
     let d = c.self.inside in
     let is = c.in-Header.ensures.piece in
     let s = at_header d.header d.place d.fields d.part.items _ c.in-Header.header c.self.invariant.waits is in
-    rw (← c.self.view_is, c.clear.ensures, c.len-before.ensures.value) (header_added d.header d.place d.fields d.part.items c.args.bytes.now _
+    rw (← c.self.view_is, c.clear.ensures, c.len-before.ensures.value)
+    (header_added d.header d.place d.fields d.part.items c.args.bytes.now _
     c.in-Header.header s)
 
 pub returns-in-Field-clause-takes : goal.returns-in-Field-clause-takes
 returns-in-Field-clause-takes c =
     let d = c.self.inside in
     let is = c.in-Field.ensures.piece in
-    let s = at_field d.header d.place d.fields d.part.items _ c.in-Field.answer c.in-Field.width c.self.invariant.waits is in
+    let s = at_field d.header d.place d.fields d.part.items _ c.in-Field.answer c.in-Field.width c.self.invariant.waits
+    is in
     rw (← c.self.view_is, c.clear-in-Field.ensures, c.len-before.ensures.value)
     (field_added d.header d.place d.fields d.part.items c.args.bytes.now _ c.in-Field.answer c.in-Field.width s)
 
@@ -97,7 +105,8 @@ pub returns-in-Field-clause-bounds : goal.returns-in-Field-clause-bounds
 returns-in-Field-clause-bounds c =
     let d = c.self.inside in
     let is = c.in-Field.ensures.piece in
-    let s = at_field d.header d.place d.fields d.part.items _ c.in-Field.answer c.in-Field.width c.self.invariant.waits is in
+    let s = at_field d.header d.place d.fields d.part.items _ c.in-Field.answer c.in-Field.width c.self.invariant.waits
+    is in
     let most = s.most in
     let room = s.room in
     let place = c.self.invariant.bytes in
@@ -115,7 +124,8 @@ pub returns-in-Limit-clause-stops : goal.returns-in-Limit-clause-stops
 returns-in-Limit-clause-stops c = λ front answers stands.
     let d = c.self.inside in
     let s = subst (λ (x : Decoding). StandsFor x front answers) (sym c.self.view_is) stands in
-    limit_there d.header d.place d.fields d.part.items front c.args.bytes.now _ answers s c.in-Limit.ensures.piece c.requires
+    limit_there d.header d.place d.fields d.part.items front c.args.bytes.now _ answers s c.in-Limit.ensures.piece
+    c.requires
 
 -- a piece that is not whole is less than the room for one, so the room cut nothing off
 pub returns-in-Short-clause-all : goal.returns-in-Short-clause-all

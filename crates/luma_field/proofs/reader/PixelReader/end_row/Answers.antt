@@ -41,6 +41,7 @@ returns-clause-whole c = λ rows has.
       record {
         wide = All-nil (λ (row : List ℕ). length row ≡ c.self.inside.raster.width);
         number = refl;
-        found = subst (AreFoundIn c.self.inside.raster []) (sym c.new-self-inside.ensures) (no_rows c.self.inside.raster);
+        found = subst (AreFoundIn c.self.inside.raster []) (sym c.new-self-inside.ensures)
+            (no_rows c.self.inside.raster);
       },
     )

@@ -35,7 +35,8 @@ returns-in-Some-clause-looked c = λ looked.
     c.as_slice.ensures.value ∙ ap (λ (s : FieldReading). s.line) c.self.view_is in (
       Some c.in-Some.code,
       subst (λ (row : List ℕ). IsCode row c.in-Some.code) line c.in-Some.ensures.code,
-      c.keep.ensures ∙ ap (λ (s : FieldReading). take 20 (s.found ++ record { number = s.number; row = c.in-Some.code } ∷ []))
+      c.keep.ensures ∙ ap (λ (s : FieldReading). take 20 (s.found ++ record { number = s.number; row = c.in-Some.code }
+          ∷ []))
           c.self.view_is,
     )
 

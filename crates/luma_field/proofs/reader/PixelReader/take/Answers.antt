@@ -36,7 +36,8 @@ returns-clause-part c = where_none c.end_row.result c.end_row.ensures.part (λ g
     row_is_whole s c.end_row.new.self part bytes stands c.end_row.ensures.line (c.end_row.ensures.raster ∙ same)
     (omega (arith, width, least))
     (subst (λ (m : FieldReading). (rows : List (List ℕ)) → HasRows m rows
-    → HasRows c.end_row.new.self (rows ++ m.line ∷ []) × (c.end_row.new.self.number < m.raster.height)) c.begin.ensures goes))
+    → HasRows c.end_row.new.self (rows ++ m.line ∷ []) × (c.end_row.new.self.number < m.raster.height)) c.begin.ensures
+    goes))
 
 pub returns-clause-whole : goal.returns-clause-whole
 returns-clause-whole c = where_some c.end_row.result c.end_row.ensures.whole (λ lines ends part stands.
@@ -46,7 +47,8 @@ returns-clause-whole c = where_some c.end_row.result c.end_row.ensures.whole (λ
     let width = ap (λ (x : FieldReading). x.raster.width) c.self.view_is in
     let valid = c.width.ensures.valid in
     let least = valid.not_too_narrow in
-    field_is_whole s c.end_row.new.self part bytes lines.items stands c.end_row.ensures.line (c.end_row.ensures.raster ∙ same)
+    field_is_whole s c.end_row.new.self part bytes lines.items stands c.end_row.ensures.line
+    (c.end_row.ensures.raster ∙ same)
     (omega (arith, width, least))
     (subst (λ (m : FieldReading). (rows : List (List ℕ)) → HasRows m rows
     → EndsField m (rows ++ m.line ∷ []) lines.items × HasRows c.end_row.new.self []) c.begin.ensures ends))

@@ -9,5 +9,6 @@ loop-bit-init c = (omega arith, sym (all_of_none (is_clear c.args.self.now)))
 pub loop-bit-preserved : goal.loop-bit-preserved
 loop-bit-preserved c = (
   omega (arith, c.loop-bit-test.true),
-  ap₂ ◌&&◌ c.loop-bit.invariant.1 c.is_clear-clear.ensures ∙ sym (all_of_more c.loop-bit.bit (is_clear c.args.self.now)),
+  ap₂ ◌&&◌ c.loop-bit.invariant.1 c.is_clear-clear.ensures
+      ∙ sym (all_of_more c.loop-bit.bit (is_clear c.args.self.now)),
 )

@@ -27,7 +27,8 @@ returns-then-not-counts-clause-none c = λ code is.
     let same = one_place row place code.place lies is.lies in
     let fit = subst (λ (p : Place). counts p (cells_of row p) ≡ true) (sym same) is.it_counts in
     let isnt : c.counts.result ≡ false = search rules in
-    let is_read = subst (λ (cells : List ℕ). c.counts.result ≡ counts place cells) c.cells_of-cells.ensures.cells c.counts.ensures in
+    let is_read = subst (λ (cells : List ℕ). c.counts.result ≡ counts place cells) c.cells_of-cells.ensures.cells
+    c.counts.ensures in
     cc (fit, isnt, is_read)
 
 pub returns-clause-code : goal.returns-clause-code

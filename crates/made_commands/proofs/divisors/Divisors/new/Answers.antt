@@ -11,5 +11,6 @@ halves-preserved c =
     let long = i.long in
     record {
       long = length-set c.halves.factors half c.factor_of.result ∙ long;
-      stand = more_factors half c.halves.factors c.factor_of.result (omega (arith, long)) c.factor_of.ensures.value i.stand;
+      stand = more_factors half c.halves.factors c.factor_of.result (omega (arith, long)) c.factor_of.ensures.value
+          i.stand;
     }

@@ -1,4 +1,5 @@
-use Rattle.std.proofs.Common.{◌≡◌, ◌∙◌, ◌+◌, ◌-◌, ◌/◌, ◌%◌, ◌++◌, ◌∷◌, ℕ, List, Bool, ap, ap₂, sym, subst, arith, append_assoc, append-nil}
+use Rattle.std.proofs.Common.{◌≡◌, ◌∙◌, ◌+◌, ◌-◌, ◌/◌, ◌%◌, ◌++◌, ◌∷◌, ℕ, List, Bool, ap, ap₂, sym, subst, arith}
+use Rattle.std.proofs.Common.{append_assoc, append-nil}
 use Rattle.std.specs.Prelude.{◌==◌}
 use Rattle.biphase.specs.declared.cell.Cell.{Cell}
 use Rattle.biphase.specs.Chain.{flat, intervals_of}
@@ -18,8 +19,10 @@ cells-preserved c =
     low_bits-more c.cells._done 80 c.cells.rest c.cells-test.true in
     let cell = c.next_cell.result in
     let after = c.next_cell.new.self in
-    let one : intervals_of cell ++ flat (cells_by after later) ≡ flat (cells_by before (low_bits (80 - c.cells._done) c.cells.rest)) =
-    ap₂ (λ (k : Cell) (g : Chance). intervals_of k ++ flat (cells_by g later)) c.next_cell.ensures.cell c.next_cell.ensures.next
+    let one : intervals_of cell ++ flat (cells_by after later)
+    ≡ flat (cells_by before (low_bits (80 - c.cells._done) c.cells.rest)) =
+    ap₂ (λ (k : Cell) (g : Chance). intervals_of k ++ flat (cells_by g later)) c.next_cell.ensures.cell
+    c.next_cell.ensures.next
     ∙ ap (λ (list : List Bool). flat (cells_by before list)) (sym more) in
     let count = c.cell.ensures.count in
     let few = c.cells.invariant.count in
@@ -34,7 +37,8 @@ cells-preserved c =
           let fed = c.cells.invariant.reads intervals read in (
             fed.0 ++ intervals_of cell,
             c.cell.ensures.reads fed.0 fed.1,
-            append_assoc fed.0 (intervals_of cell) (flat (cells_by after later)) ∙ ap (λ (list : List ℕ). fed.0 ++ list) one ∙ fed.2,
+            append_assoc fed.0 (intervals_of cell) (flat (cells_by after later))
+                ∙ ap (λ (list : List ℕ). fed.0 ++ list) one ∙ fed.2,
           );
     }
 

@@ -13,5 +13,6 @@ invariant-cells l = record {
   fits : FitsTally l.self;
   count : l.self.reader.intervals ≤ l.fn.self.reader.intervals + 2 * l._done;
   reads : (intervals : List ℕ) → HasRead l.fn.self intervals → (fed : List ℕ) × HasRead l.self fed
-      × (fed ++ flat (cells_by l.chance (low_bits (80 - l._done) l.rest)) ≡ intervals ++ flat (cells_by l.fn.chance (low_bits 80 l.fn.bits)));
+      × (fed ++ flat (cells_by l.chance (low_bits (80 - l._done) l.rest)) ≡ intervals
+      ++ flat (cells_by l.fn.chance (low_bits 80 l.fn.bits)));
 }

@@ -18,12 +18,15 @@ returns-clause-rest c =
     let new = c.write_bits.new.room.items in
     let shape = c.args.self.now.shaper in
     let later = c.write_bits.new.shaper in
-    let fits = ap (λ (j : ℤ). step label (to_z w64 (of_z w64 j))) c.one_step.ensures ∙ ap (λ (j : ℤ). step label j) (one_step_fits direction) in
+    let fits = ap (λ (j : ℤ). step label (to_z w64 (of_z w64 j))) c.one_step.ensures
+    ∙ ap (λ (j : ℤ). step label j) (one_step_fits direction) in
     let next : c.advance-self.result ≡ step label (steps_in direction 1) = c.advance-self.ensures.label ∙ fits in
     let valid : IsLabel label = c.played_bits-bits.ensures.valid.label in
     let count : c.args.self.now.frames - 1 + 1 ≡ c.args.self.now.frames = omega arith in
-    let written : (tail : List Bool) → new ++ cell_bytes later tail ≡ old ++ cell_bytes shape (low_bits 80 (time_bits direction label) ++ tail) =
+    let written : (tail : List Bool) → new ++ cell_bytes later tail ≡ old
+    ++ cell_bytes shape (low_bits 80 (time_bits direction label) ++ tail) =
     λ tail. c.write_bits.ensures.cells tail
     ∙ ap (λ (n : ℕ). old ++ cell_bytes shape (low_bits 80 n ++ tail)) c.played_bits-bits.ensures.value in
-    rw next (frame_written c.steps_add_up.ensures.none c.steps_add_up.ensures.sum direction label (c.args.self.now.frames - 1) c.args.self.now.frames
+    rw next (frame_written c.steps_add_up.ensures.none c.steps_add_up.ensures.sum direction label
+    (c.args.self.now.frames - 1) c.args.self.now.frames
     old new shape later valid count written)

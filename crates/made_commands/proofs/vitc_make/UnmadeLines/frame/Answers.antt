@@ -21,6 +21,7 @@ returns-clause-rest c =
     let second : new ≡ c.push_field.new.room.items ++ field_bytes (field_lines s.length (field_word s.label true)) =
     rw (← c.field_word-2.ensures.value) c.push_field-2.ensures.items in
     ap (λ (a : Address). new ++ frame_bytes s.length a (s.frames - 1)) c.advance-self-inside.ensures.label
-    ∙ frame_written c.steps_add_up.ensures.none c.steps_add_up.ensures.sum s.length (s.frames - 1) s.frames s.label old c.push_field.new.room.items new valid
+    ∙ frame_written c.steps_add_up.ensures.none c.steps_add_up.ensures.sum s.length (s.frames - 1) s.frames s.label old
+    c.push_field.new.room.items new valid
     count first second
     ∙ ap (λ (l : Lining). old ++ frame_bytes l.length l.label l.frames) c.self.view_is

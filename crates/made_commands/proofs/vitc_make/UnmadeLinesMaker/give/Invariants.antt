@@ -6,7 +6,8 @@ use Rattle.made_commands.proofs.vitc_make.UnmadeLinesMaker.give.Given as goal
 abbrev pub invariant-frames : goal.invariant-frames
 invariant-frames l = record {
   behind : l.self.header ≡ None;
-  rest : l.room.items ++ frame_bytes l.self.length l.self.label l.self.frames ≡ frame_bytes l.fn.self.length l.fn.self.label l.fn.self.frames;
+  rest : l.room.items ++ frame_bytes l.self.length l.self.label l.self.frames ≡ frame_bytes l.fn.self.length
+      l.fn.self.label l.fn.self.frames;
   fewer : l.self.frames < l.fn.self.frames;
 }
 

@@ -18,5 +18,6 @@ bytes-preserved c =
       within = within;
       count = omega (arith, e.count took, i.count);
       passes = subst (λ bs. Passes c.args.self.now c.pass.new.self bs) (two_more at bytes within)
-          (passes_on c.args.self.now c.bytes.self c.pass.new.self _ _ i.passes (λ front stands. (e.stands took front stands, e.none took front stands)));
+          (passes_on c.args.self.now c.bytes.self c.pass.new.self _ _ i.passes
+          (λ front stands. (e.stands took front stands, e.none took front stands)));
     }

@@ -19,14 +19,16 @@ pub returns-then-is_some-clause-stands : goal.returns-then-is_some-clause-stands
 returns-then-is_some-clause-stands c = λ front stands.
     let p = c.passed-at.ensures in
     let e = c.next-count.ensures in
-    (behind_passed c.args.self.now c.bytes.self c.passed-at.new.self c.next-count.new.self c.bytes.at c.passed-at.result c.next-count.result.0
+    (behind_passed c.args.self.now c.bytes.self c.passed-at.new.self c.next-count.new.self c.bytes.at c.passed-at.result
+    c.next-count.result.0
     c.args.bytes.now c.next-count.result.1 c.bytes.invariant.passes p.stands p.none e.stands e.gives front stands).0
 
 pub returns-then-is_some-clause-gives : goal.returns-then-is_some-clause-gives
 returns-then-is_some-clause-gives c = λ front stands.
     let p = c.passed-at.ensures in
     let e = c.next-count.ensures in
-    (behind_passed c.args.self.now c.bytes.self c.passed-at.new.self c.next-count.new.self c.bytes.at c.passed-at.result c.next-count.result.0
+    (behind_passed c.args.self.now c.bytes.self c.passed-at.new.self c.next-count.new.self c.bytes.at c.passed-at.result
+    c.next-count.result.0
     c.args.bytes.now c.next-count.result.1 c.bytes.invariant.passes p.stands p.none e.stands e.gives front stands).1
 
 -- no event with them
@@ -37,7 +39,8 @@ bytes-preserved c =
     let i = c.bytes.invariant in
     let event = c.next-count.result.1 in
     let passed = within_rest c.bytes.at c.passed-at.result c.args.bytes.now i.within p.most in
-    let gives = behind_passed c.args.self.now c.bytes.self c.passed-at.new.self c.next-count.new.self c.bytes.at c.passed-at.result c.next-count.result.0
+    let gives = behind_passed c.args.self.now c.bytes.self c.passed-at.new.self c.next-count.new.self c.bytes.at
+    c.passed-at.result c.next-count.result.0
     c.args.bytes.now event i.passes p.stands p.none e.stands e.gives in
     record {
       within = within_rest (c.bytes.at + c.passed-at.result) c.next-count.result.0 c.args.bytes.now passed e.most;

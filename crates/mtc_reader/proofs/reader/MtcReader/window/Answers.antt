@@ -11,6 +11,9 @@ returns-clause-takes c = λ front stands.
     let is = c.in-Some.ensures in
     let row = c.pass_window.ensures in
     let took = c.if-not-pass_window.false in
-    let event = c.quarter.ensures ∙ ap (λ (l : List ℕ). quarter_event Forward (quarter_address l) (c.args.self.now.bytes + 15)) c.numbers.ensures in
-    rising_taken c.args.self.now _ front (take 16 c.args.bytes.now) (eight_in c.in-Some.eight) c.quarter.result is.pieces is.front refl c.pass.ensures
+    let event = c.quarter.ensures
+    ∙ ap (λ (l : List ℕ). quarter_event Forward (quarter_address l) (c.args.self.now.bytes + 15)) c.numbers.ensures
+    in
+    rising_taken c.args.self.now _ front (take 16 c.args.bytes.now) (eight_in c.in-Some.eight) c.quarter.result
+    is.pieces is.front refl c.pass.ensures
     (ap eight_in (row.latest took)) (row.none took) event stands

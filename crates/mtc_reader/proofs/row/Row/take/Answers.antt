@@ -14,4 +14,5 @@ pub returns-in-QuarterFrame-clause-gives : goal.returns-in-QuarterFrame-clause-g
 returns-in-QuarterFrame-clause-gives c = λ before keeps.
     let row = row_in before ++ c.in-QuarterFrame.quarter ∷ [] in
     rw c.in-QuarterFrame.is (c.event.ensures
-    ∙ ap (λ l. window_event l c.args.place) (c.next-self.ensures (padded (row_in before)) (omega arith) keeps) ∙ padded_event row c.args.place)
+    ∙ ap (λ l. window_event l c.args.place) (c.next-self.ensures (padded (row_in before)) (omega arith) keeps)
+    ∙ padded_event row c.args.place)

@@ -11,6 +11,8 @@ returns-clause-stands c = λ samples given stand_now.
     let stand = subst (λ s. FrontStandsFor s samples given) (sym c.self.view_is) stand_now in
     let a : FitsSigned w16 c.args.sample = search rules in
     let goes = rw (to_z-of_z a) at c.feed.ensures.stands in
-    goes_along i.judging c.feed.new.self i.ticks i.tiles.items samples (c.args.sample ∷ samples) given c.feed.ensures.gate
-    (ap (λ (s : FrontState). s.judging.phase) c.self.view_is ∙ c.requires.ready.phase) (ap is_drain c.feed.ensures.phase)
+    goes_along i.judging c.feed.new.self i.ticks i.tiles.items samples (c.args.sample ∷ samples) given
+    c.feed.ensures.gate
+    (ap (λ (s : FrontState). s.judging.phase) c.self.view_is ∙ c.requires.ready.phase)
+    (ap is_drain c.feed.ensures.phase)
     (λ judged stands. goes samples judged stands) stand

@@ -9,5 +9,6 @@ returns-clause-stands c = λ samples given stand_now.
     let i = c.self.inside in
     let stand = subst (λ s. FrontStandsFor s samples given) (sym c.self.view_is) stand_now in
     goes_along i.judging c.finish.new.self i.ticks i.tiles.items samples samples given c.finish.ensures.gate
-    (ap (λ (s : FrontState). s.judging.phase) c.self.view_is ∙ c.requires.ready.phase) (ap is_drain c.finish.ensures.phase)
+    (ap (λ (s : FrontState). s.judging.phase) c.self.view_is ∙ c.requires.ready.phase)
+    (ap is_drain c.finish.ensures.phase)
     (λ judged stands. c.finish.ensures.stands samples judged stands) stand

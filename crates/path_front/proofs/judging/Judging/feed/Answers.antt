@@ -1,4 +1,5 @@
-use Rattle.std.proofs.Common.{rules, ◌≡◌, ◌∷◌, ◌++◌, replicate, reverse, FitsSigned, to_z-of_z, ap, ap₂, subst, sym, ◌∙◌}
+use Rattle.std.proofs.Common.{rules, ◌≡◌, ◌∷◌, ◌++◌, replicate, reverse, FitsSigned, to_z-of_z, ap, ap₂, subst, sym}
+use Rattle.std.proofs.Common.{◌∙◌}
 use Rattle.std.specs.Int.{w16}
 use Rattle.path_front.specs.declared.judging.Phase.TheVariants.{Sound}
 use Rattle.path_front.specs.Cells.{sounds_in, CellsStandFor}
@@ -23,7 +24,8 @@ returns-clause-stands c = λ samples judged stand_now.
     ap₂ (λ g n. sounds_of g n (sample ∷ samples)) e.grid e.least ∙ more.1 in
     record {
       given = stand.given;
-      cells = subst (λ p. CellsIn p c.feed.new.self (sample ∷ samples) stand.given) (sym phase) (stands samples stand.given cells);
+      cells = subst (λ p. CellsIn p c.feed.new.self (sample ∷ samples) stand.given) (sym phase)
+          (stands samples stand.given cells);
       gate = stand.gate;
       least = stand.least ∙ sym e.least;
       order = stand.order ∙ ap reverse (sym (cells_stay (sounds_in i.cells samples)

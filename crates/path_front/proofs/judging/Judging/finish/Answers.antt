@@ -20,7 +20,8 @@ returns-clause-stands c = λ samples judged stand_now.
       gate = subst (λ p. ForMore p (λ more. GateStandsFor i.gate judged more)) phase stand.gate;
       least = stand.least ∙ sym e.same.least;
       order = stand.order
-          ∙ ap (λ s. reverse (measured_cells s stand.given)) (sym (same_sounds i.cells c.finish.new.self samples e.same));
+          ∙ ap (λ s. reverse (measured_cells s stand.given))
+          (sym (same_sounds i.cells c.finish.new.self samples e.same));
       few = stand.few;
       eight = λ is some. stand.eight (ap is_drain phase) some;
     }

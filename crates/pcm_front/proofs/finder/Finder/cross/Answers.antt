@@ -9,5 +9,6 @@ invariant_of-self c =
     let s = c.self.inside in
     let start : FinderState = state_of s.fineness s.threshold s.start s.tick s.before s.level s.side s.latest in
     let fits : FitsSigned w32 c.args.sum = search rules in
-    rw (to_z-of_z fits) (kept_crossed start (s.tick + c.from-2.result) (s.tick + c.from.result) c.args.sum c.args.side c.self.invariant
+    rw (to_z-of_z fits) (kept_crossed start (s.tick + c.from-2.result) (s.tick + c.from.result) c.args.sum c.args.side
+    c.self.invariant
     (omega (arith, c.from.ensures, c.from-2.ensures, c.tick_to-tick.ensures.most)) c.requires.sum)

@@ -15,6 +15,7 @@ samples-preserved g c =
     record {
       range = c.after-level.ensures.range;
       so_far = value ∙ ap₂ level_after c.samples.invariant.so_far (sum ∙ c.at.ensures)
-          ∙ sym (fold_range level_after c.args.self xs c.args.at c.samples.place (omega (arith, c.samples.auto.place, c.requires.order))
+          ∙ sym (fold_range level_after c.args.self xs c.args.at c.samples.place
+          (omega (arith, c.samples.auto.place, c.requires.order))
           (omega (arith, c.samples-test.true, c.requires.within)));
     }

@@ -14,4 +14,5 @@ returns-in-None c =
     let fits : FitsSigned w16 c.inside-inside.result = search rules in
     let fits_below : FitsSigned w16 (pos 0 -ℤ c.inside-inside.result) = search rules in
     rw (to_z-of_z fits, to_z-of_z fits_below)
-    (stays_none c.args.side c.args.threshold c.inside-inside.result c.in-None.is c.requires.least c.inside-inside.ensures.below)
+    (stays_none c.args.side c.args.threshold c.inside-inside.result c.in-None.is c.requires.least
+    c.inside-inside.ensures.below)

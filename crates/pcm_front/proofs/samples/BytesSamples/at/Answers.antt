@@ -14,7 +14,8 @@ slice_bounds-behind-start c = let two = place_in c.args.place c.args.self.now.by
 pub slice_bounds-read_i16-count : goal.slice_bounds-read_i16-count
 slice_bounds-read_i16-count c =
     let two = place_in c.args.place c.args.self.now.bytes.now c.requires in
-    rw (take_rest c.args.self.now.bytes.now c.args.place) (omega (arith, two, length-drop c.args.place c.args.self.now.bytes.now))
+    rw (take_rest c.args.self.now.bytes.now c.args.place)
+    (omega (arith, two, length-drop c.args.place c.args.self.now.bytes.now))
 
 pub slice_bounds-read_i16-start : goal.slice_bounds-read_i16-start
 slice_bounds-read_i16-start c = slice_bounds-read_i16-count c
@@ -22,7 +23,8 @@ slice_bounds-read_i16-start c = slice_bounds-read_i16-count c
 pub read_i16-requires : goal.read_i16-requires
 read_i16-requires c =
     let two = place_in c.args.place c.args.self.now.bytes.now c.requires in
-    rw (twice c.args.place c.args.self.now.bytes.now) (omega (arith, two, length-drop (2 * c.args.place) c.args.self.now.bytes.now))
+    rw (twice c.args.place c.args.self.now.bytes.now)
+    (omega (arith, two, length-drop (2 * c.args.place) c.args.self.now.bytes.now))
 
 pub returns : goal.returns
 returns c =

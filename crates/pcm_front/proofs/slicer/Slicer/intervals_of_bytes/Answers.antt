@@ -10,20 +10,26 @@ pub returns-clause-intervals : goal.returns-clause-intervals
 returns-clause-intervals c = λ front stands.
     let e = c.run-count.ensures in
     let taken = samples_of (take c.run-count.result.0 c.args.bytes.now) in
-    brought_by c.args.pace c.args.self.now c.run-count.new.self front taken c.run-count.result.1 c.intervals.result c.passed_at-before.result
-    c.passed_at.result e.settings c.passed_at-before.ensures c.passed_at.ensures stands (e.stands front stands) (e.distances front stands) c.intervals.ensures.intervals
+    brought_by c.args.pace c.args.self.now c.run-count.new.self front taken c.run-count.result.1 c.intervals.result
+    c.passed_at-before.result
+    c.passed_at.result e.settings c.passed_at-before.ensures c.passed_at.ensures stands (e.stands front stands)
+    (e.distances front stands) c.intervals.ensures.intervals
 
 pub intervals-requires-clause-passes : goal.intervals-requires-clause-passes
 intervals-requires-clause-passes c =
     let e = c.run-count.ensures in
-    passes_as c.args.pace (passed_of c.args.self.now) c.run-count.result.1 (passed_of c.run-count.new.self) c.passed_at-before.result c.passed_at.result
+    passes_as c.args.pace (passed_of c.args.self.now) c.run-count.result.1 (passed_of c.run-count.new.self)
+    c.passed_at-before.result c.passed_at.result
     c.passed_at-before.ensures c.passed_at.ensures e.range e.passes
 
 pub returns-clause-all : goal.returns-clause-all
-returns-clause-all c = λ none. c.run-count.ensures.all (none_both c.intervals.result.rest c.run-count.result.1 c.intervals.ensures.ended none)
+returns-clause-all c =
+    λ none. c.run-count.ensures.all
+    (none_both c.intervals.result.rest c.run-count.result.1 c.intervals.ensures.ended none)
 
 pub returns-clause-last : goal.returns-clause-last
 returns-clause-last c =
     let s = settings_of c.args.self.now in
     if_both c.intervals.result.rest c.run-count.result.1 ((front : List ℤ) → StandsFor c.args.self.now front
-    → distances_by s (front ++ samples_of (take (c.run-count.result.0 - 2) c.args.bytes.now)) ≡ distances_by s front) c.intervals.ensures.ended c.run-count.ensures.last
+    → distances_by s (front ++ samples_of (take (c.run-count.result.0 - 2) c.args.bytes.now)) ≡ distances_by s front)
+    c.intervals.ensures.ended c.run-count.ensures.last

@@ -8,4 +8,5 @@ returns-then-is_alone-clause-passes g c =
     (c.pass_alone.ensures.runs window (c.is_alone.ensures.alone c.if-is_alone.true))
 
 pub returns-then-is_alone-clause-runs : goal.returns-then-is_alone-clause-runs
-returns-then-is_alone-clause-runs g c = c.pass_alone.ensures.runs c.args.self.now.window (c.is_alone.ensures.alone c.if-is_alone.true)
+returns-then-is_alone-clause-runs g c = c.pass_alone.ensures.runs c.args.self.now.window
+    (c.is_alone.ensures.alone c.if-is_alone.true)

@@ -12,5 +12,6 @@ returns-clause-runs c =
     let pushed = rw (to_z-of_z fits) at c.push.ensures in
     let state = rw (to_z-of_z fits_too) at c.step.ensures.state in
     let distance = rw (to_z-of_z fits_too) at c.step.ensures.distance in
-    one_taken c.args.self.now.finder c.step.new.self c.args.self.now.window c.push.new.self c.args.sample c.sum_with-sum.result c.step.result
+    one_taken c.args.self.now.finder c.step.new.self c.args.self.now.window c.push.new.self c.args.sample
+    c.sum_with-sum.result c.step.result
     c.sum_with-sum.ensures.some value pushed state distance

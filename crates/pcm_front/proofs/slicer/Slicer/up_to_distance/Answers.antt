@@ -1,5 +1,6 @@
 use Rattle.std.specs.Int.{w16}
-use Rattle.std.proofs.Common.{FitsSigned, rules, ◌≡◌, ◌+◌, ◌-◌, ◌<◌, ℤ, List, ◌++◌, None, take, length, sym, ◌∙◌, arith, to_z-of_z}
+use Rattle.std.proofs.Common.{FitsSigned, rules, ◌≡◌, ◌+◌, ◌-◌, ◌<◌, ℤ, List, ◌++◌, None, take, length, sym, ◌∙◌, arith}
+use Rattle.std.proofs.Common.{to_z-of_z}
 use Rattle.pcm_front.specs.Distance.{distances_by}
 use Rattle.pcm_front.specs.StandsFor.{settings_of, StandsFor}
 use Rattle.pcm_front.proofs.Together.{none_yet, room_for_one}
@@ -17,7 +18,8 @@ pub pass-at-requires-clause-room : goal.pass-at-requires-clause-room
 pass-at-requires-clause-room g c =
     let i = c.samples.invariant in
     let f = c.args.self.now.finder in
-    room_left f.fineness c.samples.self.finder.fineness c.samples.self.finder.tick f.tick c.samples.at (g.S.Samples.list c.args.samples.now)
+    room_left f.fineness c.samples.self.finder.fineness c.samples.self.finder.tick f.tick c.samples.at
+    (g.S.Samples.list c.args.samples.now)
     i.runs.fineness i.within i.runs.tick c.requires
 
 -- up to where the sound may leave its side
@@ -25,10 +27,13 @@ pub take-distance-requires : goal.take-distance-requires
 take-distance-requires g c =
     let f = c.args.self.now.finder in
     let xs = g.S.Samples.list c.args.samples.now in
-    let runs = passed_to f c.samples.self.finder c.pass-at.new.self.finder c.args.self.now.window c.samples.self.window c.pass-at.new.self.window
+    let runs = passed_to f c.samples.self.finder c.pass-at.new.self.finder c.args.self.now.window c.samples.self.window
+    c.pass-at.new.self.window
     xs c.samples.at c.pass-at.result c.pass-at.ensures.order c.samples.invariant.runs c.pass-at.ensures.runs in
-    let inside : c.pass-at.result < length xs = omega (arith, c.pass-at.ensures.within, c.if-at-count.false, c.count-count.ensures) in
-    let room = room_for_one f.fineness c.pass-at.new.self.finder.tick f.tick c.pass-at.result xs inside runs.tick c.requires in
+    let inside : c.pass-at.result < length xs =
+    omega (arith, c.pass-at.ensures.within, c.if-at-count.false, c.count-count.ensures) in
+    let room = room_for_one f.fineness c.pass-at.new.self.finder.tick f.tick c.pass-at.result xs inside runs.tick
+    c.requires in
     omega (arith, room, runs.fineness)
 
 -- a distance that came
@@ -38,10 +43,13 @@ returns-then-is_some-clause-runs g c =
     let xs = g.S.Samples.list c.args.samples.now in
     let fits : FitsSigned w16 c.at.result = search rules in
     let one = rw (to_z-of_z fits) at c.take-distance.ensures.runs in
-    let runs = passed_to f c.samples.self.finder c.pass-at.new.self.finder c.args.self.now.window c.samples.self.window c.pass-at.new.self.window
+    let runs = passed_to f c.samples.self.finder c.pass-at.new.self.finder c.args.self.now.window c.samples.self.window
+    c.pass-at.new.self.window
     xs c.samples.at c.pass-at.result c.pass-at.ensures.order c.samples.invariant.runs c.pass-at.ensures.runs in
-    let inside : c.pass-at.result < length xs = omega (arith, c.pass-at.ensures.within, c.if-at-count.false, c.count-count.ensures) in
-    one_more_to f c.pass-at.new.self.finder c.take-distance.new.self.finder c.args.self.now.window c.pass-at.new.self.window
+    let inside : c.pass-at.result < length xs =
+    omega (arith, c.pass-at.ensures.within, c.if-at-count.false, c.count-count.ensures) in
+    one_more_to f c.pass-at.new.self.finder c.take-distance.new.self.finder c.args.self.now.window
+    c.pass-at.new.self.window
     c.take-distance.new.self.window xs c.pass-at.result c.at.result c.take-distance.result inside c.at.ensures runs one
 
 -- it came with the last of them
@@ -51,7 +59,8 @@ returns-then-is_some-clause-last g c =
     let w = c.args.self.now.window in
     let s = settings_of c.args.self.now in
     let xs = g.S.Samples.list c.args.samples.now in
-    let runs = passed_to f c.samples.self.finder c.pass-at.new.self.finder w c.samples.self.window c.pass-at.new.self.window
+    let runs = passed_to f c.samples.self.finder c.pass-at.new.self.finder w c.samples.self.window
+    c.pass-at.new.self.window
     xs c.samples.at c.pass-at.result c.pass-at.ensures.order c.samples.invariant.runs c.pass-at.ensures.runs in
     if_some c.take-distance.result ((front : List ℤ) → StandsFor c.args.self.now front
     → distances_by s (front ++ take ((c.pass-at.result + 1) - 1) xs) ≡ distances_by s front)
@@ -63,16 +72,20 @@ samples-preserved g c =
     let f = c.args.self.now.finder in
     let xs = g.S.Samples.list c.args.samples.now in
     let fits : FitsSigned w16 c.at.result = search rules in
-    let none : c.take-distance.result ≡ None = none_is c.take-distance.result (sym c.is_some.ensures ∙ c.if-is_some.false) in
+    let none : c.take-distance.result ≡ None =
+    none_is c.take-distance.result (sym c.is_some.ensures ∙ c.if-is_some.false) in
     let one = rw (to_z-of_z fits, none) at c.take-distance.ensures.runs in
     let passes = rw none at c.take-distance.ensures.passes in
-    let runs = passed_to f c.samples.self.finder c.pass-at.new.self.finder c.args.self.now.window c.samples.self.window c.pass-at.new.self.window
+    let runs = passed_to f c.samples.self.finder c.pass-at.new.self.finder c.args.self.now.window c.samples.self.window
+    c.pass-at.new.self.window
     xs c.samples.at c.pass-at.result c.pass-at.ensures.order c.samples.invariant.runs c.pass-at.ensures.runs in
-    let inside : c.pass-at.result < length xs = omega (arith, c.pass-at.ensures.within, c.if-at-count.false, c.count-count.ensures) in
+    let inside : c.pass-at.result < length xs =
+    omega (arith, c.pass-at.ensures.within, c.if-at-count.false, c.count-count.ensures) in
     record {
       within = omega (arith, inside);
       passed = omega (arith, c.samples.invariant.passed, c.pass-at.ensures.passes, passes);
-      runs = one_more_to f c.pass-at.new.self.finder c.take-distance.new.self.finder c.args.self.now.window c.pass-at.new.self.window
+      runs = one_more_to f c.pass-at.new.self.finder c.take-distance.new.self.finder c.args.self.now.window
+          c.pass-at.new.self.window
           c.take-distance.new.self.window xs c.pass-at.result c.at.result None inside c.at.ensures runs one;
     }
 
@@ -80,5 +93,7 @@ samples-preserved g c =
 pub returns-then-at-count-clause-runs : goal.returns-then-at-count-clause-runs
 returns-then-at-count-clause-runs g c =
     let f = c.args.self.now.finder in
-    passed_to f c.samples.self.finder c.pass-at.new.self.finder c.args.self.now.window c.samples.self.window c.pass-at.new.self.window
-    (g.S.Samples.list c.args.samples.now) c.samples.at c.pass-at.result c.pass-at.ensures.order c.samples.invariant.runs c.pass-at.ensures.runs
+    passed_to f c.samples.self.finder c.pass-at.new.self.finder c.args.self.now.window c.samples.self.window
+    c.pass-at.new.self.window
+    (g.S.Samples.list c.args.samples.now) c.samples.at c.pass-at.result c.pass-at.ensures.order c.samples.invariant.runs
+    c.pass-at.ensures.runs

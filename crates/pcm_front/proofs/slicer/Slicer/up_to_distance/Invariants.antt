@@ -8,7 +8,8 @@ abbrev pub invariant-samples : goal.invariant-samples
 invariant-samples g l = record {
   within : l.at ≤ length (g.S.Samples.list l.samples);
   passed : passed_of l.fn.self ≤ passed_of l.self;
-  runs : RunsTo l.fn.self.finder l.self.finder l.fn.self.window l.self.window (take l.at (g.S.Samples.list l.samples)) None;
+  runs : RunsTo l.fn.self.finder l.self.finder l.fn.self.window l.self.window (take l.at (g.S.Samples.list l.samples))
+      None;
 }
 
 abbrev pub decreases-samples : goal.decreases-samples

@@ -7,7 +7,8 @@ use Rattle.pcm_front.proofs.window.Turn.put.Goals as goal
 pub moved-sum-requires : goal.moved-sum-requires
 moved-sum-requires c =
     let fits : FitsSigned w32 c.args.self.sum = search rules in
-    rw (to_z-of_z fits) (kept-within c.args.self.smooth c.args.ring.now c.args.self.oldest c.args.self.sum c.requires.ring)
+    rw (to_z-of_z fits) (kept-within c.args.self.smooth c.args.ring.now c.args.self.oldest c.args.self.sum
+    c.requires.ring)
 
 pub returns-clause-ring : goal.returns-clause-ring
 returns-clause-ring c =
@@ -20,7 +21,8 @@ returns-clause-ring c =
     let bits : HasSixteenBits c.args.sample = search rules in
     let e : c.moved-sum.result ≡ (t.sum +ℤ c.args.sample) -ℤ get_or ring t.oldest (pos 0) =
     rw (to_z-of_z fits, to_z-of_z fits_too, to_z-of_z fits_left) at c.moved-sum.ensures in
-    rw (to_z-of_z fits_too, to_z-of_z fits_now) (pushed t.smooth ring t.oldest c.place_after-oldest.result t.sum c.moved-sum.result c.args.sample
+    rw (to_z-of_z fits_too, to_z-of_z fits_now)
+    (pushed t.smooth ring t.oldest c.place_after-oldest.result t.sum c.moved-sum.result c.args.sample
     c.requires.ring c.requires.more c.told-ring bits c.place_after-oldest.ensures e)
 
 pub returns-clause-window : goal.returns-clause-window
@@ -29,4 +31,5 @@ returns-clause-window c =
     let within = c.requires.ring.place c.requires.more in
     let fits_too : FitsSigned w16 c.args.sample = search rules in
     rw (to_z-of_z fits_too, c.place_after-oldest.ensures) (ap (λ kept. record { smooth = t.smooth; kept = kept })
-    (written t.smooth c.args.ring.now t.oldest c.args.sample (omega (arith, within)) (omega (arith, c.told-ring, c.requires.ring.window.most))))
+    (written t.smooth c.args.ring.now t.oldest c.args.sample (omega (arith, within))
+    (omega (arith, c.told-ring, c.requires.ring.window.most))))

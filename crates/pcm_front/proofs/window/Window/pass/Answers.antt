@@ -11,5 +11,7 @@ invariant_of-self g c = c.pass_ring.ensures.ring
 
 pub returns-clause-passes : goal.returns-clause-passes
 returns-clause-passes g c =
-    subst (λ (w : WindowState). PassesTo c.args.side c.args.threshold (g.S.Samples.list c.args.samples.now) c.args.from c.pass_ring.result.1 w
-    (window_of c.pass_ring.result.0.smooth c.pass_ring.new.ring c.pass_ring.result.0.oldest)) c.self.view_is c.pass_ring.ensures.passes
+    subst (λ (w : WindowState). PassesTo c.args.side c.args.threshold (g.S.Samples.list c.args.samples.now) c.args.from
+    c.pass_ring.result.1 w
+    (window_of c.pass_ring.result.0.smooth c.pass_ring.new.ring c.pass_ring.result.0.oldest)) c.self.view_is
+    c.pass_ring.ensures.passes

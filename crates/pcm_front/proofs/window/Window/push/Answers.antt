@@ -12,4 +12,5 @@ invariant_of-self c = c.put-self-inside.ensures.ring
 pub returns : goal.returns
 returns c =
     let fits : FitsSigned w16 c.args.sample = search rules in
-    (rw (to_z-of_z fits) at c.put-self-inside.ensures.window) ∙ ap (λ (w : WindowState). window_after w c.args.sample) c.self.view_is
+    (rw (to_z-of_z fits) at c.put-self-inside.ensures.window) ∙ ap (λ (w : WindowState). window_after w c.args.sample)
+    c.self.view_is

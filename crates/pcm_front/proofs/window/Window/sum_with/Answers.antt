@@ -9,7 +9,8 @@ use Rattle.pcm_front.proofs.window.Window.sum_with.Goals as goal
 pub summed-requires : goal.summed-requires
 summed-requires c =
     let fits : FitsSigned w32 c.self.inside.turn.sum = search rules in
-    rw (to_z-of_z fits) (kept-within c.self.inside.turn.smooth c.self.inside.ring c.self.inside.turn.oldest c.self.inside.turn.sum c.self.invariant)
+    rw (to_z-of_z fits) (kept-within c.self.inside.turn.smooth c.self.inside.ring c.self.inside.turn.oldest
+    c.self.inside.turn.sum c.self.invariant)
 
 -- the sum of what is kept, and the sample
 pub returns-clause-value : goal.returns-clause-value
@@ -19,5 +20,6 @@ returns-clause-value c =
     let fits_now : FitsSigned w32 c.summed.result = search rules in
     let e = rw (to_z-of_z fits, to_z-of_z fits_too) at c.summed.ensures.value in
     let kept = ring_of c.self.inside.turn.smooth c.self.inside.ring c.self.inside.turn.oldest in
-    rw (to_z-of_z fits_now) (e ∙ ap (λ t. t +ℤ c.args.sample) c.self.invariant.sum_is ∙ sym (total-push kept c.args.sample)
+    rw (to_z-of_z fits_now) (e ∙ ap (λ t. t +ℤ c.args.sample) c.self.invariant.sum_is
+    ∙ sym (total-push kept c.args.sample)
     ∙ ap (λ (w : WindowState). total (w.kept ++ c.args.sample ∷ [])) c.self.view_is)

@@ -11,6 +11,7 @@ returns-then-joined-clause-stands c = λ frames stands.
 
 pub returns-in-Invented-clause-stands : goal.returns-in-Invented-clause-stands
 returns-in-Invented-clause-stands c = λ frames stands.
-    let bytes : take c.go_on-in-Invented.result c.go_on-in-Invented.new.room ≡ written c.args.self.now c.args.frame.now = search rules in
+    let bytes : take c.go_on-in-Invented.result c.go_on-in-Invented.new.room ≡ written c.args.self.now c.args.frame.now
+    = search rules in
     let next : c.go_on-in-Invented.new.self ≡ next_half c.args.self.now c.args.frame.now = search rules in
     after_frame c.args.self.now _ frames c.args.frame.now _ stands bytes next

@@ -11,7 +11,8 @@ pub returns-clause-stops : goal.returns-clause-stops
 returns-clause-stops g c =
     let r = c.args.self.now in
     let line = c.mtc_end_text.result.items in
-    if_err c.push_line.result (err_both _ _ c.push_line.result c.push_line.ensures.why c.push_line.ensures.front) (λ stop h bytes written stands.
+    if_err c.push_line.result (err_both _ _ c.push_line.result c.push_line.ensures.why c.push_line.ensures.front)
+    (λ stop h bytes written stands.
     let f = h.1 in
     let last = last_line_is r bytes written line stands (rw c.bytes-bytes.ensures at c.mtc_end_text.ensures) in
     rw h.0 (

@@ -14,11 +14,16 @@ use Rattle.signal_commands.proofs.mtc_read.MtcReportEngine.take.Goals as goal
 pub returns-then-bytes-eq-MAX_BYTES-clause-stops : goal.returns-then-bytes-eq-MAX_BYTES-clause-stops
 returns-then-bytes-eq-MAX_BYTES-clause-stops g c = λ front written stands.
     let bytes = c.args.bytes.now in
-    let full : length front ≡ MAX_BYTES = sym stands.reader.count ∙ sym c.bytes.ensures ∙ c.if-bytes-eq-MAX_BYTES.true in (
+    let full : length front ≡ MAX_BYTES = sym stands.reader.count ∙ sym c.bytes.ensures
+    ∙ c.if-bytes-eq-MAX_BYTES.true in (
       [],
       Appends-nil _,
       inl (
-        record { is = is_past MAX_BYTES (front ++ bytes) (omega (arith, full, c.requires.some, length-append front bytes)); unspent = λ spent. spent },
+        record {
+          is = is_past MAX_BYTES (front ++ bytes)
+              (omega (arith, full, c.requires.some, length-append front bytes));
+          unspent = λ spent. spent;
+        },
         append-nil written ∙ stands.are ∙ sym (lines_at_limit MAX_BYTES front bytes full),
       ),
     )
@@ -45,7 +50,8 @@ returns-in_ok-print-clause-works g c = λ front written stands.
     let e = c.read-count.ensures in
     let p = c.in_ok-print.ensures in
     let gives = rw c.in-Some.is at (e.gives front stands.reader) in
-    let counts = one_counted r c.read-count.new.self next event (ap (λ (m : MtcReport). m.full) e.kept) (ap (λ (m : MtcReport). m.quarter) e.kept)
+    let counts = one_counted r c.read-count.new.self next event (ap (λ (m : MtcReport). m.full) e.kept)
+    (ap (λ (m : MtcReport). m.quarter) e.kept)
     (ap (λ (m : MtcReport). m.refused) e.kept) p.counted in (
       event_lines (event ∷ []),
       rw (append-nil (event_line event)) p.all,
@@ -65,5 +71,6 @@ returns-in_default-clause-works g c = λ front written stands.
     (ap (λ (m : MtcReport). m.refused) e.kept) in (
       [],
       Appends-nil _,
-      grown r next front written (take c.read-count.result.0 bytes) [] stands e.within (e.stands front stands.reader) gives counts,
+      grown r next front written (take c.read-count.result.0 bytes) [] stands e.within (e.stands front stands.reader)
+          gives counts,
     )

@@ -12,7 +12,8 @@ returns-clause-stands c = record {
     within = omega arith;
     count = refl;
     slicer = c.summing.ensures.stands;
-    are = c.holding.ensures ∙ (rw (c.system.ensures, c.tick_rate.ensures.value) at c.interval_header-header.ensures.bytes)
+    are = c.holding.ensures
+        ∙ (rw (c.system.ensures, c.tick_rate.ensures.value) at c.interval_header-header.ensures.bytes)
         ∙ sym (no_samples c.args.slicing.now);
   };
   are = refl;

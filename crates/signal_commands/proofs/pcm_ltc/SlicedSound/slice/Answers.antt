@@ -16,12 +16,14 @@ returns-then-self-eq-MAX_SAMPLES-clause-stops g c = λ whole written rest slices
 
 pub slice_all-requires-clause-some : goal.slice_all-requires-clause-some
 slice_all-requires-clause-some g c =
-    within_some c.args.self.now.samples c.args.bytes.now c.within-samples.result.now (omega (arith, c.requires.going.within, c.if-self-eq-MAX_SAMPLES.false))
+    within_some c.args.self.now.samples c.args.bytes.now c.within-samples.result.now
+    (omega (arith, c.requires.going.within, c.if-self-eq-MAX_SAMPLES.false))
     c.requires.some c.within-samples.ensures.front
 
 pub slice_all-requires-clause-within : goal.slice_all-requires-clause-within
 slice_all-requires-clause-within g c =
-    within_few c.args.self.now.samples c.args.bytes.now c.within-samples.result.now c.requires.going.within c.within-samples.ensures.front
+    within_few c.args.self.now.samples c.args.bytes.now c.within-samples.result.now c.requires.going.within
+    c.within-samples.ensures.front
 
 -- those within the limit stand first
 pub returns-clause-count : goal.returns-clause-count
@@ -35,10 +37,15 @@ pub returns-clause-works : goal.returns-clause-works
 returns-clause-works g c =
     let most = 2 * (MAX_SAMPLES - c.args.self.now.samples) in
     let inner = c.within-samples.result.now in
-    ok_to c.slice_all.result (ok_both _ _ c.slice_all.result c.slice_all.ensures.count c.slice_all.ensures.works) (λ count h whole written slices.
+    ok_to c.slice_all.result (ok_both _ _ c.slice_all.result c.slice_all.ensures.count c.slice_all.ensures.works)
+    (λ count h whole written slices.
     let works = h.1 whole written slices in
-    let front = same_front most count c.args.bytes.now inner c.within-samples.ensures.front h.0.1 in
-    (works.0, works.1, subst (λ (b : List ℕ). Slices c.slice_all.new.self (whole ++ b) (written ++ works.0)) front works.2))
+    let front = same_front most count c.args.bytes.now inner c.within-samples.ensures.front h.0.1 in (
+      works.0,
+      works.1,
+      subst (λ (b : List ℕ). Slices c.slice_all.new.self (whole ++ b) (written ++ works.0)) front
+          works.2,
+    ))
 
 pub returns-clause-stops : goal.returns-clause-stops
 returns-clause-stops g c =
@@ -48,7 +55,9 @@ returns-clause-stops g c =
     let most = 2 * (MAX_SAMPLES - s.samples) in
     err_to c.slice_all.result c.slice_all.ensures.stops (λ stop stops whole written rest slices.
     let all : inner ++ (drop most bytes ++ rest) ≡ bytes ++ rest =
-    ap (λ (b : List ℕ). b ++ (drop most bytes ++ rest)) c.within-samples.ensures.front ∙ sym (append_assoc (take most bytes) (drop most bytes) rest)
+    ap (λ (b : List ℕ). b ++ (drop most bytes ++ rest)) c.within-samples.ensures.front
+    ∙ sym (append_assoc (take most bytes) (drop most bytes) rest)
     ∙ ap (λ (b : List ℕ). b ++ rest) (take-append-drop most bytes) in
-    subst (λ (b : List ℕ). Stops (along_samples s.slicing) stop (g.K.Sink.written c.args.out.now) (g.K.Sink.written c.slice_all.new.out) (whole ++ b) written)
+    subst (λ (b : List ℕ). Stops (along_samples s.slicing) stop (g.K.Sink.written c.args.out.now)
+    (g.K.Sink.written c.slice_all.new.out) (whole ++ b) written)
     all (stops whole written (drop most bytes ++ rest) slices))

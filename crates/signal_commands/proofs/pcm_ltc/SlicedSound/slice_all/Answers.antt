@@ -13,7 +13,14 @@ use Rattle.signal_commands.proofs.pcm_ltc.SlicedSound.slice_all.Goals as goal
 pub slice_run-requires-clause-within : goal.slice_run-requires-clause-within
 slice_run-requires-clause-within g c =
     let i = c.runs.invariant in
-    omega (arith, i.within, i.samples, c.requires.within, length-take (length c.args.bytes.now - c.runs.at) (drop c.runs.at c.args.bytes.now))
+    omega (
+      arith,
+      i.within,
+      i.samples,
+      c.requires.within,
+      length-take (length c.args.bytes.now - c.runs.at)
+          (drop c.runs.at c.args.bytes.now),
+    )
 
 pub slice_run-requires-clause-pace : goal.slice_run-requires-clause-pace
 slice_run-requires-clause-pace g c = c.pace-pace.ensures.value ∙ ap pace_for (sym c.runs.invariant.slicing)
@@ -46,9 +53,11 @@ runs-preserved g c =
       samples = omega (arith, e.samples, i.samples);
       slicing = e.slicing ∙ i.slicing;
       half = e.half ∙ i.half;
-      works = subst (λ (bs : List ℕ). Works (Slices c.args.self.now) (Slices c.slice_run.new.self) (g.K.Sink.written c.args.out.now)
+      works = subst (λ (bs : List ℕ). Works (Slices c.args.self.now) (Slices c.slice_run.new.self)
+          (g.K.Sink.written c.args.out.now)
           (g.K.Sink.written c.slice_run.new.out) bs) cut
-          (works_on (Slices c.args.self.now) (Slices c.runs.self) (Slices c.slice_run.new.self) (g.K.Sink.written c.args.out.now)
+          (works_on (Slices c.args.self.now) (Slices c.runs.self) (Slices c.slice_run.new.self)
+          (g.K.Sink.written c.args.out.now)
           (g.K.Sink.written c.runs.out) (g.K.Sink.written c.slice_run.new.out) _ _ i.works e.works);
       same = e.cause ∙ i.same;
     }
@@ -66,7 +75,10 @@ returns-in_err-at-clause-stops g c =
     through c.from_residual.result c.from_residual.ensures.1 (λ stop same whole written rest slices.
     subst (λ (b : List ℕ). Stops (along_samples s.slicing) stop old new (whole ++ b) written)
     (sym (append_assoc (take at bytes) left rest) ∙ ap (λ (l : List ℕ). l ++ rest) (cut_at at bytes i.within))
-    (subst (λ slicing. Stops (along_samples slicing) stop old new (whole ++ (take at bytes ++ (left ++ rest))) written) i.slicing
-    (stops_on (IsStop (along_samples c.runs.self.slicing) stop) (Slices s) (Slices c.runs.self) old (g.K.Sink.written c.runs.out) new
-    (take at bytes) (left ++ rest) i.works (λ front output stands. rw same (c.in_err-at.ensures.stops front output rest stands))
+    (subst (λ slicing. Stops (along_samples slicing) stop old new (whole ++ (take at bytes ++ (left ++ rest))) written)
+    i.slicing
+    (stops_on (IsStop (along_samples c.runs.self.slicing) stop) (Slices s) (Slices c.runs.self) old
+    (g.K.Sink.written c.runs.out) new
+    (take at bytes) (left ++ rest) i.works
+    (λ front output stands. rw same (c.in_err-at.ensures.stops front output rest stands))
     whole written slices)))

@@ -12,7 +12,8 @@ invariant-runs g l = record {
   samples : 2 * l.self.samples ≡ 2 * l.fn.self.samples + l.at;
   slicing : l.self.slicing ≡ l.fn.self.slicing;
   half : l.self.half ≡ l.fn.self.half;
-  works : Works (Slices l.fn.self) (Slices l.self) (g.K.Sink.written l.fn.out) (g.K.Sink.written l.out) (take l.at l.bytes);
+  works : Works (Slices l.fn.self) (Slices l.self) (g.K.Sink.written l.fn.out) (g.K.Sink.written l.out)
+      (take l.at l.bytes);
   same : g.K.Sink.faults l.out ≡ g.K.Sink.faults l.fn.out;
 }
 

@@ -10,7 +10,8 @@ pub intervals_of_bytes-count-requires-clause-room : goal.intervals_of_bytes-coun
 intervals_of_bytes-count-requires-clause-room g c =
     let s = c.args.self.now in
     let going = c.requires.going in
-    ticks_fit s.slicing.fineness s.samples s.slicer.finder.tick s.slicer.finder.fineness (length c.args.bytes.now) going.tick
+    ticks_fit s.slicing.fineness s.samples s.slicer.finder.tick s.slicer.finder.fineness (length c.args.bytes.now)
+    going.tick
     (ap (λ (how : Settings). how.fineness) going.settings) going.fine going.within (omega (arith, c.requires.within))
 
 -- the lengths are those of intervals
@@ -29,8 +30,14 @@ returns-clause-going g c =
     let s = c.args.self.now in
     let going = c.requires.going in
     let e = c.intervals_of_bytes-count.ensures in
-    still_going s (record s { slicer = c.intervals_of_bytes-count.new.self; samples = s.samples + c.intervals_of_bytes-count.result.0 / 2; gathered = c.spell.new.gathered })
-    (length c.args.bytes.now) c.intervals_of_bytes-count.result.0 e.whole.0 going c.requires.within e.within e.whole.1 refl refl e.settings e.whole.2
+    still_going s (record s {
+      slicer = c.intervals_of_bytes-count.new.self;
+      samples =
+          s.samples + c.intervals_of_bytes-count.result.0 / 2;
+      gathered = c.spell.new.gathered;
+    })
+    (length c.args.bytes.now) c.intervals_of_bytes-count.result.0 e.whole.0 going c.requires.within e.within e.whole.1
+    refl refl e.settings e.whole.2
 
 pub returns-clause-count : goal.returns-clause-count
 returns-clause-count g c =
@@ -49,10 +56,17 @@ returns-in_err-spell-clause-stops g c =
     let e = c.intervals_of_bytes-count.ensures in
     let count = c.intervals_of_bytes-count.result.0 in
     let brought = c.intervals_of_bytes-count.result.1 in
-    let next = record s { slicer = c.intervals_of_bytes-count.new.self; samples = s.samples + count / 2; gathered = c.spell.new.gathered } in
+    let next = record s {
+      slicer = c.intervals_of_bytes-count.new.self;
+      samples = s.samples + count / 2;
+      gathered =
+          c.spell.new.gathered;
+    } in
     through c.from_residual.result c.from_residual.ensures.1 (λ stop same whole written rest slices.
-    rw (same, c.in_err-spell.ensures.why) (grown_part s next whole written c.args.bytes.now rest count brought _ _ slices
-    (grows s next c.args.bytes.now count e.whole.0 c.args.pace brought c.requires.within e.within e.whole.1 refl refl c.requires.going.settings
+    rw (same, c.in_err-spell.ensures.why)
+    (grown_part s next whole written c.args.bytes.now rest count brought _ _ slices
+    (grows s next c.args.bytes.now count e.whole.0 c.args.pace brought c.requires.within e.within e.whole.1 refl refl
+    c.requires.going.settings
     c.requires.pace e.stands e.intervals) c.in_err-spell.ensures.front))
 
 -- they were
@@ -62,11 +76,17 @@ returns-clause-works g c = λ whole written slices.
     let e = c.intervals_of_bytes-count.ensures in
     let count = c.intervals_of_bytes-count.result.0 in
     let brought = c.intervals_of_bytes-count.result.1 in
-    let next = record s { slicer = c.intervals_of_bytes-count.new.self; samples = s.samples + count / 2; gathered = c.spell.new.gathered } in
+    let next = record s {
+      slicer = c.intervals_of_bytes-count.new.self;
+      samples = s.samples + count / 2;
+      gathered =
+          c.spell.new.gathered;
+    } in
     let put = c.in_ok-spell.ensures.all in (
       put.0,
       put.1,
       grown s next whole written (take count c.args.bytes.now) put.0 brought slices
-          (grows s next c.args.bytes.now count e.whole.0 c.args.pace brought c.requires.within e.within e.whole.1 refl refl c.requires.going.settings
+          (grows s next c.args.bytes.now count e.whole.0 c.args.pace brought c.requires.within e.within e.whole.1 refl
+          refl c.requires.going.settings
           c.requires.pace e.stands e.intervals) put.2,
     )

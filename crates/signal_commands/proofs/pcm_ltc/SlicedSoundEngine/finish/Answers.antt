@@ -10,7 +10,8 @@ pub returns-in-Some-clause-stops : goal.returns-in-Some-clause-stops
 returns-in-Some-clause-stops g c = λ bytes written stands.
     let s = c.args.self.now in
     let well = stands_well s bytes written c.requires.settled stands in
-    let long = length-bytes s bytes written stands ∙ ap (λ half. 2 * s.samples + length (option_to_list half)) c.in-Some.is in
+    let long = length-bytes s bytes written stands ∙ ap (λ half. 2 * s.samples + length (option_to_list half))
+    c.in-Some.is in
     ([], Appends-nil _, (well.0, odd_end s.samples bytes long, append-nil written ∙ well.1))
 
 -- it ends behind a sample
@@ -18,7 +19,8 @@ pub returns-in-None-clause-ends : goal.returns-in-None-clause-ends
 returns-in-None-clause-ends g c = λ bytes written stands.
     let s = c.args.self.now in
     let well = stands_well s bytes written c.requires.settled stands in
-    let long = length-bytes s bytes written stands ∙ ap (λ half. 2 * s.samples + length (option_to_list half)) c.in-None.is in (
+    let long = length-bytes s bytes written stands ∙ ap (λ half. 2 * s.samples + length (option_to_list half))
+    c.in-None.is in (
       [],
       Appends-nil _,
       record { verdict = well.0.is; unspent = well.0.unspent; end = even_end s.samples bytes (omega (arith, long)) },

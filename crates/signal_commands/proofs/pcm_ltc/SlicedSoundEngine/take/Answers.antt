@@ -19,7 +19,8 @@ returns-in_err-slice-clause-stops g c =
     let s = c.args.self.now in
     let bytes = c.args.bytes.now in
     through c.from_residual.result c.from_residual.ensures.1 (λ stop same front written stands.
-    subst (λ (b : List ℕ). Stops (along_samples s.slicing) stop (g.K.Sink.written c.args.out.now) (g.K.Sink.written c.slice.new.out) b written)
+    subst (λ (b : List ℕ). Stops (along_samples s.slicing) stop (g.K.Sink.written c.args.out.now)
+    (g.K.Sink.written c.slice.new.out) b written)
     (sym (half_first front stands.whole bytes s.half c.in-Some.low stands.are c.in-Some.is c.requires.some))
     (rw same (c.in_err-slice.ensures.stops stands.whole written (drop 1 bytes) stands.slices)))
 
@@ -83,7 +84,8 @@ returns-clause-stops g c =
     let s = c.args.self.now in
     let bytes = c.args.bytes.now in
     err_to c.slice-2.result c.slice-2.ensures.stops (λ stop stopped front written stands.
-    subst (λ (b : List ℕ). Stops (along_samples s.slicing) stop (g.K.Sink.written c.args.out.now) (g.K.Sink.written c.slice-2.new.out) b written)
+    subst (λ (b : List ℕ). Stops (along_samples s.slicing) stop (g.K.Sink.written c.args.out.now)
+    (g.K.Sink.written c.slice-2.new.out) b written)
     (ap (λ (l : List ℕ). stands.whole ++ l) (append-nil bytes)
     ∙ ap (λ (l : List ℕ). l ++ bytes) (sym (no_half front stands.whole s.half stands.are c.in_default.is)))
     (stopped stands.whole written [] stands.slices))
@@ -101,6 +103,7 @@ returns-clause-works g c =
         whole = all;
         slices = w.2;
         are = ap (λ (l : List ℕ). l ++ take count bytes) (no_half front stands.whole s.half stands.are c.in_default.is)
-            ∙ sym (append-nil all) ∙ ap (λ (h : Option ℕ). all ++ option_to_list h) (sym (c.slice-2.ensures.half ∙ c.in_default.is));
+            ∙ sym (append-nil all)
+            ∙ ap (λ (h : Option ℕ). all ++ option_to_list h) (sym (c.slice-2.ensures.half ∙ c.in_default.is));
       },
     ))

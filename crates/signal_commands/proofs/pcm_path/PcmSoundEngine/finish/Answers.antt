@@ -33,7 +33,8 @@ returns-in-None-clause-ends g c =
       all.0,
       all.1,
       record { verdict = well.0.is; unspent = well.0.unspent; end = even_end s.samples bytes (omega (arith, long)) },
-      subst (λ (l : List ℤ). IsPathFile s.sound.path l (written ++ all.0)) (sym (same_samples s bytes written stands)) all.2,
+      subst (λ (l : List ℤ). IsPathFile s.sound.path l (written ++ all.0)) (sym (same_samples s bytes written stands))
+          all.2,
     ))
 
 -- a push failed then
@@ -53,7 +54,8 @@ returns-in-None-clause-stops g c =
         record { verdict = well.0.is; unspent = well.0.unspent; end = even_end s.samples bytes (omega (arith, long)) },
         (
           front.2.0,
-          subst (λ (l : List ℤ). IsPathFile s.sound.path l front.2.0) (sym (same_samples s bytes written stands)) front.2.1,
+          subst (λ (l : List ℤ). IsPathFile s.sound.path l front.2.0) (sym (same_samples s bytes written stands))
+              front.2.1,
           front.2.2,
         ),
       ),

@@ -15,7 +15,12 @@ returns-in-Ok-clause-ends g c =
     on_ok c.push_line.result c.push_line.ensures.all (λ pushed bytes written stands. (
       line,
       pushed,
-      record { verdict = good_too Lines _ stands.told.0; unspent = λ spent. spent; end = ends_well (c.in-Ok.ensures.ok bytes stands.answers stands.decoder) },
+      record {
+        verdict = good_too Lines _ stands.told.0;
+        unspent = λ spent. spent;
+        end =
+            ends_well (c.in-Ok.ensures.ok bytes stands.answers stands.decoder);
+      },
       (
         stands.answers,
         stands.told.1,
@@ -28,20 +33,27 @@ pub returns-in-Ok-clause-stops : goal.returns-in-Ok-clause-stops
 returns-in-Ok-clause-stops g c =
     let r = c.args.self.now in
     let line = c.field_end_text.result.items in
-    if_err c.push_line.result (err_both _ _ c.push_line.result c.push_line.ensures.why c.push_line.ensures.front) (λ stop h bytes written stands.
+    if_err c.push_line.result (err_both _ _ c.push_line.result c.push_line.ensures.why c.push_line.ensures.front)
+    (λ stop h bytes written stands.
     let f = h.1 in
     let last = last_line_is r bytes written line stands c.field_end_text.ensures in
     rw h.0 (
       f.0,
       f.2,
       (
-        record { verdict = good_too Lines _ stands.told.0; unspent = λ spent. spent; end = ends_well (c.in-Ok.ensures.ok bytes stands.answers stands.decoder) },
+        record {
+          verdict = good_too Lines _ stands.told.0;
+          unspent = λ spent. spent;
+          end =
+              ends_well (c.in-Ok.ensures.ok bytes stands.answers stands.decoder);
+        },
         (
           field_report stands.answers,
           (stands.answers, stands.told.1, refl),
           (
             f.1.0,
-            ap (λ (l : List ℕ). l ++ last_field_line stands.answers) (sym stands.are) ∙ ap (λ (l : List ℕ). written ++ l) (sym last ∙ f.1.1)
+            ap (λ (l : List ℕ). l ++ last_field_line stands.answers) (sym stands.are)
+                ∙ ap (λ (l : List ℕ). written ++ l) (sym last ∙ f.1.1)
                 ∙ sym (append_assoc written f.0 f.1.0),
           ),
         ),

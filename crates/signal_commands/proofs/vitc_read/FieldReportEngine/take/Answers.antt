@@ -27,7 +27,8 @@ returns-in_ok-print-in-Field-clause-works g c = λ front written stands.
     let reads_on = c.in-Field.ensures.takes.stands front stands.answers stands.decoder in (
       field_line r.fields c.in-Field.answer,
       c.in_ok-print-in-Field.ensures.all,
-      printed c.a_decoder_tells_the_file.ensures r mid c.print.new.self front written taken c.in-Field.answer stands reads_on refl
+      printed c.a_decoder_tells_the_file.ensures r mid c.print.new.self front written taken c.in-Field.answer stands
+          reads_on refl
           c.in_ok-print-in-Field.ensures.counted,
     )
 
@@ -51,18 +52,31 @@ returns-in_err-print-in-Field-clause-stops g c =
     let why = c.in_err-print-in-Field.ensures.why in
     through c.from_residual.result c.from_residual.ensures.1 (λ stop same front written stands.
     let reads_on = c.in-Field.ensures.takes.stands front stands.answers stands.decoder in
-    rw (same, why) (one_more_part c.a_decoder_tells_the_file.ensures r c.take.new.self front written bytes (take count bytes) (drop count bytes)
+    rw (same, why) (one_more_part c.a_decoder_tells_the_file.ensures r c.take.new.self front written bytes
+    (take count bytes) (drop count bytes)
     c.in-Field.answer _ _ stands
     reads_on (sym (take-append-drop count bytes)) c.in_err-print-in-Field.ensures.front))
 
 -- the bytes have a fault
 pub returns-in-Fault-clause-stops : goal.returns-in-Fault-clause-stops
 returns-in-Fault-clause-stops g c = λ front written stands.
-    let told = c.in-Fault.ensures.stops front stands.answers stands.decoder in
-    ([], Appends-nil _, (record { is = ap (verdict_as Lines) told.0; unspent = λ spent. spent }, (stands.answers, told.1, append-nil written ∙ stands.are)))
+    let told = c.in-Fault.ensures.stops front stands.answers stands.decoder in (
+      [],
+      Appends-nil _,
+      (
+        record { is = ap (verdict_as Lines) told.0; unspent = λ spent. spent },
+        (stands.answers, told.1, append-nil written ∙ stands.are),
+      ),
+    )
 
 -- or a field too many
 pub returns-in-Limit-clause-stops : goal.returns-in-Limit-clause-stops
 returns-in-Limit-clause-stops g c = λ front written stands.
-    let told = c.in-Limit.ensures.stops front stands.answers stands.decoder in
-    ([], Appends-nil _, inl (record { is = ap (verdict_as Lines) told.0; unspent = λ spent. spent }, (stands.answers, told.1, append-nil written ∙ stands.are)))
+    let told = c.in-Limit.ensures.stops front stands.answers stands.decoder in (
+      [],
+      Appends-nil _,
+      inl (
+        record { is = ap (verdict_as Lines) told.0; unspent = λ spent. spent },
+        (stands.answers, told.1, append-nil written ∙ stands.are),
+      ),
+    )

@@ -19,7 +19,8 @@ returns-in-Nothing-clause-works g c = λ front written stands.
 
 -- the header
 pub returns-in_err-put-in-Begin-clause-stops : goal.returns-in_err-put-in-Begin-clause-stops
-returns-in_err-put-in-Begin-clause-stops g c = through c.from_residual.result c.from_residual.ensures.1 (λ stop same front written stands.
+returns-in_err-put-in-Begin-clause-stops g c = through c.from_residual.result c.from_residual.ensures.1
+    (λ stop same front written stands.
     rw (same, c.in_err-put-in-Begin.ensures.why)
     (gathered_stop c.args.self.now front written c.args.bytes.now _ _ stands c.in_err-put-in-Begin.ensures.front))
 
@@ -31,7 +32,8 @@ returns-in_ok-put-in-Begin-clause-works g c = λ front written stands.
     let next = record s { decoder = c.take-taken.new.self; gathered = c.put.new.self } in
     let decodes = decodes_more s next (take c.in-Begin.count c.args.bytes.now) [] _ refl
     adds.asked adds.stands c.format-told.ensures.within c.format-told.ensures.value c.format-told.ensures.told in
-    begun c.samples_are_few_and_behind_a_format.ensures s next front written (take c.in-Begin.count c.args.bytes.now) c.in-Begin.format _ _ stands decodes
+    begun c.samples_are_few_and_behind_a_format.ensures s next front written (take c.in-Begin.count c.args.bytes.now)
+    c.in-Begin.format _ _ stands decodes
     refl takes.1 takes.2 (rw c.header-header.ensures at c.in_ok-put-in-Begin.ensures.all)
 
 -- a sample
@@ -43,7 +45,8 @@ slice-requires-clause-room g c =
     let next = record s { decoder = c.take-taken.new.self } in
     let decodes = decodes_more s next (take c.in-Sample.count c.args.bytes.now) (c.in-Sample.sample ∷ []) _ refl
     adds.asked adds.stands c.format-told.ensures.within c.format-told.ensures.value c.format-told.ensures.told in
-    ticks_fit c.samples_are_few_and_behind_a_format.ensures s next (take c.in-Sample.count c.args.bytes.now) (c.in-Sample.sample ∷ []) c.requires.going decodes
+    ticks_fit c.samples_are_few_and_behind_a_format.ensures s next (take c.in-Sample.count c.args.bytes.now)
+    (c.in-Sample.sample ∷ []) c.requires.going decodes
 
 pub returns-in_err-slice-in-Sample-clause-stops : goal.returns-in_err-slice-in-Sample-clause-stops
 returns-in_err-slice-in-Sample-clause-stops g c =
@@ -53,11 +56,14 @@ returns-in_err-slice-in-Sample-clause-stops g c =
     let next = record s { decoder = c.take-taken.new.self } in
     let decodes = decodes_more s next (take c.in-Sample.count c.args.bytes.now) (c.in-Sample.sample ∷ []) _ refl
     adds.asked adds.stands c.format-told.ensures.within c.format-told.ensures.value c.format-told.ensures.told in
-    through c.from_residual-in_err-slice-in-Sample.result c.from_residual-in_err-slice-in-Sample.ensures.1 (λ stop same front written stands.
+    through c.from_residual-in_err-slice-in-Sample.result c.from_residual-in_err-slice-in-Sample.ensures.1
+    (λ stop same front written stands.
     let fits : FitsSigned w16 c.in-Sample.sample = search rules in
     let f = (rw (to_z-of_z fits) at c.in_err-slice-in-Sample.ensures.front) stands.samples stands.slicer in
-    rw (same, c.in_err-slice-in-Sample.ensures.why) (slice_stop c.samples_are_few_and_behind_a_format.ensures s next front written c.args.bytes.now f.0
-    c.in-Sample.count (c.in-Sample.sample ∷ []) _ _ stands decodes takes.1 c.pace_in-pace.result (c.pace_in-pace.ensures.value ∙ ap (pace_in s.slicing) c.format-told.ensures.value) f.1 f.2))
+    rw (same, c.in_err-slice-in-Sample.ensures.why)
+    (slice_stop c.samples_are_few_and_behind_a_format.ensures s next front written c.args.bytes.now f.0
+    c.in-Sample.count (c.in-Sample.sample ∷ []) _ _ stands decodes takes.1 c.pace_in-pace.result
+    (c.pace_in-pace.ensures.value ∙ ap (pace_in s.slicing) c.format-told.ensures.value) f.1 f.2))
 
 pub returns-in_ok-slice-in-Sample-clause-works : goal.returns-in_ok-slice-in-Sample-clause-works
 returns-in_ok-slice-in-Sample-clause-works g c = λ front written stands.
@@ -65,7 +71,12 @@ returns-in_ok-slice-in-Sample-clause-works g c = λ front written stands.
     let takes = c.in-Sample.ensures.takes in
     let adds = takes.0 in
     let more = c.in-Sample.sample ∷ [] in
-    let next = record s { decoder = c.take-taken.new.self; slicer = c.slice.new.slicer; gathered = c.slice.new.gathered } in
+    let next = record s {
+      decoder = c.take-taken.new.self;
+      slicer = c.slice.new.slicer;
+      gathered =
+          c.slice.new.gathered;
+    } in
     let decodes = decodes_more s next (take c.in-Sample.count c.args.bytes.now) more _ refl
     adds.asked adds.stands c.format-told.ensures.within c.format-told.ensures.value c.format-told.ensures.told in
     let fits : FitsSigned w16 c.in-Sample.sample = search rules in
@@ -74,8 +85,10 @@ returns-in_ok-slice-in-Sample-clause-works g c = λ front written stands.
       stands = rw (to_z-of_z fits) at c.in_ok-slice-in-Sample.ensures.stands;
     } in
     let all = (rw (to_z-of_z fits) at c.in_ok-slice-in-Sample.ensures.all) stands.samples stands.slicer in
-    sliced_on c.samples_are_few_and_behind_a_format.ensures s next front written (take c.in-Sample.count c.args.bytes.now) all.0 more _ _ stands
-    decodes slices takes.1 c.pace_in-pace.result (c.pace_in-pace.ensures.value ∙ ap (pace_in s.slicing) c.format-told.ensures.value) all.1 all.2
+    sliced_on c.samples_are_few_and_behind_a_format.ensures s next front written
+    (take c.in-Sample.count c.args.bytes.now) all.0 more _ _ stands
+    decodes slices takes.1 c.pace_in-pace.result
+    (c.pace_in-pace.ensures.value ∙ ap (pace_in s.slicing) c.format-told.ensures.value) all.1 all.2
 
 -- a fault
 pub returns-in-Fault-clause-stops : goal.returns-in-Fault-clause-stops

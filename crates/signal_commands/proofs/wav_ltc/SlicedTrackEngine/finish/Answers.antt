@@ -24,5 +24,6 @@ pub returns-in-Err-clause-stops : goal.returns-in-Err-clause-stops
 returns-in-Err-clause-stops g c = λ bytes written stands.
     let s = c.args.self.now in
     let well = stands_well s bytes written c.requires.settled stands in
-    let ends = end_is s bytes written (Some c.in-Err.fault) stands (c.in-Err.ensures.err bytes stands.samples stands.decoder) in
+    let ends = end_is s bytes written (Some c.in-Err.fault) stands
+    (c.in-Err.ensures.err bytes stands.samples stands.decoder) in
     ([], Appends-nil _, (well.0, ends, append-nil written ∙ well.1))

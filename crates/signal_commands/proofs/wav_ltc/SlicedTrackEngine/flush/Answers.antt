@@ -16,7 +16,8 @@ returns-clause-going g c = on_ok c.push.result c.push.ensures.empty (λ empty.
     })
 
 pub returns-clause-works : goal.returns-clause-works
-returns-clause-works g c = on_ok c.push.result (both_ok _ _ c.push.result c.push.ensures.empty c.push.ensures.all) (λ h bytes written stands.
+returns-clause-works g c = on_ok c.push.result (both_ok _ _ c.push.result c.push.ensures.empty c.push.ensures.all)
+    (λ h bytes written stands.
     let s = c.args.self.now in (
       s.gathered.room.items,
       h.1,
@@ -27,5 +28,6 @@ returns-clause-works g c = on_ok c.push.result (both_ok _ _ c.push.result c.push
 -- it was not taken
 pub returns-clause-stops : goal.returns-clause-stops
 returns-clause-stops g c =
-    if_err c.push.result (err_both _ _ c.push.result c.push.ensures.why c.push.ensures.front) (λ stop h bytes written stands.
+    if_err c.push.result (err_both _ _ c.push.result c.push.ensures.why c.push.ensures.front)
+    (λ stop h bytes written stands.
     rw h.0 (flush_stop c.args.self.now bytes written _ _ stands h.1))

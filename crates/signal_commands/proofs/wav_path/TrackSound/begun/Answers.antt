@@ -18,6 +18,7 @@ unreachable-requires c =
     let t = c.args.self.now.path in
     let least : least_rate_of t.system ≤ c.args.format.now.rate =
     subst (λ (a : Asked). a.least_rate ≤ c.args.format.now.rate) c.requires.asked taken.rate_asked in
-    let some = c.a_sound_file_has_steps_from_its_least_rate_on.ensures.from t c.args.format.now.rate least taken.rate_most in
+    let some = c.a_sound_file_has_steps_from_its_least_rate_on.ensures.from t c.args.format.now.rate least
+    taken.rate_most in
     let none : sound_of t c.args.format.now.rate ≡ None = sym c.sound.ensures ∙ c.in-None.is in
     absurd cc

@@ -14,7 +14,8 @@ hear_in-requires-clause-room g c =
     let s = c.args.self.now in
     let adds = c.samples-count.ensures.adds in
     let more = take c.samples-count.result.1 c.samples-count.new.room in
-    let decodes = decodes_more s.decoder c.samples-count.new.self (take c.samples-count.result.0 c.args.bytes.now) more _
+    let decodes = decodes_more s.decoder c.samples-count.new.self (take c.samples-count.result.0 c.args.bytes.now) more
+    _
     adds.asked adds.stands c.format-told.ensures.within c.format-told.ensures.value c.format-told.ensures.told in
     room_for c.samples_are_few_and_behind_a_format.ensures s c.samples-count.new.self
     (take c.samples-count.result.0 c.args.bytes.now) more c.requires decodes
@@ -25,7 +26,8 @@ returns-in_err-hear_in-clause-stops g c =
     let s = c.args.self.now in
     let adds = c.samples-count.ensures.adds in
     let more = take c.samples-count.result.1 c.samples-count.new.room in
-    let decodes = decodes_more s.decoder c.samples-count.new.self (take c.samples-count.result.0 c.args.bytes.now) more _
+    let decodes = decodes_more s.decoder c.samples-count.new.self (take c.samples-count.result.0 c.args.bytes.now) more
+    _
     adds.asked adds.stands c.format-told.ensures.within c.format-told.ensures.value c.format-told.ensures.told in
     through c.from_residual.result c.from_residual.ensures.1 (λ stop same front written stands.
     let f = c.in_err-hear_in.ensures.fails s.path _ stands.samples written stands.heard in
@@ -43,7 +45,8 @@ returns-clause-works g c = λ front written stands.
       sound = c.hear_in.new.sound;
       room = c.samples-count.new.room;
     } in
-    let decodes = decodes_more s.decoder c.samples-count.new.self (take c.samples-count.result.0 c.args.bytes.now) more _
+    let decodes = decodes_more s.decoder c.samples-count.new.self (take c.samples-count.result.0 c.args.bytes.now) more
+    _
     adds.asked adds.stands c.format-told.ensures.within c.format-told.ensures.value c.format-told.ensures.told in
     heard_on c.samples_are_few_and_behind_a_format.ensures s next front written
     (take c.samples-count.result.0 c.args.bytes.now) more _ _ stands refl decodes adds.format

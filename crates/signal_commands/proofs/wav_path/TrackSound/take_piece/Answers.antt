@@ -13,7 +13,8 @@ returns-in-Nothing-clause-works g c = λ front written stands.
     let adds = takes.0 in
     let decodes = decodes_more s.decoder c.take-taken.new.self (take c.in-Nothing.count c.args.bytes.now) [] _
     adds.asked adds.stands c.format-told.ensures.within c.format-told.ensures.value c.format-told.ensures.told in
-    passed_on s (record s { decoder = c.take-taken.new.self }) front written (take c.in-Nothing.count c.args.bytes.now) _
+    passed_on s (record s { decoder = c.take-taken.new.self }) front written (take c.in-Nothing.count c.args.bytes.now)
+    _
     stands refl refl decodes takes.1
 
 -- the data begin

@@ -11,7 +11,8 @@ pub end_in-requires : goal.end_in-requires
 end_in-requires g c =
     let going = c.requires.going in
     record {
-      going = all_going c.args.self.now.path c.args.self.now.sound _ going.stands.samples going.written going.stands.heard;
+      going = all_going c.args.self.now.path c.args.self.now.sound _ going.stands.samples going.written
+          going.stands.heard;
     }
 
 -- the file may end here
@@ -59,5 +60,6 @@ returns-in-Err-clause-stops g c = λ bytes written stands.
     let well = stands_well s bytes written c.requires.settled stands in
     let ends = end_is s bytes written (Some c.in-Err.fault) stands
     (c.in-Err.ensures.err bytes stands.samples stands.decoder) in
-    let part = subst (λ (l : List ℕ). Meaning.part (along_track_path s.path) bytes l) (sym (append-nil written)) well.1 in
+    let part = subst (λ (l : List ℕ). Meaning.part (along_track_path s.path) bytes l) (sym (append-nil written)) well.1
+    in
     ([], Appends-nil _, (well.0, ends, part))

@@ -19,6 +19,7 @@ reading-preserved c =
           ∙ c.reading.invariant.settings;
       brings = brings_over c.args.self.now c.read_waiting-events.new.self c.slice-at.new.self c.reading.at
           c.slice-at.result c.args.samples.now
-          (brings_further c.args.self.now c.reading.self c.read_waiting-events.new.self c.reading.at c.args.samples.now []
+          (brings_further c.args.self.now c.reading.self c.read_waiting-events.new.self c.reading.at c.args.samples.now
+          []
           c.reading.invariant.brings waited) c.slice-at.ensures.brings;
     }

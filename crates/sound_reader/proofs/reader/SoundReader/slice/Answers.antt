@@ -27,4 +27,5 @@ returns-clause-brings c =
     let own : Brings c.args.self.now new (take count (take most samples)) [] =
     subst (λ (s : SoundState). Brings s new (take count (take most samples)) []) c.self.view_is step in
     subst (λ (s : List ℤ). Brings c.args.self.now new s [])
-    (front_of_front count most samples (within_front count most samples c.intervals_of_samples-count.ensures.within)) own
+    (front_of_front count most samples (within_front count most samples c.intervals_of_samples-count.ensures.within))
+    own

@@ -9,7 +9,7 @@ pub returns-clause-only : goal.returns-clause-only
 returns-clause-only c = λ word says.
     let label = c.in_ok-label.label in
     let are = c.in-Ok.ensures.reads
-        ∙ ap₂ (λ (f : Flags) (u : ℕ). field_values label f u) c.flags_of.ensures c.new.ensures in
+    ∙ ap₂ (λ (f : Flags) (u : ℕ). field_values label f u) c.flags_of.ensures c.new.ensures in
     let means = means_read c.args.self.now label c.in-Ok.fields c.in_ok-label.ensures.means (omega arith) are
-        (subst (λ (f : Flags). agrees label.count f.drop_frame ≡ true) c.flags_of.ensures c.in-Ok.ensures.agrees) in
+    (subst (λ (f : Flags). agrees label.count f.drop_frame ≡ true) c.flags_of.ensures c.in-Ok.ensures.agrees) in
     ap Some (one_word c.args.self.now _ word means says)

@@ -10,7 +10,8 @@ pub returns-clause-next : goal.returns-clause-next
 returns-clause-next c = λ lines stood.
     let stands = rw (← c.self.view_is) at stood in (
       stands.0 ++ c.say-said.result ∷ [],
-      AreSaid-last c.self.inside.system c.self.inside.length lines stands.0 (runs_of_bytes c.args.bytes.now) c.say-said.result stands.1
+      AreSaid-last c.self.inside.system c.self.inside.length lines stands.0 (runs_of_bytes c.args.bytes.now)
+          c.say-said.result stands.1
           (c.say-said.ensures _ _ c.read_bytes-read.ensures.reads c.read_bytes-read.ensures.refuses),
       c.with-self-inside.ensures stands.0 stands.2,
     )
@@ -19,7 +20,8 @@ pub returns-clause-reads : goal.returns-clause-reads
 returns-clause-reads c =
     rw (← c.self.view_is) (λ read. (
       c.self.invariant.1,
-      told_success c.read_bytes-read.result c.is_ok-is_read.result c.is_ok-is_read.ensures.value c.read_bytes-read.ensures.reads read,
+      told_success c.read_bytes-read.result c.is_ok-is_read.result c.is_ok-is_read.ensures.value
+          c.read_bytes-read.ensures.reads read,
     ))
 
 pub returns-clause-only : goal.returns-clause-only

@@ -17,4 +17,5 @@ returns-clause-told c = λ bytes samples stands.
     let size = front_length d.asked d.notes d.place d.stage d.part.items bytes samples s in
     let within = c.self.invariant.within in
     rw (← c.self.view_is, c.format_at.ensures, within_file d.asked bytes (omega (arith, size, within)))
-    (told_taken d.asked d.notes d.place d.stage d.part.items bytes samples c.self.invariant.stage c.self.invariant.part s)
+    (told_taken d.asked d.notes d.place d.stage d.part.items bytes samples c.self.invariant.stage c.self.invariant.part
+    s)

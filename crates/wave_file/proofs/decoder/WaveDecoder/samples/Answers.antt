@@ -1,4 +1,5 @@
-use Rattle.std.proofs.Common.{◌≡◌, ◌≤◌, ◌+◌, ◌-◌, ◌*◌, ◌++◌, ◌∷◌, [], ℕ, List, length, take, drop, refl, sym, arith, subst, ◌∙◌}
+use Rattle.std.proofs.Common.{◌≡◌, ◌≤◌, ◌+◌, ◌-◌, ◌*◌, ◌++◌, ◌∷◌, [], ℕ, List, length, take, drop, refl, sym, arith}
+use Rattle.std.proofs.Common.{subst, ◌∙◌}
 use Rattle.std.specs.Prelude.{ℤ}
 use Rattle.wave_file.proofs.Decoding.{blocks_added}
 use Rattle.wave_file.proofs.decoder.WaveDecoder.samples.Goals as goal
@@ -28,7 +29,8 @@ invariant_of-self c =
     let count = c.whole_blocks-count.result in
     let is = rw c.in-Data.is at c.self.invariant.stage in
     let left = is.2 in
-    let k = data_kept d.asked (d.place + count * block) c.in-Data.format (extent_behind c.in-Data.extent (count * block)) (c.in-Data.left - count) is.0
+    let k = data_kept d.asked (d.place + count * block) c.in-Data.format
+    (extent_behind c.in-Data.extent (count * block)) (c.in-Data.left - count) is.0
     (omega (arith, left)) in
     let none = eqb-true (length d.part.items) 0 (sym c.is_empty.ensures ∙ c.if-not-is_empty.false) in
     let inside = c.whole_blocks-count.ensures.inside in
@@ -50,14 +52,27 @@ returns-clause-adds c =
     let extent = c.in-Data.extent in
     let count = c.whole_blocks-count.result in
     let is = rw c.in-Data.is at c.self.invariant.stage in
-    let none = nothing_in d.part.items (eqb-true (length d.part.items) 0 (sym c.is_empty.ensures ∙ c.if-not-is_empty.false)) in
-    let size : length (take count c.args.room.now) ≡ count = length-take-le count c.args.room.now c.whole_blocks-count.ensures.places in
+    let none = nothing_in d.part.items
+    (eqb-true (length d.part.items) 0 (sym c.is_empty.ensures ∙ c.if-not-is_empty.false)) in
+    let size : length (take count c.args.room.now) ≡ count =
+    length-take-le count c.args.room.now c.whole_blocks-count.ensures.places in
     let put = front_of c.read_blocks.new.places (drop count c.args.room.now) count (c.read_blocks.auto.places ∙ size) in
     let few = rw c.from-block.ensures at c.whole_blocks-count.ensures.inside in
     let inside = c.bytes_inside-inside.ensures.length in
     let left = is.2 in
     let k = data_kept d.asked d.place format (extent_behind extent (count * format.block)) (c.in-Data.left - count) is.0
     (omega (arith, left)) in
-    rw (← c.self.view_is, none, c.in-Data.is, c.data_stage-self-inside.ensures, c.behind.ensures, put, c.read_blocks.ensures, size, c.from-block.ensures)
+    rw (
+      ← c.self.view_is,
+      none,
+      c.in-Data.is,
+      c.data_stage-self-inside.ensures,
+      c.behind.ensures,
+      put,
+      c.read_blocks.ensures,
+      size,
+      c.from-block.ensures,
+    )
     (blocks_added d.asked d.notes d.place format extent c.in-Data.left count c.args.bytes.now
-    (omega (arith, few, inside)) is.0.some (has_less extent _ _ few c.bytes_inside-inside.ensures.inside) c.whole_blocks-count.ensures.left k.format_is)
+    (omega (arith, few, inside)) is.0.some (has_less extent _ _ few c.bytes_inside-inside.ensures.inside)
+    c.whole_blocks-count.ensures.left k.format_is)
