@@ -2,6 +2,9 @@ mod AreCommands
 mod DueSamples
 mod FieldsGrow
 mod FieldsTold
+mod LumaIsCommand
+mod LumaLines
+mod LumaOn
 mod MidiGrows
 mod MidiLimit
 mod NothingYet

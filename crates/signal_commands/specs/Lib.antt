@@ -1,9 +1,11 @@
 pub mod KeptFields
+pub mod KeptLuma
 pub mod KeptMtc
 pub mod KeptPath
 pub mod KeptSlices
 pub mod KeptStops
 pub mod KeptTrack
+pub mod LumaVitc
 pub mod MtcRead
 pub mod PcmLtc
 pub mod PcmPath

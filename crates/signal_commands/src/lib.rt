@@ -18,6 +18,8 @@
 #![tactic(auto)]
 
 pub mod laws;
+mod luma_lines;
+mod luma_vitc;
 mod mtc_read;
 mod pcm_ltc;
 mod pcm_path;
@@ -26,6 +28,8 @@ mod stopping;
 mod vitc_read;
 mod wav_ltc;
 
+pub use luma_lines::LINE_LENGTH;
+pub use luma_vitc::{pixels_are_lawful, read_pixels};
 pub use mtc_read::{MAX_BYTES, midi_is_lawful, read_midi};
 pub use pcm_ltc::{MAX_SAMPLES, slice_sound};
 pub use pcm_path::hear_path;

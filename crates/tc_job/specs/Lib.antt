@@ -3,6 +3,7 @@ pub mod Jam
 pub mod ChaseRun
 pub mod LineStripe
 pub mod LoadRun
+pub mod LumaRun
 pub mod Pace
 pub mod PathGrid
 pub mod PathSlicing

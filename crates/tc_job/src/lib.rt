@@ -6,7 +6,7 @@
 //! What this crate promises: each value keeps the ranges of its words, whoever made it (the definitions of
 //! `specs/`, as `IsStripe` of `Stripe.antt`), and gives back what it was made of.
 //!
-//! Read `fault`, `job`, `stripe`, `flight`, `jam`, `chase_run`, `line_stripe`, `load_run`, `pace`, `slicing`,
+//! Read `fault`, `job`, `stripe`, `flight`, `jam`, `chase_run`, `line_stripe`, `load_run`, `luma_run`, `pace`, `slicing`,
 //! `path_grid`, `path_slicing`, `sound_level`, `wave_slicing` and `witness`, with `specs/` beside them, and `usages`,
 //! the table that `help` prints.
 //! `tc_words`, which reads words as tasks, and `tc_command` stand on this crate. Nothing here allocates or fails.
@@ -24,6 +24,7 @@ mod job;
 pub mod laws;
 mod line_stripe;
 mod load_run;
+mod luma_run;
 mod pace;
 mod path_grid;
 mod path_slicing;
@@ -41,6 +42,7 @@ pub use jam::Jam;
 pub use job::{Job, Task};
 pub use line_stripe::LineStripe;
 pub use load_run::{LoadRun, MAX_WORDS};
+pub use luma_run::LumaRun;
 pub use path_grid::{grid_for, step_ticks};
 pub use path_slicing::PathSlicing;
 pub use slicing::{MAX_FINENESS, MAX_LEVEL, Slicing};

@@ -3,6 +3,7 @@ pub mod Forms
 pub mod Live
 pub mod LtcChase
 pub mod LtcMake
+pub mod LumaVitc
 pub mod NumberLemmas
 pub mod PcmLtc
 pub mod PcmPath

@@ -10,7 +10,7 @@
 //!
 //! Read `words` and `values`, with `specs/Words.antt` and `specs/Values.antt` beside them: `words` and
 //! `Words.antt` have the same rows. Behind them come the files of the commands of many words: `flight`,
-//! `ltc_chase`, `ltc_make`, `vitc_make`, `live`, `pcm_ltc`, `pcm_path` and `wav_ltc`. The tasks themselves stand in
+//! `ltc_chase`, `ltc_make`, `luma_vitc`, `vitc_make`, `live`, `pcm_ltc`, `pcm_path` and `wav_ltc`. The tasks themselves stand in
 //! `tc_job`. `tc_top` stands on this crate, and no command does.
 //!
 //! A later command joins in these places, once it stands in `tc_job`:
@@ -25,6 +25,7 @@ pub mod laws;
 mod live;
 mod ltc_chase;
 mod ltc_make;
+mod luma_vitc;
 mod pcm_ltc;
 mod pcm_path;
 mod values;
