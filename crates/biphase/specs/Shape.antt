@@ -13,6 +13,7 @@ pub record Shape : Type 0 where
   pub to : ℕ
   pub step : ℕ
 
+-- a shape, by the length at which it begins, the length at which it ends, and the step
 abbrev pub shape_with : ℕ → ℕ → ℕ → Shape
 shape_with from to step = record { from = from; to = to; step = step }
 

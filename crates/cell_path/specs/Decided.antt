@@ -63,12 +63,14 @@ AreDecidedInAll (step ∷ steps) all =
     × (path : List Cell) × IsBestOfAll LENGTHS (step ∷ steps) path
     × (all ≡ newly 0 (length (step ∷ steps)) (end_behind 0 before) path ++ before)
 
+-- two signs are the same
 abbrev pub same_sign : Sign → Sign → Bool
 same_sign Plus Plus = true
 same_sign Plus Minus = false
 same_sign Minus Plus = false
 same_sign Minus Minus = true
 
+-- a cell follows the one before it by a jump
 abbrev pub is_jump : Way → Bool
 is_jump Same = false
 is_jump Shorter = false
@@ -93,6 +95,7 @@ unfoldable pub joined : Option Placed → List Placed → List Decided
 joined before [] = []
 joined before (cell ∷ more) = record { placed = cell; jumps = jumps before cell } ∷ joined (Some cell) more
 
+-- the latest cell, if there is one
 abbrev pub latest_of : List Placed → Option Placed
 latest_of [] = None
 latest_of (latest ∷ before) = Some latest

@@ -24,6 +24,7 @@ same_numbers number = record { plus = replicate 45 number; minus = replicate 45 
 abbrev pub place_ago : ℕ → ℕ → ℕ
 place_ago count ago = (count + 128 - ago) % 128
 
+-- the sums of the sound up to each of the latest steps, in a ring, and how many steps there were
 pub record SumsState : Type 0 where
   pub ring : List ℤ
   pub count : ℕ
@@ -40,6 +41,7 @@ pub record AreSums (sums : SumsState) : Type 0 where
   pub spread : (later ago : ℕ) → later ≤ ago → ago ≤ 96
       → IsWithin ((ago - later) * 2 ^ 16) (sum_ago sums later -ℤ sum_ago sums ago)
 
+-- the numbers of each of the latest steps, in a ring, and how many steps there were
 pub record RowsState : Type 0 where
   pub ring : List Numbers
   pub count : ℕ

@@ -13,6 +13,7 @@ use Rattle.cell_path.specs.declared.cell.Way.TheVariants.{Same, Shorter, Longer,
 use Rattle.cell_path.specs.declared.lengths.TheConstants.{EARLY, JUMP}
 use Rattle.cell_path.specs.Lengths.{length_in}
 
+-- the other sign
 abbrev pub opposite : Sign → Sign
 opposite Plus = Minus
 opposite Minus = Plus

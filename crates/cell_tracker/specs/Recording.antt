@@ -5,6 +5,7 @@ use Rattle.biphase.specs.declared.cell.Cell.TheVariants.{Zero, One}
 use Rattle.biphase.specs.Chain.{flat}
 use Rattle.cell_tracker.specs.Stretch.{Stretch}
 
+-- the cell of a bit: a zero of 24 ticks, or a one of two halves of 12
 abbrev pub cell_of : Bool → Cell
 cell_of false = Zero 24
 cell_of true = One 12 12

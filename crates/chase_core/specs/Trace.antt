@@ -22,6 +22,7 @@ pub record Row : Type 0 where
   pub master : Option Master
   pub slip : ℤ
 
+-- a row, by its parts
 abbrev pub row_with : Option Command → Option Master → ℤ → Row
 row_with command master slip = record { command = command; master = master; slip = slip }
 

@@ -59,6 +59,7 @@ pub record OneWaits (w : Waiting) (system : System) (tick : ℕ) (cells : List C
   pub before : told ≡ spans system tick cells 0 place ++ firm_candidate_at system tick cells place Forward
   pub behind : firm_listed w.behind ≡ spans system tick cells (place + 1) w.age
 
+-- what waits, if a word waits, and what has been told are the events of these cells
 abbrev pub WaitsFor : Option Waiting → System → ℕ → List Cell → List FirmEvent → Type 0
 WaitsFor None system tick cells told = NoneWaits system tick cells told
 WaitsFor (Some w) system tick cells told = OneWaits w system tick cells told

@@ -28,5 +28,6 @@ told (Gone tick) = []
 abbrev pub words_in : List Frame → List (Address × Direction × ℕ)
 words_in frames = flat_map told frames
 
+-- the label, the direction and the tick of a word
 abbrev pub word_of : HeardWord → Address × Direction × ℕ
 word_of word = (word.label, word.direction, word.tick)

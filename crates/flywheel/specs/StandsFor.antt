@@ -32,6 +32,7 @@ pub record HasGivenUp (limit : ℕ) (words : List HeardWord) (tick : ℕ) (given
   pub least : 1 ≤ word.length
   pub due : is_due word (limit + 1) tick ≡ true
 
+-- a flywheel with this reference, or with none, has given these frames of these words, up to a tick
 abbrev pub HasGiven : ℕ → Option HeardWord → ℕ → List HeardWord → ℕ → List Frame → Type 0
 HasGiven limit (Some word) invented words tick given = HasGivenAfter limit word invented words tick given
 HasGiven limit None invented words tick given = ((words ≡ []) × (given ≡ [])) ⊎ HasGivenUp limit words tick given

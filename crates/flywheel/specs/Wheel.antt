@@ -11,6 +11,7 @@ pub record Wheel : Type 0 where
   pub reference : Option HeardWord
   pub invented : ℕ
 
+-- a flywheel, by its parts
 abbrev pub wheel_of : ℕ → Option HeardWord → ℕ → Wheel
 wheel_of limit reference invented = record { limit = limit; reference = reference; invented = invented }
 
@@ -27,6 +28,7 @@ abbrev pub left_after : ℕ → Option HeardWord → ℕ → ℕ
 left_after limit None invented = 0
 left_after limit (Some word) invented = limit + 1 - invented
 
+-- how many frames a flywheel may still give before the next word
 abbrev pub frames_left : Wheel → ℕ
 frames_left wheel = left_after wheel.limit wheel.reference wheel.invented
 

@@ -15,6 +15,7 @@ use Rattle.report_text.specs.Texts.{FitsFirmLine}
 use Rattle.interval_commands.specs.declared.counts.Counts.{Counts}
 use Rattle.interval_commands.specs.FirmReport.{firm_lines, tells_lost, tells_refused, tells_word, IsFirmPart}
 
+-- nothing has been counted
 abbrev pub no_counts : Counts
 no_counts = record { words = 0; refused = 0; lost = 0 }
 

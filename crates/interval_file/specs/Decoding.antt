@@ -45,6 +45,7 @@ pub record Decoding : Type 0 where
   pub progress : Progress
   pub recording : Recording
 
+-- before the first byte
 abbrev pub no_decoding : Decoding
 no_decoding = record { progress = no_progress; recording = no_recording }
 
@@ -53,6 +54,7 @@ abbrev pub with_byte : Decoding → ℕ → Decoding
 with_byte d byte =
     record { progress = after d.progress byte; recording = with_taken d.recording (answer d.progress byte) }
 
+-- after these bytes, one after another
 abbrev pub decoding_of : List ℕ → Decoding
 decoding_of bytes = fold with_byte no_decoding bytes
 

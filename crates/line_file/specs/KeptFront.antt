@@ -21,6 +21,7 @@ front_of things.Whole says = whole says
 front_of things.Short says = short
 front_of (things.Fault f) says = bad f
 
+-- a header at the front, as the code finds it and as the definitions say it
 abbrev pub header_front : FoundHeader → Front LineHeader
 header_front (headers.Whole header) = whole header
 header_front headers.Short = short

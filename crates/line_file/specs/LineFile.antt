@@ -144,6 +144,7 @@ behind_header (whole header) bytes = let f = fields_at MAX_FIELDS HEADER_LENGTH 
 behind_header short bytes = record { header = None; fields = []; verdict = good; is_whole = false }
 behind_header (bad f) bytes = record { header = None; fields = []; verdict = refused f; is_whole = false }
 
+-- what bytes say of a line file, from the first byte on
 abbrev pub reading_of : List ℕ → Reading
 reading_of bytes = behind_header (header_at bytes) bytes
 

@@ -3,6 +3,7 @@ use Rattle.std.specs.Prelude.{◌≡◌, ℕ, ◌^◌, ◌<◌, ◌≤◌, ℤ, 
 use Rattle.luma_row.specs.Heights.{smoothed}
 use Rattle.luma_row.specs.KeptTable.{IsFilled}
 
+-- the table has the nine smoothed middles
 abbrev pub AreSmoothed : List ℕ → List ℕ → Type 0
 AreSmoothed cells table = IsFilled (smoothed cells) 9 (2 ^ 27) 9 table
 

@@ -38,6 +38,7 @@ field_lines length word = runs_in length (line_of word) ∷ runs_in length (line
 abbrev pub made_words : LineStriping → List VitcWord
 made_words s = words_from s.label s.frames
 
+-- the fields of the file, each with its lines as runs
 abbrev pub made_fields : LineStriping → List (List (List ℕ))
 made_fields s = map (field_lines s.length) (made_words s)
 

@@ -53,6 +53,7 @@ pub record IsSounds (sounds : Sounds) : Type 0 where
   pub clipped : unsigned_abs sounds.clipped ≤ 2 ^ 15
   pub held : unsigned_abs sounds.held ≤ 2 ^ 15 + 2 ^ 14
 
+-- the samples that wait for a step: how many, and the sums of them clipped and held
 pub record GroupState : Type 0 where
   pub many : ℕ
   pub clipped : ℤ

@@ -23,6 +23,7 @@ abbrev pub twice : ℕ → ℕ → ℕ → List ℤ → List ℤ
 twice shorter_ago longer_ago length sounds =
     part shorter_ago (length / 2) sounds ++ part longer_ago (length - length / 2) sounds
 
+-- a half of a cell: its sum with the sign of the path, and the sum of its squares
 abbrev pub half_of : Sign → ℕ → ℕ → ℕ → List ℤ → Half
 half_of sign shorter_ago longer_ago length sounds =
     let steps = twice shorter_ago longer_ago length sounds in
@@ -51,6 +52,7 @@ pub record IsHalf (length : ℕ) (half : Half) : Type 0 where
   pub sum : unsigned_abs half.sum ≤ length * 2 ^ 15
   pub squares : half.squares ≤ length * 2 ^ 30
 
+-- how long a measured cell is, and how great the numbers of its halves are
 pub record IsMeasured (cell : Measured) : Type 0 where
   pub least_span : 2 ≤ cell.span
   pub most_span : cell.span ≤ 120

@@ -38,6 +38,7 @@ unfoldable pub path_steps : List Sounds → List Step
 path_steps [] = []
 path_steps (latest ∷ before) = (heard_at latest before).step ∷ path_steps before
 
+-- the grid, the clip, the hold, the samples that wait, the steps left of the latest sound, that sound, and the sizes
 pub record StepsState : Type 0 where
   pub grid : Grid
   pub clip : SizesState
@@ -52,6 +53,7 @@ abbrev pub HasRoom : Grid → GroupState → Type 0
 HasRoom (Repeat repeats) group = Unit {0}
 HasRoom (Sum summed) group = group.many < summed
 
+-- the grid is one that there is, fewer samples wait than it sums, and the latest sound is in range
 pub record AreSteps (state : StepsState) : Type 0 where
   pub grid : IsGrid state.grid
   pub room : HasRoom state.grid state.group

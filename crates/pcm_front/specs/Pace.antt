@@ -54,6 +54,7 @@ abbrev pub passed_as : Pace → ℕ → ℕ
 passed_as Ended passed = 0
 passed_as (Passing length) passed = passed
 
+-- the whole pieces of a distance that have passed
 abbrev pub begun : Pace → ℕ → List ℕ
 begun pace passed = replicate (begun_in pace passed) (longest pace)
 

@@ -28,6 +28,7 @@ pub record FinderState : Type 0 where
   pub side : Option Side
   pub latest : Option ℕ
 
+-- what finding crossings keeps, by its parts
 abbrev pub state_of : ℕ → Threshold → Start → ℕ → ℤ → Level → Option Side → Option ℕ → FinderState
 state_of fineness threshold start tick before level side latest = record {
   fineness = fineness;
@@ -74,6 +75,7 @@ pub record WindowState : Type 0 where
 abbrev pub ring_of : ℕ → List ℤ → ℕ → List ℤ
 ring_of smooth ring oldest = drop oldest (take (smooth - 1) ring) ++ take oldest ring
 
+-- what summing samples keeps: the latest samples, from a ring
 abbrev pub window_of : ℕ → List ℤ → ℕ → WindowState
 window_of smooth ring oldest = record { smooth = smooth; kept = ring_of smooth ring oldest }
 

@@ -22,14 +22,17 @@ use Rattle.tc_command.specs.Told.{Told}
 abbrev pub event_lines : List MtcEvent → List ℕ
 event_lines events = flat_map event_line events
 
+-- the label of a full message
 abbrev pub is_full : MtcEvent → Bool
 is_full (Full label place) = true
 is_full event = false
 
+-- the label of eight quarter frames
 abbrev pub is_quarter : MtcEvent → Bool
 is_quarter (Quarter direction label place) = true
 is_quarter event = false
 
+-- an address that is no label
 abbrev pub is_refused : MtcEvent → Bool
 is_refused (Full label place) = false
 is_refused (Quarter direction label place) = false

@@ -32,6 +32,7 @@ span_line tick_rate system span =
     ++ codes " tick " ++ decimal span.first.tick ++ codes " " ++ decimal span.last.tick
     ++ codes " speed " ++ decimal (mean_speed tick_rate system span) ++ codes "\n"
 
+-- the words for how the labels on both sides of a gap fit each other
 abbrev pub relation_text : Relation → List ℕ
 relation_text Count = codes " count"
 relation_text Turn = codes " turn"

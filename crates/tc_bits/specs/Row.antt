@@ -22,6 +22,7 @@ pub record Entry : Type 0 where
   pub place : Place
   pub number : ℕ
 
+-- a place with a number
 abbrev pub entry : Place → ℕ → Entry
 entry place number = record { place = place; number = number }
 

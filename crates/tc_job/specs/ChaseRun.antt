@@ -12,6 +12,7 @@ pub record Chasing : Type 0 where
   pub seed : ℕ
   pub bound : ℕ
 
+-- a chase over the frames of a recording, by its values
 abbrev pub chasing_of : Address → Flight → ℕ → ℕ → Chasing
 chasing_of label flight seed bound = record { label = label; flight = flight; seed = seed; bound = bound }
 

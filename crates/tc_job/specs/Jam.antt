@@ -10,6 +10,7 @@ pub record Jamming : Type 0 where
   pub cell : ℕ
   pub tick_rate : ℕ
 
+-- a clean recording that is to be made, by its values
 abbrev pub jamming_of : Flight → ℕ → ℕ → Jamming
 jamming_of flight cell tick_rate = record { flight = flight; cell = cell; tick_rate = tick_rate }
 

@@ -12,6 +12,7 @@ pub record LineStriping : Type 0 where
   pub frames : ℕ
   pub length : ℕ
 
+-- a line file that is to be made, by its values
 abbrev pub line_stripe_of : Address → ℕ → ℕ → LineStriping
 line_stripe_of label frames length = record { label = label; frames = frames; length = length }
 

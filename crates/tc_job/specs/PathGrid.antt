@@ -28,6 +28,7 @@ unfoldable pub first_fit : System → ℕ → List Grid → Option Grid
 first_fit system rate [] = None
 first_fit system rate (grid ∷ more) = if is_fit system rate grid then Some grid else first_fit system rate more
 
+-- the grid for a sound of so many samples a second, if one of these is fit
 abbrev pub grid_for : System → ℕ → Option Grid
 grid_for system rate = first_fit system rate grids
 

@@ -18,6 +18,7 @@ pub record SlicesPath : Type 0 where
   pub grid : Grid
   pub ticks : ℕ
 
+-- sound whose best path is to be written, by its values
 abbrev pub path_slicing_of : System → ℕ → ℕ → ℕ → Grid → ℕ → SlicesPath
 path_slicing_of system rate least fineness grid ticks = record {
   system = system;

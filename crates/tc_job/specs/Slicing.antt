@@ -17,6 +17,7 @@ pub record Slices : Type 0 where
   pub smooth : ℕ
   pub live : Bool
 
+-- sound that is to be sliced, by its values
 abbrev pub slicing_of : System → ℕ → Threshold → ℕ → ℕ → Bool → Slices
 slicing_of system rate threshold fineness smooth live = record {
   system = system;

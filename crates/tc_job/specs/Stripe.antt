@@ -14,6 +14,7 @@ pub record Striping : Type 0 where
   pub shape : Shape
   pub tick_rate : ℕ
 
+-- a recording that is to be made, by its values
 abbrev pub stripe_of : Direction → Address → ℕ → Shape → ℕ → Striping
 stripe_of direction label frames shape tick_rate =
     record { direction = direction; label = label; frames = frames; shape = shape; tick_rate = tick_rate }

@@ -15,6 +15,7 @@ pub record SlicesTrackPath : Type 0 where
   pub track : ℕ
   pub least : ℕ
 
+-- a track whose best path is to be written, by its values
 abbrev pub track_path_of : System → ℕ → ℕ → SlicesTrackPath
 track_path_of system track least = record { system = system; track = track; least = least }
 

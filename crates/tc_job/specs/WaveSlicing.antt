@@ -15,6 +15,7 @@ pub record SlicesWave : Type 0 where
   pub smooth : ℕ
   pub live : Bool
 
+-- a track that is to be sliced, by its values
 abbrev pub wave_slicing_of : System → ℕ → Threshold → ℕ → Bool → SlicesWave
 wave_slicing_of system track threshold smooth live = record {
   system = system;

@@ -28,6 +28,7 @@ use Rattle.signal_commands.specs.VitcRead.{told_vitc_read}
 use Rattle.signal_commands.specs.WavLtc.{told_wav_ltc}
 use Rattle.signal_commands.specs.WavPath.{told_wav_path}
 
+-- the command of each job: its meaning, its promise, and whether it has a limit of its own
 abbrev pub told_of : Job → Told
 told_of jobs.LtcRead = told_ltc_read Normal
 told_of jobs.LtcWorn = told_ltc_read Worn

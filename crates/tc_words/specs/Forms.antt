@@ -30,6 +30,7 @@ abbrev pub or_itself : Word → Option Word → Word
 or_itself word None = word
 or_itself word (Some value) = value
 
+-- the value that a word in capitals stands for; another word stands for itself
 abbrev pub value_of : Word → Word
 value_of word = or_itself word (value_in samples word)
 
@@ -116,6 +117,7 @@ with_letter letter r =
     else if letter == 0x5b then brackets_begin (with_word r)
     else record r { letters = letter ∷ r.letters }
 
+-- a form, read from its last letter to its first
 unfoldable pub read_form : List ℕ → FormRead
 read_form [] = record { letters = []; part = no_part; behind = [] }
 read_form (letter ∷ more) = with_letter letter (read_form more)

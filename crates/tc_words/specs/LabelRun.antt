@@ -19,6 +19,7 @@ use Rattle.tc_words.specs.Values.{Word, between, count_in, map_ok, read_or, valu
 
 -- ---- a count and its rate
 
+-- the word `ntsc`
 abbrev pub is_ntsc : Word → Bool
 is_ntsc word = bytes_eq word (codes "ntsc")
 

@@ -63,6 +63,7 @@ abbrev pub HasBytes : ℕ → Extent → Type 0
 HasBytes count (extent.Announced left) = count ≤ left
 HasBytes count extent.Open = ⊤
 
+-- one more block is announced, or the size is not known
 abbrev pub HasBlock : WaveFormat → Extent → Type 0
 HasBlock format extent = HasBytes format.block extent
 

@@ -30,6 +30,7 @@ pub record Decoding : Type 0 where
   pub stage : Stage
   pub part : List ℕ
 
+-- a decoder, by its parts
 abbrev pub decoding_of : Asked → Notes → ℕ → Stage → List ℕ → Decoding
 decoding_of asked notes place stage part =
     record { asked = asked; notes = notes; place = place; stage = stage; part = part }

@@ -31,6 +31,7 @@ pub record Reading : Type 0 where
 abbrev pub unfinished : Reading
 unfinished = record { format = None; samples = []; verdict = good; may_end = false }
 
+-- a file that is refused for this fault before it has a format
 abbrev pub bad : WaveFault → Reading
 bad f = record { format = None; samples = []; verdict = refused f; may_end = false }
 
@@ -114,10 +115,12 @@ wave_at asked is_long bytes =
     piece 8 (λ wave rest. if big_number 4 (drop 4 wave) == WAVE
     then chunks_at asked 0 (no_notes is_long (little_number 4 wave)) 12 rest else bad (fault.Wave 8)) bytes
 
+-- what comes behind the form of the file; bytes without a form are refused
 abbrev pub behind_form : Asked → Option Bool → List ℕ → Reading
 behind_form asked None bytes = bad (fault.Riff 0)
 behind_form asked (Some is_long) bytes = wave_at asked is_long bytes
 
+-- what bytes say of a sound file, from the first byte on
 abbrev pub file_at : Asked → List ℕ → Reading
 file_at asked bytes = piece 4 (λ letters rest. behind_form asked (form_of (big_number 4 letters)) rest) bytes
 
