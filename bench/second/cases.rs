@@ -3,6 +3,7 @@ use crate::draws::Draws;
 use crate::frames::{played, word_bits};
 use crate::intervals::{MOST_TICKS, header, spell};
 use crate::labels::{COUNTS, Count, Label, Way};
+use crate::noisy;
 use crate::vitc::{file_header, line_bits, runs_of, spell_line};
 
 pub struct Case {
@@ -18,6 +19,12 @@ const COMMANDS: [&str; 19] = [
 /// The case with a number.
 pub fn case(seed: u64, number: u64) -> Case {
     let d = &mut Draws::of(seed, number);
+    // (by its number, so that each other case is the one that its seed and number were before)
+    if number % 20 == 9 {
+        let mut case = noisy::case(d);
+        spoil(&mut case.input, d);
+        return case;
+    }
     let command = if d.one_in(40) { "number" } else { d.pick(&COMMANDS) };
     let mut words = vec![command.to_string()];
     words.extend(values(command, d));
@@ -151,7 +158,7 @@ fn values(command: &str, d: &mut Draws) -> Vec<String> {
     words
 }
 
-fn system(d: &mut Draws) -> &'static str {
+pub fn system(d: &mut Draws) -> &'static str {
     d.pick(&["24", "25", "30"])
 }
 
@@ -194,7 +201,7 @@ fn of_a_track(d: &mut Draws) -> Vec<String> {
 }
 
 /// The bits of a piece of tape: words that follow one another, now and then a spoilt one, a turn, a cut.
-fn tape_bits(count: Count, words: u64, d: &mut Draws) -> Vec<bool> {
+pub fn tape_bits(count: Count, words: u64, d: &mut Draws) -> Vec<bool> {
     let (mut bits, mut way, mut now) = (vec![false, true], way(d), label(count, d));
     for _ in 0..words {
         match d.below(15) {
@@ -347,10 +354,29 @@ fn chunk(letters: &[u8; 4], size: u64, body: &[u8], bytes: &mut Vec<u8>) {
 
 /// A sound file: each form, width and number of tracks, chunks before and behind, sizes that are not known.
 fn wave(d: &mut Draws) -> Vec<u8> {
-    let (tracks, width) = (d.pick(&[1u64, 1, 2, 3, 64]), d.pick(&[1u64, 2, 3, 4]));
-    let is_long = d.one_in(4);
+    let form = Form::drawn(d);
+    let samples: Vec<i64> = samples(d).into_iter().take(4_000).collect();
+    wave_of(&form, &samples, None, d)
+}
+
+/// The tracks of a sound file, the bytes of a sample, and whether its sizes have 64 bits.
+pub struct Form {
+    tracks: u64,
+    width: u64,
+    is_long: bool,
+}
+
+impl Form {
+    pub fn drawn(d: &mut Draws) -> Form {
+        Form { tracks: d.pick(&[1, 1, 2, 3, 64]), width: d.pick(&[1, 2, 3, 4]), is_long: d.one_in(4) }
+    }
+}
+
+/// A sound file of these samples on its first track, with this rate or one at random.
+pub fn wave_of(form: &Form, samples: &[i64], rate: Option<u32>, d: &mut Draws) -> Vec<u8> {
+    let Form { tracks, width, is_long } = *form;
     let mut sound: Vec<u8> = Vec::new();
-    for s in samples(d).iter().take(if tracks > 4 { 60 } else { 4_000 }) {
+    for s in samples.iter().take(if tracks > 4 { 60 } else { samples.len() }) {
         for track in 0..tracks {
             let value = if track == 0 { *s } else { d.below(900) as i64 - 450 };
             match width {
@@ -375,7 +401,7 @@ fn wave(d: &mut Draws) -> Vec<u8> {
         let junk: Vec<u8> = (0..d.below(60)).map(|_| d.next() as u8).collect();
         chunk(b"JUNK", junk.len() as u64, &junk, &mut bytes);
     }
-    let body = format(tracks, width, d);
+    let body = format(tracks, width, rate, d);
     chunk(b"fmt ", body.len() as u64, &body, &mut bytes);
     let known = sound.len() as u64;
     let announced = match (is_long, d.below(6)) {
@@ -392,11 +418,13 @@ fn wave(d: &mut Draws) -> Vec<u8> {
     bytes
 }
 
-fn format(tracks: u64, width: u64, d: &mut Draws) -> Vec<u8> {
+fn format(tracks: u64, width: u64, rate: Option<u32>, d: &mut Draws) -> Vec<u8> {
     let is_extended = d.one_in(3);
     let tag: u16 = if is_extended { 65_534 } else { 1 };
-    let rate = d.pick(&[48_000u32, 44_100, 8_000, 192_000, 0, 6_250_001]);
-    let rate = if d.one_in(4) { rate } else { 48_000 };
+    let rate = rate.unwrap_or_else(|| {
+        let odd = d.pick(&[48_000u32, 44_100, 8_000, 192_000, 0, 6_250_001]);
+        if d.one_in(4) { odd } else { 48_000 }
+    });
     let block = (tracks * width) as u16;
     let mut body = tag.to_le_bytes().to_vec();
     body.extend((tracks as u16).to_le_bytes());

@@ -11,6 +11,8 @@ mod intervals;
 mod labels;
 mod made;
 mod midi;
+mod noisy;
+mod path;
 mod run;
 mod sound;
 mod vitc;
