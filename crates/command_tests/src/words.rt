@@ -2,7 +2,7 @@
 use biphase::Profile;
 use interval_file::FileVersion;
 use label_lines::{Timebase, Way};
-use path_front::Grid;
+use step_grid::Grid;
 use pcm_front::{Pace, Threshold};
 use std::alloc::{AllocError, Global};
 use std::test::Fail;

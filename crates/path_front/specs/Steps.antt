@@ -2,12 +2,13 @@
 use Rattle.std.specs.Prelude.{◌≡◌, ℕ, ◌+◌, ◌<◌, ℤ, unsigned_abs}
 use Rattle.std.specs.Prelude.{List, [], ◌∷◌, ◌++◌, map, replicate, Option, Some, None}
 use Rattle.cell_path.specs.declared.cell.Step.{Step}
-use Rattle.path_front.specs.declared.grid.Grid.{Grid}
-use Rattle.path_front.specs.declared.grid.Grid.TheVariants.{Repeat, Sum}
+use Rattle.step_grid.specs.declared.grid.Grid.{Grid}
+use Rattle.step_grid.specs.declared.grid.Grid.TheVariants.{Repeat, Sum}
 use Rattle.path_front.specs.declared.group.Sounds.{Sounds}
 use Rattle.path_front.specs.declared.steps.Heard.{Heard}
 use Rattle.path_front.specs.Clip.{clipped, sizes_of}
-use Rattle.path_front.specs.Grid.{on_grid, GroupState, GroupStandsFor, IsGrid, IsSounds}
+use Rattle.path_front.specs.Grid.{on_grid, GroupState, GroupStandsFor, IsSounds}
+use Rattle.step_grid.specs.Grid.{IsGrid}
 use Rattle.path_front.specs.Hold.{held_at, HoldState, HoldStandsFor}
 use Rattle.path_front.specs.KeptSizes.{SizesState, SizesStandFor}
 use Rattle.path_front.specs.Sizes.{mean_size}

@@ -3,7 +3,7 @@ ghost use Rattle.std.specs.Prelude.{◌≡◌, ◌+◌, ◌*◌, ◌^◌, ◌<�
 ghost use Rattle.path_front.specs.Grid.{due, GroupStandsFor, IsSounds};
 ghost use Rattle.path_front.specs.declared.group.Sounds.{Sounds};
 
-use crate::grid::MAX_SUMMED;
+use step_grid::MAX_SUMMED;
 use std::marker::Model;
 
 /// A sample of the sound, or the mean of some: clipped, and held besides.

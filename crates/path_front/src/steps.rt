@@ -2,12 +2,12 @@
 ghost use Rattle.std.specs.Prelude.{◌≡◌, ◌+◌, ◌*◌, ◌^◌, ◌<◌, ◌≤◌, ℤ, unsigned_abs, IfSome, IfNone, OnSome, List, []};
 ghost use Rattle.std.specs.Prelude.{◌∷◌};
 ghost use Rattle.cell_path.specs.Scores.{IsStep};
-ghost use Rattle.path_front.specs.Grid.{IsGrid};
+ghost use Rattle.step_grid.specs.Grid.{IsGrid};
 ghost use Rattle.path_front.specs.Steps.{GivesStep, StepsStandFor, TakesStep};
 ghost use Rattle.path_front.specs.declared.group.Sounds.{Sounds};
 
 use crate::clip::clip;
-use crate::grid::Grid;
+use step_grid::Grid;
 use crate::group::{Group, Sounds};
 use crate::hold::Hold;
 use crate::sizes::Sizes;

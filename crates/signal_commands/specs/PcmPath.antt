@@ -4,7 +4,7 @@ use Rattle.interval_file.specs.declared.header.FileVersion.TheVariants.{One}
 use Rattle.interval_file.specs.declared.header.IntervalHeader.{IntervalHeader}
 use Rattle.interval_file.specs.Grammar.{file_of}
 use Rattle.path_front.specs.Front.{AreIntervals, AreIntervalsSoFar}
-use Rattle.path_front.specs.Grid.{AreStepsOf}
+use Rattle.step_grid.specs.Grid.{AreStepsOf}
 use Rattle.pcm_front.specs.Samples.{bytes_of, samples_of}
 use Rattle.tc_command.specs.Meaning.{Meaning}
 use Rattle.tc_command.specs.Told.{Told}

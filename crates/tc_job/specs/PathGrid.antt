@@ -2,9 +2,9 @@
 -- own.
 use Rattle.std.specs.Prelude.{ℕ, ◌*◌, ◌/◌, ◌%◌, ◌==◌, nat_le, Bool, ◌&&◌, List, [], ◌∷◌, Option, Some, None}
 use Rattle.std.specs.Prelude.{if◌then◌else◌}
-use Rattle.path_front.specs.declared.grid.Grid.{Grid}
-use Rattle.path_front.specs.declared.grid.Grid.TheVariants.{Repeat, Sum}
-use Rattle.path_front.specs.declared.tile.TheConstants.{MAX_TICKS}
+use Rattle.step_grid.specs.declared.grid.Grid.{Grid}
+use Rattle.step_grid.specs.declared.grid.Grid.TheVariants.{Repeat, Sum}
+use Rattle.step_grid.specs.declared.grid.TheConstants.{MAX_TICKS}
 use Rattle.tc_address.specs.declared.system.System.{System}
 use Rattle.tc_address.specs.Count.{rate_of}
 

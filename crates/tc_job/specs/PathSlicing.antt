@@ -1,7 +1,7 @@
 -- What is told of sound whose best path is to be written.
 use Rattle.std.specs.Prelude.{◌≡◌, ℕ, ◌*◌, ◌^◌, ◌≤◌, Some}
-use Rattle.path_front.specs.declared.grid.Grid.{Grid}
-use Rattle.path_front.specs.Grid.{IsGrid}
+use Rattle.step_grid.specs.declared.grid.Grid.{Grid}
+use Rattle.step_grid.specs.Grid.{IsGrid}
 use Rattle.tc_address.specs.declared.system.System.{System}
 use Rattle.tc_job.specs.declared.slicing.TheConstants.{MAX_FINENESS}
 use Rattle.tc_job.specs.PathGrid.{grid_for, step_ticks}

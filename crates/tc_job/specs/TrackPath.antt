@@ -1,7 +1,7 @@
 -- What is told of a sound file of whose track the best path is to be written.
 use Rattle.std.specs.Prelude.{ℕ, ◌*◌, ◌≤◌, Option, Some, None}
 use Rattle.std.specs.Option.{option_map}
-use Rattle.path_front.specs.declared.grid.Grid.{Grid}
+use Rattle.step_grid.specs.declared.grid.Grid.{Grid}
 use Rattle.tc_address.specs.declared.system.System.{System}
 use Rattle.tc_address.specs.Count.{rate_of}
 use Rattle.tc_job.specs.PathGrid.{grid_for, step_ticks}

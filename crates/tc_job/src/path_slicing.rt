@@ -2,7 +2,7 @@
 ghost use Rattle.std.specs.Prelude.{◌≡◌, ◌*◌};
 ghost use Rattle.tc_job.specs.PathSlicing.{IsPathSlicing, path_slicing_of};
 
-use path_front::Grid;
+use step_grid::Grid;
 use std::marker::Model;
 use tc_address::System;
 

@@ -1,9 +1,12 @@
-//! How samples become steps. Read next: `steps`.
-/// At most so many steps are made of a sample.
+//! How samples become steps. Read next: `path_front/src/group.rt`.
+/// The most steps that a sample can be.
 pub const MAX_REPEATS: u32 = 8;
 
-/// At most so many samples are summed in a step.
+/// The most samples that can be summed in a step.
 pub const MAX_SUMMED: u32 = 65_536;
+
+/// The most ticks that a step can have.
+pub const MAX_TICKS: u32 = 65_536;
 
 /// How samples become steps.
 #[derive(Clone, Copy, Debug, PartialEq, Eq)]
