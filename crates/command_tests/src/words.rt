@@ -2,10 +2,10 @@
 use biphase::Profile;
 use interval_file::FileVersion;
 use label_lines::{Timebase, Way};
-use step_grid::Grid;
 use pcm_front::{Pace, Threshold};
 use std::alloc::{AllocError, Global};
 use std::test::Fail;
+use step_grid::Grid;
 use tc_address::text;
 use tc_job::{
     ChaseRun, Jam, Job, LabelRun, LineStripe, PathSlicing, Slicing, SoundLevel, Task, TrackPath,

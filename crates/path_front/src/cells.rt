@@ -6,12 +6,12 @@ ghost use Rattle.path_front.specs.Cells.{GivesLastCell, IsIdle, SameSound};
 ghost use Rattle.step_grid.specs.Grid.{IsGrid};
 ghost use Rattle.path_front.specs.Measured.{IsMeasured};
 
-use step_grid::Grid;
 use crate::latest::Latest;
 use crate::measured::{Measured, measure};
 use crate::steps::Steps;
 use cell_path::Decisions;
 use std::marker::Model;
+use step_grid::Grid;
 
 /// A sound on its way into cells.
 #[derive(Drop)]

@@ -7,11 +7,10 @@ ghost use Rattle.path_front.specs.Front.{IsReady};
 ghost use Rattle.step_grid.specs.Grid.{IsGrid};
 ghost use Rattle.path_front.specs.declared.judging.Phase.TheVariants.{Rest};
 
-use step_grid::Grid;
 use crate::judging::Judging;
 use crate::tile::{Tiles, tiled};
-use step_grid::MAX_TICKS;
 use std::marker::Model;
+use step_grid::{Grid, MAX_TICKS};
 
 /// A sound on its way into the intervals of its best path, in fixed memory: about 350 KiB.
 #[derive(Drop)]

@@ -8,8 +8,8 @@ ghost use Rattle.path_front.specs.declared.measured.Measured.{Measured};
 
 use crate::cells::Cells;
 use crate::gate::{Gate, Judged};
-use step_grid::Grid;
 use std::marker::Model;
+use step_grid::Grid;
 
 /// How far the sound is.
 #[derive(Clone, Copy, Debug, PartialEq, Eq)]

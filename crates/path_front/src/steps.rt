@@ -7,12 +7,12 @@ ghost use Rattle.path_front.specs.Steps.{GivesStep, StepsStandFor, TakesStep};
 ghost use Rattle.path_front.specs.declared.group.Sounds.{Sounds};
 
 use crate::clip::clip;
-use step_grid::Grid;
 use crate::group::{Group, Sounds};
 use crate::hold::Hold;
 use crate::sizes::Sizes;
 use cell_path::Step;
 use std::marker::Model;
+use step_grid::Grid;
 
 /// A step of the sound: for the path, and as it is without the hold.
 #[derive(Clone, Copy, Debug, PartialEq, Eq)]
