@@ -24,7 +24,7 @@ mean_of many sounds = record {
   held = int_div (total (map (λ (s : Sounds). s.held) sounds)) (pos many);
 }
 
--- the samples that no step has taken yet: it takes them when they are so many
+-- the samples that no step has taken yet: it takes them when there are as many as are summed
 unfoldable pub waiting : ℕ → List Sounds → List Sounds
 waiting summed [] = []
 waiting summed (latest ∷ before) =
@@ -43,7 +43,7 @@ on_grid (Repeat repeats) (latest ∷ before) = replicate repeats latest ++ on_gr
 on_grid (Sum summed) (latest ∷ before) =
     option_to_list (due summed (latest ∷ before)) ++ on_grid (Sum summed) before
 
--- so many steps are made of so many samples: as many of each, or one of as many as are summed, where fewer may be left
+-- this many steps are made of the samples: some of each, or one of as many as are summed, where fewer may be left
 abbrev pub AreStepsOf : Grid → ℕ → ℕ → Type 0
 AreStepsOf (Repeat repeats) samples steps = steps ≡ samples * repeats
 AreStepsOf (Sum summed) samples steps = (steps * summed ≤ samples) × (samples < (steps + 1) * summed)
@@ -59,7 +59,7 @@ pub record GroupState : Type 0 where
   pub clipped : ℤ
   pub held : ℤ
 
--- the sums of so many sounds
+-- the sums of the sounds so far
 pub record AreGrouped (state : GroupState) : Type 0 where
   pub many : state.many < 2 ^ 16
   pub clipped : unsigned_abs state.clipped ≤ state.many * 2 ^ 15
