@@ -10,7 +10,7 @@ abbrev pub cell_of : Bool → Cell
 cell_of false = Zero 24
 cell_of true = One 12 12
 
--- the cells of so many bits of a number, the least significant bit first
+-- the cells of this many bits of a number, the least significant bit first
 unfoldable pub cells_of : ℕ → ℕ → List Cell
 cells_of zero number = []
 cells_of (suc count) number = cell_of (number % 2 == 1) ∷ cells_of count (number / 2)

@@ -32,7 +32,7 @@ abbrev pub beside_of : BesideBits → List Bool → BesideBits
 beside_of b [] = b
 beside_of b (bit ∷ more) = beside_of (beside_with b bit) more
 
--- the events of so many windows from one place on
+-- the events of this many windows from one place on
 abbrev pub spans : System → ℕ → List Cell → ℕ → ℕ → List FirmEvent
 spans system tick cells place count = flat_map (firm_events_at system tick cells) (range_with_len place count)
 

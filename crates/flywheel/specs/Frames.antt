@@ -14,7 +14,7 @@ use Rattle.flywheel.specs.declared.heard.HeardWord.{HeardWord}
 use Rattle.flywheel.specs.declared.frame.Frame.{Frame}
 use Rattle.flywheel.specs.declared.frame.Frame.TheVariants.{Heard, Invented, Gone}
 
--- so many labels ahead, or back
+-- this many labels ahead, or back
 abbrev pub steps_in : Direction → ℕ → ℤ
 steps_in Forward k = pos k
 steps_in Backward k = neg_ℤ (pos k)

@@ -11,7 +11,7 @@ use Rattle.flywheel.specs.Wheel.{Wheel}
 abbrev pub first_invented : HeardWord → ℕ → List Frame
 first_invented word n = map (invented_after word) (range_with_len 1 n)
 
--- the last word is the reference: the frames up to it were given, and so many of those after it, which were due
+-- the last word is the reference: the frames up to it were given, and this many of those after it, which were due
 pub record HasGivenAfter (limit : ℕ) (word : HeardWord) (invented : ℕ) (words : List HeardWord) (tick : ℕ)
     (given : List Frame) : Type 0 where
   pub earlier : List HeardWord

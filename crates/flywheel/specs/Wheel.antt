@@ -19,7 +19,7 @@ wheel_of limit reference invented = record { limit = limit; reference = referenc
 abbrev pub still : ℕ → Wheel
 still limit = wheel_of limit None 0
 
--- it has invented so many frames since the word
+-- it has invented this many frames since the word
 abbrev pub running : ℕ → HeardWord → ℕ → Wheel
 running limit word invented = wheel_of limit (Some word) invented
 

@@ -82,7 +82,7 @@ pub record ReadsWhatIsSaid : Type 0 where
 abbrev pub too_many_bytes : ℕ
 too_many_bytes = HEADER_LENGTH + 6 * MAX_INTERVALS + 6
 
--- so many intervals account for the bytes that were taken
+-- this many intervals account for the bytes that were taken
 abbrev pub FitsBytes : Progress → ℕ → Type 0
 FitsBytes p count = p.taken ≤ HEADER_LENGTH + 6 * count + length p.part
 
@@ -101,7 +101,7 @@ pub record IsBetween (p : Progress) : Type 0 where
   pub header : HEADER_LENGTH ≤ p.taken
   pub no_part : p.part ≡ []
 
--- with the bytes of an interval more, so many
+-- with one interval more, of this many bytes
 abbrev pub with_number : Decoding → ℕ → Result ℕ IntervalFileFault → Decoding
 with_number d width (Ok x) = record {
   progress = record d.progress { taken = d.progress.taken + width };

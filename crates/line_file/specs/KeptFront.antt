@@ -27,7 +27,7 @@ header_front (headers.Whole header) = whole header
 header_front headers.Short = short
 header_front (headers.Fault f) = bad f
 
--- so many runs that stand behind the first byte
+-- this many runs that come behind the first byte
 abbrev pub runs_behind : ℕ → List ℕ → List ℕ
 runs_behind count bytes = runs_of_bytes (take (2 * count) (drop 1 bytes))
 

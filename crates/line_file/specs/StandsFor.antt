@@ -72,7 +72,7 @@ pub record StandsFor (d : Decoding) (bytes : List ℕ) (answers : List FieldAnsw
 abbrev pub FitsFields : Decoding → Type 0
 FitsFields d = (d.fields ≤ MAX_FIELDS) × (d.place + length d.part ≤ HEADER_LENGTH + FIELD_ROOM * d.fields + FIELD_ROOM)
 
--- so many of the bytes were taken, and these answers given
+-- this many of the bytes were taken, and these answers given
 pub record Adds (old new : Decoding) (bytes : List ℕ) (count : ℕ) (more : List FieldAnswer) : Type 0 where
   pub some : 1 ≤ count
   pub within : count ≤ length bytes

@@ -38,7 +38,7 @@ sum_at a b bit = height_at a bit +ℤ height_at b bit
 abbrev pub joined : Levels → Levels → Levels
 joined a b = record { swing = a.swing + b.swing; heights = map (sum_at a b) (range_with_len 0 90) }
 
--- the last so many bits as a number, the first of them the lowest
+-- the last n bits as a number, the first of them the lowest
 unfoldable pub last_bits : ℕ → Levels → ℕ
 last_bits zero levels = 0
 last_bits (suc count) levels = 2 * last_bits count levels + cond (is_one levels (89 - count)) 1 0

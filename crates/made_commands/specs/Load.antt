@@ -85,7 +85,7 @@ one_draw g = record g { state = drawn g.state }
 abbrev pub next_bits : Chance → Address → List Bool
 next_bits g label = played_bits (next_word g label)
 
--- so many words from a label on, each a label further
+-- this many words from a label on, each a label further
 unfoldable pub words_by : Chance → Address → ℕ → List Played
 words_by g label zero = []
 words_by g label (suc n) =

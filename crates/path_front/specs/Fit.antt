@@ -19,7 +19,7 @@ outside range is_below level =
 abbrev pub half_level : Half → ℕ → ℕ
 half_level half length = FINE * unsigned_abs half.sum / length
 
--- the mean square of a half of a cell of so many steps, less the square of its mean; and the square of how far its
+-- the mean square of a half of a cell of this many steps, less the square of its mean; and the square of how far its
 -- level
 -- lies outside the range
 abbrev pub half_fit : Range → Half → ℕ → HalfFit

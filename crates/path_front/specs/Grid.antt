@@ -18,7 +18,7 @@ mean_of many sounds = record {
   held = int_div (total (map (λ (s : Sounds). s.held) sounds)) (pos many);
 }
 
--- the samples that no step has taken yet: it takes them when they are so many
+-- the samples that no step has taken yet: it takes them when there are as many as are summed
 unfoldable pub waiting : ℕ → List Sounds → List Sounds
 waiting summed [] = []
 waiting summed (latest ∷ before) =
@@ -48,7 +48,7 @@ pub record GroupState : Type 0 where
   pub clipped : ℤ
   pub held : ℤ
 
--- the sums of so many sounds
+-- the sums of the sounds so far
 pub record AreGrouped (state : GroupState) : Type 0 where
   pub many : state.many < 2 ^ 16
   pub clipped : unsigned_abs state.clipped ≤ state.many * 2 ^ 15

@@ -4,7 +4,7 @@ use Rattle.std.specs.Prelude.{List, length, get_or, take, drop}
 use Rattle.std.specs.List.{sum_by, All}
 use Rattle.path_front.specs.Grid.{total}
 
--- so many steps up to the one so long ago
+-- this many steps up to the one so long ago
 abbrev pub part : ℕ → ℕ → List ℤ → List ℤ
 part ago many sounds = take many (drop ago sounds)
 

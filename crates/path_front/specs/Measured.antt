@@ -29,7 +29,7 @@ half_of sign shorter_ago longer_ago length sounds =
     let steps = twice shorter_ago longer_ago length sounds in
     record { sum = signed sign (sum_of steps); squares = squares_of steps }
 
--- a cell that ended so long ago, so many steps behind the one before it, and lasts so many
+-- a cell with its distance from the one before it, how long ago it ended, and its length, all in steps
 abbrev pub measured_at : Decided → ℕ → ℕ → ℕ → List ℤ → Measured
 measured_at decided span ago length sounds = record {
   span = span;
@@ -47,7 +47,7 @@ measured_of decided ended sounds =
     measured_at decided (decided.placed.end - ended) (length sounds - decided.placed.end)
     (length_in LENGTHS decided.placed.cell.place) sounds
 
--- of a cell of so many steps, each of 16 bits
+-- of a cell of this many steps, each of 16 bits
 pub record IsHalf (length : ℕ) (half : Half) : Type 0 where
   pub sum : unsigned_abs half.sum ≤ length * 2 ^ 15
   pub squares : half.squares ≤ length * 2 ^ 30

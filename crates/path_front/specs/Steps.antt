@@ -65,7 +65,7 @@ abbrev pub GroupStands : Grid → GroupState → List Sounds → Type 0
 GroupStands (Repeat repeats) group sounds = Unit {0}
 GroupStands (Sum summed) group sounds = GroupStandsFor summed group sounds
 
--- of the steps of these samples all but the latest, of which so many are left, have been given
+-- of the steps of these samples all but the latest, of which some are left, have been given
 pub record StepsStandFor (state : StepsState) (samples : List ℤ) (given : List Sounds) : Type 0 where
   pub clip : SizesStandFor state.clip (sizes_of samples)
   pub hold : HoldStandsFor state.hold (clipped samples)

@@ -44,11 +44,11 @@ abbrev pub last_mtc_line : List ℕ → List MtcEvent → List ℕ
 last_mtc_line bytes events =
     end_line (length bytes) (count_by is_full events) (count_by is_quarter events) (count_by is_refused events)
 
--- at most so many bytes are read
+-- at most this many bytes are read
 abbrev pub verdict_within : ℕ → List ℕ → Verdict InputFault
 verdict_within most bytes = cond (nat_lt most (length bytes)) past_limit good
 
--- the lines whose last byte is among the first bytes, so many
+-- the lines whose last byte is among this many first bytes
 abbrev pub lines_within : ℕ → List ℕ → List ℕ
 lines_within most bytes = event_lines (events_in (take most bytes))
 

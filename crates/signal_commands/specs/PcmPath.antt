@@ -12,7 +12,7 @@ use Rattle.tc_job.specs.PathSlicing.{SlicesPath}
 use Rattle.signal_commands.specs.PcmLtc.{odd_fault, samples_within}
 use Rattle.signal_commands.specs.declared.pcm_ltc.TheConstants.{MAX_SAMPLES}
 
--- the header: each sample has so many ticks
+-- the header: each sample has `fineness` ticks
 abbrev pub path_header : SlicesPath → IntervalHeader
 path_header p = record { version = One; system = p.system; tick_rate = p.rate * p.fineness }
 

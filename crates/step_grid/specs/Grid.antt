@@ -9,7 +9,7 @@ abbrev pub IsGrid : Grid → Type 0
 IsGrid (Repeat repeats) = (1 ≤ repeats) × (repeats ≤ MAX_REPEATS)
 IsGrid (Sum summed) = (2 ≤ summed) × (summed ≤ MAX_SUMMED)
 
--- so many steps are made of so many samples: as many of each, or one of as many as are summed, where fewer may be left
+-- this many steps are made of the samples: some of each, or one of as many as are summed, where fewer may be left
 abbrev pub AreStepsOf : Grid → ℕ → ℕ → Type 0
 AreStepsOf (Repeat repeats) samples steps = steps ≡ samples * repeats
 AreStepsOf (Sum summed) samples steps = (steps * summed ≤ samples) × (samples < (steps + 1) * summed)

@@ -16,7 +16,7 @@ pub record Ramp : Type 0 where
   pub ripple : ℕ
   pub noise : ℕ
 
--- over so many samples from one on the threshold rises (true), and nowhere lies further than the ripple below an
+-- over this many samples from one on the threshold rises (true), and nowhere lies further than the ripple below an
 -- earlier one; or it falls (false), and nowhere lies further than the ripple above an earlier one
 abbrev pub MovesOneWay : Bool → ℕ → Threshold → List ℤ → ℕ → ℕ → Type 0
 MovesOneWay true ripple threshold sound first count =

@@ -16,8 +16,8 @@ use Rattle.tape_spans.specs.declared.span.Span.{Span}
 use Rattle.tape_spans.specs.Gap.{gap_between}
 use Rattle.tape_spans.specs.Spans.{SpanFrames, frames_of_spans, span_of, spans}
 
--- the mean speed of a span at a tick rate, in thousandths of nominal, rounded down: at nominal speed so many frames
--- last a second. A span of no ticks, as of one word, has none
+-- the mean speed of a span at a tick rate, in thousandths of nominal, rounded down: at nominal speed the frames of
+-- the system last a second. A span of no ticks, as of one word, has none
 abbrev pub mean_speed : ℕ → System → Span → ℕ
 mean_speed tick_rate system span =
     let ticks = span.last.tick - span.first.tick in

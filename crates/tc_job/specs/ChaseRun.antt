@@ -5,7 +5,7 @@ use Rattle.tc_job.specs.declared.flight.Flight.{Flight}
 use Rattle.tc_job.specs.declared.chase_run.TheConstants.{MAX_SLIP}
 
 -- the label at which the transport begins, how the frames are had that it follows, and slips from this seed of at most
--- so many subframes
+-- this many subframes
 pub record Chasing : Type 0 where
   pub label : Address
   pub flight : Flight

@@ -8,7 +8,7 @@ use Rattle.tc_job.specs.PathGrid.{grid_for, step_ticks}
 use Rattle.tc_job.specs.SoundLevel.{IsLevel}
 use Rattle.limits.specs.declared.recording.TheConstants.{MAX_TICK_RATE}
 
--- time code of a system, in sound of so many samples a second, of this level at least, in so many ticks a sample; how
+-- time code of a system, in sound: its samples a second, its least level, the ticks of a sample; how
 -- samples become steps, and how many ticks a step has
 pub record SlicesPath : Type 0 where
   pub system : System

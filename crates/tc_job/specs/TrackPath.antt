@@ -36,6 +36,6 @@ sound_on t rate None = None
 sound_on t rate (Some grid) =
     option_map (λ ticks. path_slicing_of t.system rate t.least 16 grid ticks) (step_ticks 16 grid)
 
--- and of so many samples a second
+-- and of this many samples a second
 abbrev pub sound_of : SlicesTrackPath → ℕ → Option SlicesPath
 sound_of t rate = sound_on t rate (grid_for t.system rate)

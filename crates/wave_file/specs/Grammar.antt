@@ -35,7 +35,7 @@ abbrev pub value_of : Sample → ℤ
 value_of (Eight byte) = pos (256 * byte) -ℤ pos 32_768
 value_of (Wide below upper) = upper
 
--- it has so many bytes
+-- it has this many bytes
 abbrev pub IsOfWidth : ℕ → Sample → Type 0
 IsOfWidth width (Eight byte) = width ≡ 1
 IsOfWidth width (Wide below upper) = (width ≡ length below + 2) × FitsSigned w16 upper
