@@ -11,8 +11,8 @@ pub const MAX_TICKS: u32 = 65_536;
 /// How samples become steps.
 #[derive(Clone, Copy, Debug, PartialEq, Eq)]
 pub enum Grid {
-    /// Each sample stands for so many steps.
+    /// Each sample stands for several steps.
     Repeat(u32),
-    /// A step is the mean of so many samples.
+    /// A step is the mean of several samples.
     Sum(u32),
 }
