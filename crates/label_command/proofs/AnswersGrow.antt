@@ -35,7 +35,7 @@ GoesOn = (base : Timebase) (front more : List ℕ) → (reading_of base front).v
 -- ---- bytes behind those that it was given
 
 -- what a byte says that says this
-said_so : (p : Place) (byte : ℕ) (more : List ℕ) (said : LineRead) → said_by p byte ≡ said
+pub said_so : (p : Place) (byte : ℕ) (more : List ℕ) (said : LineRead) → said_by p byte ≡ said
     → reading_from p (byte ∷ more) ≡ then_read p said (reading_from (after said byte p) more)
 unfolding reading_from
 said_so p byte more said is = ap (λ (s : LineRead). then_read p s (reading_from (after s byte p) more)) is
@@ -52,7 +52,7 @@ read_on law s front written stands byte more said is =
     ∙ ap (λ (p : Place). with_labels labels (reading_from p (byte ∷ more))) stands.place
     ∙ ap (with_labels labels) (said_so s.reader byte more said is)
 
-nothing_behind : (p : Place) → reading_from p [] ≡ ended_at good p
+pub nothing_behind : (p : Place) → reading_from p [] ≡ ended_at good p
 unfolding reading_from
 nothing_behind p = refl
 

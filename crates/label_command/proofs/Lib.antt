@@ -1,2 +1,7 @@
 pub mod AnswersGrow
+pub mod AnswersRead
 pub mod LabelsAreCommand
+pub mod LinesRead
+pub mod LinesTold
+pub mod ShortLines
+pub mod TextSplit

@@ -1,2 +1,4 @@
+pub mod AnsweredAgain
 pub mod KeptLabels
 pub mod Labels
+pub mod TextLines

@@ -16,6 +16,7 @@ use label_lines::answer_line;
 use label_text::laws::bytes_are_read_in_order;
 use label_text::{LabelReader, LineRead};
 use tc_address::Label;
+use tc_address::laws::{a_text_is_read_as_its_label, number_and_label_are_inverse};
 use tc_command::{Engine, InputFault, Stop, push_line, work};
 use tc_io::{Sink, Source};
 use tc_job::LabelRun;
@@ -38,6 +39,8 @@ fn labels_are_told()
     ensures { (run : LabelRunning) → IsTold (told_labels run) }
 {
     labels_are_lawful();
+    a_text_is_read_as_its_label();
+    number_and_label_are_inverse();
 }
 
 /// What is told of `labels` is lawful.
@@ -45,6 +48,8 @@ pub fn labels_are_lawful()
     ensures { (run : LabelRunning) → IsLawful (told_labels run) }
 {
     bytes_are_read_in_order();
+    a_text_is_read_as_its_label();
+    number_and_label_are_inverse();
 }
 
 /// A reader of a text, and what is answered to its labels.

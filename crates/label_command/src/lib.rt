@@ -9,5 +9,6 @@
 #![tactic(auto)]
 
 mod labels;
+pub mod laws;
 
 pub use labels::{answer_labels, labels_are_lawful};
