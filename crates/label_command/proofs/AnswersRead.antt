@@ -29,7 +29,7 @@ use Rattle.label_text.specs.LabelText.{labels_of}
 use Rattle.label_command.specs.AnsweredAgain.{AreTogether, IsAnsweredAgain, SaysALabel, Writes, label_told}
 use Rattle.label_command.specs.Labels.{AnswersTheLines, along_labels, answers}
 use Rattle.label_command.specs.TextLines.{HasLines, IsLine, SayLabels, ended}
-use Rattle.label_command.proofs.LinesTold.{answered_whole}
+use Rattle.label_command.proofs.LinesTold.{answered_whole, are_answered, whole_read}
 use Rattle.label_command.proofs.ShortLines.{LabelLaws, says_a_label}
 
 -- what the laws of lines and steps say
@@ -44,6 +44,9 @@ pub record AnswerLaws : Type 0 where
   pub stepped : (a : Address) (steps : ℤ) → ((step a steps).count ≡ a.count) × IsLabel (step a steps)
   pub none : (a : Address) → IsLabel a → step a (pos 0) ≡ a
   pub sum : (a : Address) (j k : ℤ) → step (step a j) k ≡ step a (j +ℤ k)
+
+abbrev ok : Address → Result Address ℕ
+ok a = Ok a
 
 -- a label of the count of a timebase
 record IsOf (base : Timebase) (a : Address) : Type 0 where
@@ -69,30 +72,57 @@ digits_no_newline (c ∷ ds) all =
 number_no_newline : (n : ℕ) → n < 2 ^ 64 → IsLine (decimal n)
 number_no_newline n fits = digits_no_newline (decimal n) (digits_decimal own n fits)
 
-above : (n : ℕ) → 48 + n ≢ 10
+-- the byte is no newline
+abbrev IsOther : ℕ → Type 0
+IsOther byte = byte ≢ 10
+
+above : (n : ℕ) → IsOther (48 + n)
 above n newline = omega (arith, newline)
 
-digits_in_line : (n : ℕ) (more : List ℕ) → IsLine more → IsLine (two_digits n ++ more)
-digits_in_line n more is = (above (n / 10), (above (n % 10), is))
+point : IsOther 46
+point newline = omega (arith, newline)
 
-colon : 58 ≢ 10
+colon : IsOther 58
 colon newline = omega (arith, newline)
 
-mark : (count : Count) → separator count ≢ 10
+mark : (count : Count) → IsOther (separator count)
 mark counts.C24 newline = omega (arith, newline)
 mark counts.C25 newline = omega (arith, newline)
 mark counts.C30 newline = omega (arith, newline)
 mark counts.Drop30 newline = omega (arith, newline)
 
+digits_no_newline_in : (n : ℕ) → IsLine (two_digits n)
+digits_no_newline_in n = (above (n / 10), (above (n % 10), tt))
+
 text_no_newline : (a : Address) → IsLine (text_of a)
-text_no_newline a =
-    digits_in_line a.hours _ (colon, digits_in_line a.minutes _ (colon, digits_in_line a.seconds _
-    (mark a.count, digits_in_line a.frames [] tt)))
+text_no_newline a = (
+  above (a.hours / 10),
+  (
+    above (a.hours % 10),
+    (
+      colon,
+      (
+        above (a.minutes / 10),
+        (
+          above (a.minutes % 10),
+          (
+            colon,
+            (
+              above (a.seconds / 10),
+              (above (a.seconds % 10), (mark a.count, digits_no_newline_in a.frames)),
+            ),
+          ),
+        ),
+      ),
+    ),
+  ),
+)
 
 seconds_no_newline : (m : ℕ) → m < 2 ^ 64 → IsLine (seconds_text m)
 seconds_no_newline m fits =
-    two_lines (λ (byte : ℕ). byte ≢ 10) (decimal (m / 1000)) _ (number_no_newline (m / 1000) (omega (arith, fits)))
-    ((λ newline. omega (arith, newline)), (above (m % 1000 / 100), (above (m % 100 / 10), (above (m % 100 % 10), tt))))
+    two_lines IsOther (decimal (m / 1000) ++ 46 ∷ []) ((48 + m % 1000 / 100) ∷ two_digits (m % 100))
+    (two_lines IsOther (decimal (m / 1000)) (46 ∷ []) (number_no_newline (m / 1000) (omega (arith, fits))) (point, tt))
+    (above (m % 1000 / 100), digits_no_newline_in (m % 100))
 
 -- ---- it says the label
 
@@ -189,6 +219,94 @@ lines_say_labels laws base (line ∷ lines) (a ∷ labels) say =
 -- ---- two ways
 
 -- what the second way answers to the label that the first one told
-two_answers : AnswerLaws → (base : Timebase) (first second whole : Way) (a : Address) → AreTogether first second whole
-    → IsOf base a → answer base second (label_told first a) ≡ answer base whole a
-two_answers laws base first second whole a together is = ?
+two_answers : AnswerLaws → (base : Timebase) (first next whole : Way) (a : Address) → AreTogether first next whole
+    → IsOf base a → answer base next (label_told first a) ≡ answer base whole a
+two_answers laws base ways.Number next whole a together is = ap (λ (way : Way). answer base way a) together
+two_answers laws base ways.Label next whole a together is = ap (λ (way : Way). answer base way a) together
+two_answers laws base ways.Seconds next whole a together is = ap (λ (way : Way). answer base way a) together
+two_answers laws base (ways.Plus m) (ways.Plus n) whole a together is =
+    let sum : pos m +ℤ pos n ≡ pos (m + n) = omega (arith, ints) in
+    ap text_of (laws.sum a (pos m) (pos n) ∙ ap (step a) sum) ∙ ap (λ (way : Way). answer base way a) (sym together)
+two_answers laws base (ways.Minus m) (ways.Minus n) whole a together is =
+    let sum : neg_ℤ (pos m) +ℤ neg_ℤ (pos n) ≡ neg_ℤ (pos (m + n)) = omega (arith, ints) in
+    ap text_of (laws.sum a (neg_ℤ (pos m)) (neg_ℤ (pos n)) ∙ ap (step a) sum)
+    ∙ ap (λ (way : Way). answer base way a) (sym together)
+two_answers laws base (ways.Plus m) (ways.Minus n) whole a together is =
+    let same = together.0 in
+    let sum : pos m +ℤ neg_ℤ (pos n) ≡ pos 0 = omega (arith, ints, same) in
+    ap text_of (laws.sum a (pos m) (neg_ℤ (pos n)) ∙ ap (step a) sum ∙ laws.none a is.label)
+    ∙ ap (λ (way : Way). answer base way a) (sym together.1)
+two_answers laws base (ways.Minus m) (ways.Plus n) whole a together is =
+    let same = together.0 in
+    let sum : neg_ℤ (pos m) +ℤ pos n ≡ pos 0 = omega (arith, ints, same) in
+    ap text_of (laws.sum a (neg_ℤ (pos m)) (pos n) ∙ ap (step a) sum ∙ laws.none a is.label)
+    ∙ ap (λ (way : Way). answer base way a) (sym together.1)
+two_answers laws base first next whole a together is = absurd together
+
+says_one : (first next whole : Way) → AreTogether first next whole → SaysALabel first
+says_one ways.Number next whole together = tt
+says_one ways.Label next whole together = tt
+says_one ways.Seconds next whole together = tt
+says_one (ways.Plus m) next whole together = tt
+says_one (ways.Minus m) next whole together = tt
+says_one first next whole together = absurd together
+
+all_two_answers : AnswerLaws → (base : Timebase) (first next whole : Way) (labels : List Address)
+    → AreTogether first next whole → AllByRecursion (IsOf base) labels
+    → answers (label_run_of base next) (map (label_told first) labels) ≡ answers (label_run_of base whole) labels
+all_two_answers laws base first next whole [] together all = refl
+all_two_answers laws base first next whole (a ∷ labels) together all =
+    ap₂ (λ (line more : List ℕ). (line ++ codes "\n") ++ more)
+    (two_answers laws base first next whole a together all.0)
+    (all_two_answers laws base first next whole labels together all.1)
+
+-- ---- what is answered to answers
+
+pub answered_again : AnswerLaws → (run : LabelRunning) (bytes written : List ℕ) → IsInput (along_labels run) bytes
+    → Meaning.output (along_labels run) bytes written → IsAnsweredAgain run bytes written
+answered_again laws run bytes written input output = λ next whole together again writes.
+    let base = run.base in
+    let behind = label_run_of base next in
+    let p = are_answered laws.labels run bytes written input output in
+    let read = whole_read laws.labels base bytes p.lines p.labels p.text p.few p.say in
+    let all = lines_say_labels laws.labels base p.lines p.labels p.say in
+    let says = says_one run.way next whole together in
+    let lines = map (answer base run.way) p.labels in
+    let has = subst (λ (text : List ℕ). HasLines text lines) (sym p.are)
+    (answers_have_lines laws base run.way p.labels says all) in
+    let one = ap (length {A = Result Address ℕ}) p.say in
+    let few = p.few in
+    let within : length lines ≤ MAX_LINES = omega (arith, one, few, length-map p.lines (read_line base),
+        length-map p.labels (λ (a : Address). ok a), length-map p.labels (answer base run.way)) in
+    let told = answered_whole laws.labels behind written lines (map (label_told run.way) p.labels) has within
+    (answers_say laws base run.way p.labels says all) in
+    record {
+      input = told.0;
+      output = writes.output ∙ ap (answers (label_run_of base whole)) read.all
+          ∙ sym (all_two_answers laws base run.way next whole p.labels together all)
+          ∙ told.1;
+    }
+
+-- a sum of nothing
+no_steps : AnswerLaws → (base : Timebase) (labels : List Address) → AllByRecursion (IsOf base) labels
+    → answers (label_run_of base ways.Label) labels ≡ answers (label_run_of base (ways.Plus 0)) labels
+no_steps laws base [] all = refl
+no_steps laws base (a ∷ labels) all =
+    ap₂ (λ (line more : List ℕ). (line ++ codes "\n") ++ more) (ap text_of (sym (laws.none a all.0.label)))
+    (no_steps laws base labels all.1)
+
+pub nothing_added : AnswerLaws → (base : Timebase) (bytes written : List ℕ) → Writes base ways.Label bytes written
+    → Writes base (ways.Plus 0) bytes written
+nothing_added laws base bytes written writes =
+    let p = are_answered laws.labels (label_run_of base ways.Label) bytes written writes.input writes.output in
+    let read = whole_read laws.labels base bytes p.lines p.labels p.text p.few p.say in
+    let all = lines_say_labels laws.labels base p.lines p.labels p.say in
+    record {
+      input = record {
+        verdict = writes.input.verdict;
+        unspent = λ spent. spent;
+        end = writes.input.end;
+      };
+      output = p.are ∙ no_steps laws base p.labels all
+          ∙ ap (answers (label_run_of base (ways.Plus 0))) (sym read.all);
+    }

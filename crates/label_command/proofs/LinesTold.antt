@@ -134,7 +134,7 @@ said base n (line ∷ lines) within = elim (cases_lt MAX_LINES n) [
 
 -- ---- and their text is read so
 
-whole_read : LabelLaws → (base : Timebase) (text : List ℕ) (lines : List (List ℕ)) (labels : List Address)
+pub whole_read : LabelLaws → (base : Timebase) (text : List ℕ) (lines : List (List ℕ)) (labels : List Address)
     → HasLines text lines → length lines ≤ MAX_LINES → SayLabels base lines labels
     → IsReadSo (reading_of base text) labels
 whole_read laws base text lines labels has few say =
@@ -354,6 +354,12 @@ keeps laws run text written lines has input output (inr (inr many)) =
     absurd (no_good_past (reading_of run.base text).verdict
     (is_good Labels (reading_of run.base text).verdict input.verdict) read.is_past)
 
+pub are_answered : LabelLaws → (run : LabelRunning) (text written : List ℕ) → IsInput (along_labels run) text
+    → Meaning.output (along_labels run) text written → AnswersTheLines run text written
+are_answered laws run text written input output =
+    let split = lines_of_text text in
+    keeps laws run text written split.0 split.1 input output (said run.base 1 split.0 (omega arith))
+
 -- what a promise names are the labels of the bytes
 named : LabelLaws → (run : LabelRunning) (text written : List ℕ) → AnswersTheLines run text written
     → written ≡ answers run (labels_of run.base text)
@@ -370,7 +376,5 @@ lines_are_lawful laws run command = record {
 pub lines_are_told : LabelLaws → (run : LabelRunning) → IsLawful (told_labels run) → IsTold (told_labels run)
 lines_are_told laws run lawful = record {
   lawful = lawful;
-  kept = λ text written are input output.
-      let split = lines_of_text text in
-      keeps laws run text written split.0 split.1 input output (said run.base 1 split.0 (omega arith));
+  kept = λ text written are input output. are_answered laws run text written input output;
 }

@@ -29,16 +29,16 @@ label_told way label = label
 -- what the second way answers to the answers of the first is what this way answers: a number, a label and seconds say
 -- the label itself, sums add up, and the same sum is undone
 abbrev pub AreTogether : Way → Way → Way → Type 0
-AreTogether ways.Number second whole = second ≡ whole
-AreTogether ways.Label second whole = second ≡ whole
-AreTogether ways.Seconds second whole = second ≡ whole
+AreTogether ways.Number next whole = next ≡ whole
+AreTogether ways.Label next whole = next ≡ whole
+AreTogether ways.Seconds next whole = next ≡ whole
 AreTogether (ways.Plus m) (ways.Plus n) whole = whole ≡ ways.Plus (m + n)
 AreTogether (ways.Minus m) (ways.Minus n) whole = whole ≡ ways.Minus (m + n)
 AreTogether (ways.Plus m) (ways.Minus n) whole = (n ≡ m) × (whole ≡ ways.Label)
 AreTogether (ways.Minus m) (ways.Plus n) whole = (n ≡ m) × (whole ≡ ways.Label)
-AreTogether first second whole = ⊥
+AreTogether first next whole = ⊥
 
 -- what is written of what was written is what another way writes of the bytes themselves
 abbrev pub IsAnsweredAgain : LabelRunning → List ℕ → List ℕ → Type 0
-IsAnsweredAgain run bytes written = (second whole : Way) → AreTogether run.way second whole → (again : List ℕ)
-    → Writes run.base whole bytes again → Writes run.base second written again
+IsAnsweredAgain run bytes written = (next whole : Way) → AreTogether run.way next whole → (again : List ℕ)
+    → Writes run.base whole bytes again → Writes run.base next written again
