@@ -1,5 +1,6 @@
 pub mod AnswersGrow
 pub mod AnswersRead
+pub mod BackFromAFaster
 pub mod LabelsAreCommand
 pub mod LinesRead
 pub mod LinesTold

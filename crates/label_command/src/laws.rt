@@ -1,13 +1,19 @@
 //! What follows from the definitions alone: that a text is answered line by line, and what is answered to answers.
-ghost use Rattle.std.specs.Prelude.{◌≡◌, ℕ, ◌+◌, ◌*◌, ◌<◌, ◌≤◌, List, [], ◌∷◌, ◌++◌, Option, Some, codes, length};
+ghost use Rattle.std.specs.Prelude.{◌≡◌, ℕ, ◌+◌, ◌*◌, ◌<◌, ◌≤◌, List, [], ◌∷◌, ◌++◌, Option, Some, codes, decimal, length};
 ghost use Rattle.label_command.specs.AnsweredAgain.{IsAnsweredAgain, Writes};
 ghost use Rattle.label_command.specs.Labels.{IsRefusedAtALine, along_labels, answers};
+ghost use Rattle.label_command.specs.ThereAndBack.{BeginBefore, BeginTogether, IsAsFast, IsLabelOf};
 ghost use Rattle.label_command.specs.TextLines.{HasLines, IsFirstRefused, SayLabels};
 ghost use Rattle.label_lines.specs.declared.timebase.Timebase.{Timebase};
-ghost use Rattle.label_lines.specs.declared.way.Way.TheVariants.{Label, Plus};
+ghost use Rattle.label_lines.specs.declared.way.Way.TheVariants.{Label, Plus, To};
+ghost use Rattle.label_lines.specs.Answer.{answer, label_from_midnight};
+ghost use Rattle.label_lines.specs.Timebase.{rate_of};
 ghost use Rattle.label_text.specs.declared.fault.LineFault.{LineFault};
 ghost use Rattle.label_text.specs.declared.reader.TheConstants.{MAX_LINES};
-ghost use Rattle.tc_address.specs.Label.{Address};
+ghost use Rattle.real_time.specs.Moment.{shown_at};
+ghost use Rattle.tc_address.specs.Label.{Address, IsLabel};
+ghost use Rattle.tc_address.specs.Numbering.{number_of};
+ghost use Rattle.tc_address.specs.Spelling.{text_of};
 ghost use Rattle.tc_command.specs.Meaning.{IsInput, Meaning};
 ghost use Rattle.tc_command.specs.Stops.{StopsAlong};
 ghost use Rattle.tc_command.specs.declared.input_fault.InputFault.{InputFault};
@@ -16,6 +22,7 @@ ghost use Rattle.tc_command.specs.declared.stop.Stop.TheVariants.{Limit, Refused
 ghost use Rattle.tc_job.specs.LabelRun.{LabelRunning};
 
 use label_lines::laws::what_is_written_is_read;
+use real_time::laws::a_frame_comes_back_from_a_faster_rate;
 use tc_address::laws::{
     a_step_moves_the_number, a_text_is_read_as_its_label, number_and_label_are_inverse,
     steps_add_up,
@@ -62,5 +69,24 @@ pub fn answers_are_answered_again()
     a_step_moves_the_number();
     steps_add_up();
     a_text_is_read_as_its_label();
+    number_and_label_are_inverse();
+}
+
+/// A label lies as many frames after midnight as its number says. By `to`, it comes back from another count: from the
+/// label that begins at the same moment, and, where the frames of that count run as fast or faster, from the one behind
+/// that which is shown there, if that began before.
+pub fn a_label_comes_back_from_a_faster_count()
+    ensures midnight { (label : Address) → IsLabel label → label_from_midnight label.count (number_of label) ≡ label }
+    ensures together { (base other : Timebase) (label there : Address) → IsLabelOf base label → IsLabelOf other there
+        → BeginTogether other (number_of there) base (number_of label)
+        → answer other (To base) there ≡ text_of label ++ codes " " ++ decimal 0 }
+    ensures behind { (base other : Timebase) (label there : Address) → IsLabelOf base label → IsLabelOf other there
+        → IsAsFast base other → (shown : ℕ) → number_of there ≡ shown + 1
+        → shown ≡ shown_at (rate_of base) (number_of label) (rate_of other)
+        → BeginBefore other shown base (number_of label)
+        → (passed : ℕ) × (answer other (To base) there ≡ text_of label ++ codes " " ++ decimal passed) }
+{
+    a_frame_comes_back_from_a_faster_rate();
+    a_step_moves_the_number();
     number_and_label_are_inverse();
 }
