@@ -1,3 +1,4 @@
+mod Examples
 pub mod AnswersGrow
 pub mod AnswersRead
 pub mod BackFromAFaster
