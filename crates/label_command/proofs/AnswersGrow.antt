@@ -23,7 +23,7 @@ use Rattle.tc_command.specs.declared.stop.Stop.TheVariants as stops
 use Rattle.tc_command.specs.Meaning.{IsInput, Shows}
 use Rattle.tc_command.specs.Stops.{IsStop, Stops}
 use Rattle.tc_io.specs.Sink.{AppendsFront}
-use Rattle.tc_io.specs.Verdict.{Verdict, good, past_limit, refused, verdict_as}
+use Rattle.tc_io.specs.Verdict.{good, past_limit, verdict_as}
 use Rattle.tc_io.specs.VerdictLemmas.{good_too}
 use Rattle.tc_job.specs.LabelRun.{LabelRunning}
 

@@ -1,8 +1,8 @@
 -- What is answered in a way that says labels is a text of lines that say them, so it is answered again.
-use Rattle.std.proofs.Common.{◌≡◌, ℕ, ◌+◌, ◌-◌, ◌*◌, ◌/◌, ◌%◌, ◌<◌, ◌≤◌, ◌^◌, List, [], ◌∷◌, ◌++◌, length, map, refl, sym}
+use Rattle.std.proofs.Common.{◌≡◌, ℕ, ◌+◌, ◌/◌, ◌%◌, ◌<◌, ◌≤◌, ◌^◌, List, [], ◌∷◌, ◌++◌, length, map, refl, sym}
 use Rattle.std.proofs.Common.{ap, ap₂, ◌∙◌, subst, arith, append-nil}
-use Rattle.std.specs.Prelude.{◌≢◌, ℤ, pos, neg_ℤ, ◌+ℤ◌, Result, Ok, Err, decimal, codes, Some, slice_get}
-use Rattle.std.specs.List.{AllByRecursion, flat_map}
+use Rattle.std.specs.Prelude.{◌≢◌, ℤ, pos, neg_ℤ, ◌+ℤ◌, Result, Ok, decimal, codes}
+use Rattle.std.specs.List.{AllByRecursion}
 use Rattle.std.specs.Str.Parse.{AllDigits, digits_value}
 use Rattle.std.proofs.lemmas.Fmt.{digits_decimal}
 use Rattle.std.proofs.lemmas.Int.{ints}
@@ -17,7 +17,7 @@ use Rattle.tc_address.specs.Numbering.{day_length, number_of, step}
 use Rattle.tc_address.specs.Spelling.{separator, text_of, two_digits}
 use Rattle.tc_command.specs.Meaning.{IsInput, Meaning}
 use Rattle.tc_job.specs.LabelRun.{LabelRunning, label_run_of}
-use Rattle.label_lines.specs.Answer.{answer, answer_line, seconds_text}
+use Rattle.label_lines.specs.Answer.{answer, seconds_text}
 use Rattle.label_lines.specs.declared.timebase.Timebase.{Timebase}
 use Rattle.label_lines.specs.declared.timebase.Timebase.TheVariants.{F24, PulledDown24, F25, F30, PulledDown30, Drop30}
 use Rattle.label_lines.specs.declared.way.Way.{Way}
@@ -25,9 +25,8 @@ use Rattle.label_lines.specs.declared.way.Way.TheVariants as ways
 use Rattle.label_lines.specs.Line.{read_line}
 use Rattle.label_lines.specs.Timebase.{count_of, rate_of}
 use Rattle.label_text.specs.declared.reader.TheConstants.{MAX_LINES}
-use Rattle.label_text.specs.LabelText.{labels_of}
 use Rattle.label_command.specs.AnsweredAgain.{AreTogether, IsAnsweredAgain, SaysALabel, Writes, label_told}
-use Rattle.label_command.specs.Labels.{AnswersTheLines, along_labels, answers}
+use Rattle.label_command.specs.Labels.{along_labels, answers}
 use Rattle.label_command.specs.TextLines.{HasLines, IsLine, SayLabels, ended}
 use Rattle.label_command.proofs.LinesTold.{answered_whole, are_answered, whole_read}
 use Rattle.label_command.proofs.ShortLines.{LabelLaws, says_a_label}
@@ -276,8 +275,14 @@ answered_again laws run bytes written input output = λ next whole together agai
     (answers_have_lines laws base run.way p.labels says all) in
     let one = ap (length {A = Result Address ℕ}) p.say in
     let few = p.few in
-    let within : length lines ≤ MAX_LINES = omega (arith, one, few, length-map p.lines (read_line base),
-        length-map p.labels (λ (a : Address). ok a), length-map p.labels (answer base run.way)) in
+    let within : length lines ≤ MAX_LINES = omega (
+      arith,
+      one,
+      few,
+      length-map p.lines (read_line base),
+      length-map p.labels (λ (a : Address). ok a),
+      length-map p.labels (answer base run.way),
+    ) in
     let told = answered_whole laws.labels behind written lines (map (label_told run.way) p.labels) has within
     (answers_say laws base run.way p.labels says all) in
     record {

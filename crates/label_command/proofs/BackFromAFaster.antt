@@ -1,10 +1,9 @@
 -- The first label of a day is midnight, so a label lies as many frames after midnight as its number says; and by real
 -- time it comes back from a count as fast or faster.
-use Rattle.std.proofs.Common.{◌≡◌, ℕ, ◌+◌, ◌-◌, ◌*◌, ◌/◌, ◌%◌, ◌<◌, ◌≤◌, true, false, not, List, [], ◌∷◌, ◌++◌, refl, sym}
+use Rattle.std.proofs.Common.{◌≡◌, ℕ, ◌+◌, ◌*◌, ◌/◌, ◌%◌, ◌<◌, ◌≤◌, true, false, not, List, ◌∷◌, ◌++◌, refl, sym}
 use Rattle.std.proofs.Common.{ap, ap₂, ◌∙◌, subst, arith}
 use Rattle.std.specs.Prelude.{codes, decimal, ℤ, pos, slice_get, Some}
-use Rattle.std.specs.List.{filter, flat_map, position_or_len, range_with_len}
-use Rattle.std.specs.Option.{unwrap_or}
+use Rattle.std.specs.List.{filter, flat_map, range_with_len}
 use Rattle.std.proofs.Math.Nat.{div-add-mod', div-eq_of_lt-le, div-mul-le_self, mod-eq_of_lt, mul_assoc}
 use Rattle.std.proofs.Math.Nat.{mul-mod_left, mul-pos, zero-div}
 use Rattle.std.proofs.lemmas.Option.{same_Some}
@@ -19,7 +18,7 @@ use Rattle.tc_address.specs.declared.count.Count.TheVariants.{C24, C25, C30, Dro
 use Rattle.tc_address.specs.Label.{Address, IsLabel, address, addresses, hour_of, is_dropped, labels, minute_of, second_of}
 use Rattle.tc_address.specs.Numbering.{day_length, is_same_time, number_of, step}
 use Rattle.tc_address.specs.Spelling.{text_of}
-use Rattle.label_lines.specs.Answer.{answer, label_from_midnight, shown_text}
+use Rattle.label_lines.specs.Answer.{answer, label_from_midnight}
 use Rattle.label_lines.specs.declared.timebase.Timebase.{Timebase}
 use Rattle.label_lines.specs.declared.way.Way.TheVariants.{To}
 use Rattle.label_lines.specs.Timebase.{count_of, rate_of}

@@ -1,8 +1,8 @@
 -- A text of two lines that say labels, and one whose second line says none: what is supposed of a text and its lines can
 -- be met.
-use Rattle.std.proofs.Common.{◌≡◌, ℕ, true, not, List, [], ◌∷◌, ◌++◌, refl, arith}
-use Rattle.std.specs.Prelude.{◌==◌, codes, Ok, Err, IsTrue}
-use Rattle.std.specs.List.{AllByRecursion, list_all}
+use Rattle.std.proofs.Common.{◌≡◌, ℕ, true, not, List, [], ◌∷◌, refl, arith}
+use Rattle.std.specs.Prelude.{◌==◌, codes}
+use Rattle.std.specs.List.{list_all}
 use Rattle.std.proofs.lemmas.Bool.{and_parts, eqb-false, not-true}
 use Rattle.tc_address.specs.declared.count.Count.TheVariants.{C25}
 use Rattle.tc_address.specs.Label.{Address, address}

@@ -1,22 +1,21 @@
 -- What the bytes of a text say is what its lines say: a label each, up to the first line that says none.
-use Rattle.std.proofs.Common.{◌≡◌, ◌⊎◌, ℕ, zero, suc, ◌+◌, ◌<◌, ◌≤◌, true, false, List, [], ◌∷◌, ◌++◌, length, take, map}
+use Rattle.std.proofs.Common.{◌≡◌, ◌⊎◌, ℕ, zero, suc, ◌+◌, ◌<◌, ◌≤◌, List, [], ◌∷◌, ◌++◌, length, take}
 use Rattle.std.proofs.Common.{inl, inr, refl, sym, ap, ◌∙◌, subst, append_assoc, append-nil, length-append, arith}
-use Rattle.std.specs.Prelude.{◌≢◌, ◌==◌, nat_lt, codes, Option, Some, None, Result, Ok, Err}
+use Rattle.std.specs.Prelude.{◌≢◌, Some, None, Ok, Err}
 use Rattle.std.specs.List.{AllByRecursion}
 use Rattle.std.proofs.lemmas.Bool.{cases_lt, le-ltb, lt-ltb, ne_eqb}
 use Rattle.std.proofs.lemmas.List.{length-take-le}
 use Rattle.lemmas.specs.Lists.{front_keeps}
 use Rattle.tc_address.specs.Label.{Address}
-use Rattle.tc_io.specs.Verdict.{Verdict, good, past_limit, refused}
+use Rattle.tc_io.specs.Verdict.{good, past_limit, refused}
 use Rattle.label_lines.specs.declared.timebase.Timebase.{Timebase}
 use Rattle.label_lines.specs.Line.{read_line, wrong_column}
 use Rattle.label_lines.specs.Timebase.{count_of}
 use Rattle.label_text.specs.declared.fault.LineFault.{LineFault}
-use Rattle.label_text.specs.declared.reader.LineRead.{LineRead}
 use Rattle.label_text.specs.declared.reader.LineRead.TheVariants.{Nothing, Label, Fault, Limit}
 use Rattle.label_text.specs.declared.reader.TheConstants.{MAX_LINE, MAX_LINES}
-use Rattle.label_text.specs.LabelText.{Place, Reading, after, at_end, ended_at, fault_at, fault_said, label_or_fault}
-use Rattle.label_text.specs.LabelText.{label_said, line_said, place_at, reading_from, said_by, then_read, with_labels}
+use Rattle.label_text.specs.LabelText.{Place, Reading, at_end, ended_at, fault_at, fault_said, label_or_fault}
+use Rattle.label_text.specs.LabelText.{label_said, line_said, place_at, reading_from, said_by, with_labels}
 use Rattle.label_command.specs.TextLines.{IsLine, SayLabels, ended, last_line}
 use Rattle.label_command.proofs.AnswersGrow.{nothing_behind, said_so}
 use Rattle.label_command.proofs.ShortLines.{LabelLaws, read_front, refused_column, says_in_eleven}

@@ -1,10 +1,9 @@
 -- The lines of a text are answered one by one: all of them, or those before the first that says no label, or as many as
 -- are read.
-use Rattle.std.proofs.Common.{◌≡◌, ◌⊎◌, ℕ, ◌+◌, ◌<◌, ◌≤◌, List, [], ◌∷◌, ◌++◌, length, map, inl, inr, refl, sym, ap}
+use Rattle.std.proofs.Common.{◌≡◌, ◌⊎◌, ℕ, ◌+◌, ◌≤◌, List, [], ◌∷◌, ◌++◌, length, inl, inr, refl, sym, ap}
 use Rattle.std.proofs.Common.{ap₂, ◌∙◌, subst, arith}
 use Rattle.std.specs.Prelude.{Option, Some, None, Result, Ok, Err}
 use Rattle.std.specs.Option.{option_map}
-use Rattle.std.specs.Io.KnownBytes.{IsAtEnd}
 use Rattle.std.proofs.lemmas.Bool.{cases_lt}
 use Rattle.tc_address.specs.Label.{Address}
 use Rattle.tc_command.specs.Command.{IsCommand}
@@ -14,7 +13,6 @@ use Rattle.tc_command.specs.declared.stop.Stop.TheVariants as stops
 use Rattle.tc_command.specs.Meaning.{IsInput, Meaning}
 use Rattle.tc_command.specs.Stops.{StopsAlong}
 use Rattle.tc_command.specs.Told.{IsLawful, IsTold}
-use Rattle.tc_io.specs.Bytes.{AreBytes}
 use Rattle.tc_io.specs.Verdict.{Verdict, good, past_limit, refused, verdict_as}
 use Rattle.tc_io.specs.VerdictLemmas.{ends_whole, good_too, is_good, is_refused}
 use Rattle.tc_job.specs.LabelRun.{LabelRunning}
@@ -22,7 +20,7 @@ use Rattle.label_lines.specs.declared.timebase.Timebase.{Timebase}
 use Rattle.label_lines.specs.Line.{read_line}
 use Rattle.label_text.specs.declared.fault.LineFault.{LineFault}
 use Rattle.label_text.specs.declared.reader.TheConstants.{MAX_LINES}
-use Rattle.label_text.specs.LabelText.{Reading, end_fault_of, labels_of, reading_of, start}
+use Rattle.label_text.specs.LabelText.{end_fault_of, labels_of, reading_of}
 use Rattle.label_command.specs.Labels.{AnswersTheLines, IsRefusedAtALine, along_labels, answers, told_labels}
 use Rattle.label_command.specs.TextLines.{HasLines, IsFirstRefused, SayLabels}
 use Rattle.label_command.proofs.LinesRead.{IsLimitedSo, IsReadSo, IsRefusedSo, limited_text, refused_text, whole_text}
@@ -96,14 +94,14 @@ said : (base : Timebase) (n : ℕ) (lines : List (List ℕ)) → n ≤ MAX_LINES
 said base n [] within = inl (record { labels = []; say = refl; few = omega (arith, within) })
 said base n (line ∷ lines) within = elim (cases_lt MAX_LINES n) [
   | inl past ↦ inr (inr (record {
-      labels = [];
-      before = [];
-      line = line;
-      behind = lines;
-      are = refl;
-      say = refl;
-      last = omega (arith, past, within);
-    }))
+    labels = [];
+    before = [];
+    line = line;
+    behind = lines;
+    are = refl;
+    say = refl;
+    last = omega (arith, past, within);
+  }))
   | inr some ↦ by_line (read_line base line) refl (said base (n + 1) lines (omega (arith, some)))
 ]
   where
@@ -111,25 +109,25 @@ said base n (line ∷ lines) within = elim (cases_lt MAX_LINES n) [
     by_line (Ok label) is more = behind_it base n line lines label is more
     by_line (Err column) is more = elim (cases_lt MAX_LINES n) [
       | inl past ↦ inr (inr (record {
-          labels = [];
-          before = [];
-          line = line;
-          behind = lines;
-          are = refl;
-          say = refl;
-          last = omega (arith, past, within);
-        }))
+        labels = [];
+        before = [];
+        line = line;
+        behind = lines;
+        are = refl;
+        say = refl;
+        last = omega (arith, past, within);
+      }))
       | inr some ↦ inr (inl (record {
-          labels = [];
-          column = column;
-          before = [];
-          line = line;
-          behind = lines;
-          are = refl;
-          say = refl;
-          none = is;
-          within = omega (arith, some);
-        }))
+        labels = [];
+        column = column;
+        before = [];
+        line = line;
+        behind = lines;
+        are = refl;
+        say = refl;
+        none = is;
+        within = omega (arith, some);
+      }))
     ]
 
 -- ---- and their text is read so

@@ -3,8 +3,6 @@ use Rattle.std.specs.Prelude.{◌≡◌, ℕ, ◌+◌, ◌-◌, ◌*◌, List, [
 use Rattle.std.proofs.Common.{◌∙◌, sym, ap, append-nil}
 use Rattle.label_command.specs.declared.labels.LabelAnswers.{LabelAnswers}
 use Rattle.label_command.specs.Labels.{along_labels, answers}
-use Rattle.label_lines.specs.Timebase.{count_of}
-use Rattle.label_lines.specs.Way.{IsWayOf}
 use Rattle.label_text.specs.declared.reader.TheConstants.{MAX_LINE, MAX_LINES}
 use Rattle.label_text.specs.LabelText.{IsPlace, Place, reading_of}
 use Rattle.tc_command.specs.Meaning.{Meaning, Shows}

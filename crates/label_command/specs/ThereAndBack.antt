@@ -1,10 +1,9 @@
 -- When labels of two counts begin, in real time. This project's own.
-use Rattle.std.specs.Prelude.{◌≡◌, ℕ, ◌+◌, ◌*◌, ◌<◌, ◌≤◌}
+use Rattle.std.specs.Prelude.{◌≡◌, ℕ, ◌*◌, ◌<◌, ◌≤◌}
 use Rattle.label_lines.specs.declared.timebase.Timebase.{Timebase}
 use Rattle.label_lines.specs.Timebase.{count_of, rate_of}
 use Rattle.real_time.specs.Rate.{frames_in, seconds_of}
 use Rattle.tc_address.specs.Label.{Address, IsLabel}
-use Rattle.tc_address.specs.Numbering.{number_of}
 
 -- it is a label of the count of a timebase
 pub record IsLabelOf (base : Timebase) (label : Address) : Type 0 where

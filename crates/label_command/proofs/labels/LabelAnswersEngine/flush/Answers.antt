@@ -1,4 +1,4 @@
-use Rattle.std.proofs.Common.{List, ℕ, [], ◌++◌, append-nil, subst}
+use Rattle.std.proofs.Common.{List, ℕ, [], append-nil, subst}
 use Rattle.tc_command.specs.KeptWorks.{err_both, if_err}
 use Rattle.tc_command.specs.Stops.{Stops}
 use Rattle.tc_command.specs.declared.stop.Stop.TheVariants as stops

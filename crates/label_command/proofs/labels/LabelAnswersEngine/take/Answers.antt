@@ -1,11 +1,8 @@
-use Rattle.std.proofs.Common.{◌≡◌, ◌∷◌, ◌++◌, [], List, ℕ, ap, subst, inl, sym, ◌∙◌, drop, get_or, take}
+use Rattle.std.proofs.Common.{◌++◌, [], List, ℕ, ap, subst, inl, sym, ◌∙◌, drop, get_or}
 use Rattle.std.proofs.KnownBytes.{Appends-nil}
 use Rattle.label_command.specs.KeptLabels.{Stands}
-use Rattle.label_command.specs.declared.labels.LabelAnswers.{LabelAnswers}
 use Rattle.label_command.specs.Labels.{along_labels}
-use Rattle.label_lines.specs.Answer.{answer_line}
 use Rattle.label_text.specs.declared.reader.LineRead.{LineRead}
-use Rattle.label_text.specs.declared.reader.LineRead.TheVariants as said
 use Rattle.label_text.specs.LabelText.{after}
 use Rattle.lemmas.specs.Lists.{first_and_rest, first_only}
 use Rattle.lemmas.specs.Results.{through}
