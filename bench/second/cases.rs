@@ -533,7 +533,10 @@ fn asked_of_labels(count: Count, d: &mut Draws) -> Vec<String> {
     let way = d.pick(&["number", "label", "plus", "minus", "since", "seconds", "to", "seconds", "to"]);
     words.push(way.into());
     match way {
-        "plus" | "minus" => words.push(d.pick(&[0, 1, 30, 1_798, count.day(), 4_294_967_295, 4_294_967_296]).to_string()),
+        "plus" | "minus" => {
+            let steps = d.pick(&[0, 1, 30, 1_798, count.day(), 4_294_967_295, 4_294_967_296]);
+            words.push(steps.to_string());
+        }
         "since" => words.push(label(count, d).text()),
         "to" => {
             let other = self::count(d);

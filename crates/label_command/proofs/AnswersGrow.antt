@@ -126,8 +126,8 @@ one_more law s q room front written stands byte label is next more put =
     }
 
 -- a front of what was gathered was pushed
-pub gathered_part : (s : LabelAnswers) (front written rest : List ℕ) (old new : Option (List ℕ)) → Stands s front written
-    → AppendsFront old new s.gathered.room.items
+pub gathered_part : (s : LabelAnswers) (front written rest : List ℕ) (old new : Option (List ℕ))
+    → Stands s front written → AppendsFront old new s.gathered.room.items
     → Stops (along_labels s.run) stops.WriteFault old new (front ++ rest) written
 gathered_part s front written rest old new stands f = (
   f.0,

@@ -194,7 +194,8 @@ answers_ended base way labels =
     ∙ flat_map-map (λ (line : List ℕ). line ++ codes "\n") (answer base way) labels)
 
 answers_have_lines : AnswerLaws → (base : Timebase) (way : Way) (labels : List Address) → SaysALabel way
-    → AllByRecursion (IsOf base) labels → HasLines (answers (label_run_of base way) labels) (map (answer base way) labels)
+    → AllByRecursion (IsOf base) labels
+    → HasLines (answers (label_run_of base way) labels) (map (answer base way) labels)
 answers_have_lines laws base way labels says all = record {
   front = map (answer base way) labels;
   rest = [];

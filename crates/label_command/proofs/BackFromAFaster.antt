@@ -15,7 +15,8 @@ use Rattle.real_time.specs.Rate.{frames_in, seconds_of}
 use Rattle.tc_address.specs.Circle.{moved}
 use Rattle.tc_address.specs.declared.count.Count.{Count}
 use Rattle.tc_address.specs.declared.count.Count.TheVariants.{C24, C25, C30, Drop30}
-use Rattle.tc_address.specs.Label.{Address, IsLabel, address, addresses, hour_of, is_dropped, labels, minute_of, second_of}
+use Rattle.tc_address.specs.Label.{Address, IsLabel, address, addresses, hour_of, is_dropped, labels, minute_of}
+use Rattle.tc_address.specs.Label.{second_of}
 use Rattle.tc_address.specs.Numbering.{day_length, is_same_time, number_of, step}
 use Rattle.tc_address.specs.Spelling.{text_of}
 use Rattle.label_lines.specs.Answer.{answer, label_from_midnight}
@@ -200,7 +201,8 @@ back_behind laws rates base other label there is is_there fast shown next is_sho
     let under = seconds_of rate * frames_in faster in
     let here = subst (λ (k : ℕ). IsShown rate (number_of label) faster k (passed_at rate (number_of label) faster))
     (sym is_shown) (is_shown_at rate faster (number_of label)) in
-    let whole = rates.behind rate faster (number_of label) shown (passed_at rate (number_of label) faster) fast here before
+    let whole = rates.behind rate faster (number_of label) shown (passed_at rate (number_of label) faster) fast here
+    before
     in
     let frame = whole_quotient ((shown + 1) * seconds_of faster * frames_in rate) under (number_of label) whole in
     let same : number_of there * seconds_of faster * frames_in rate / under ≡ number_of label =

@@ -1,5 +1,5 @@
--- A text of two lines that say labels, and one whose second line says none: what is supposed of a text and its lines can
--- be met.
+-- A text of two lines that say labels, and one whose second line says none: what is supposed of a text and its lines
+-- can be met.
 use Rattle.std.proofs.Common.{◌≡◌, ℕ, true, not, List, [], ◌∷◌, refl, arith}
 use Rattle.std.specs.Prelude.{◌==◌, codes}
 use Rattle.std.specs.List.{list_all}

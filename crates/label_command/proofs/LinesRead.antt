@@ -186,7 +186,8 @@ pub record IsRefusedSo (r : Reading) (labels : List Address) (fault : LineFault)
   pub told : (r.verdict ≡ refused fault) ⊎ ((r.verdict ≡ good) × (fault_said (at_end r.place) ≡ Some fault))
   pub all : r.labels ≡ labels
 
-refused_before : (label : Address) (r : Reading) (labels : List Address) (fault : LineFault) → IsRefusedSo r labels fault
+refused_before : (label : Address) (r : Reading) (labels : List Address) (fault : LineFault)
+    → IsRefusedSo r labels fault
     → IsRefusedSo (with_labels (label ∷ []) r) (label ∷ labels) fault
 refused_before label r labels fault is =
     record { told = is.told; all = ap (λ (l : List Address). label ∷ l) is.all }
@@ -241,7 +242,8 @@ pub refused_text : LabelLaws → (base : Timebase) (n : ℕ) (front : List (List
 refused_text laws base n [] [] [] line behind labels column each last are say said k place within = absurd cc
 refused_text laws base n [] [] (first ∷ before) line behind labels column each last are say said k place within =
     absurd cc
-refused_text laws base n [] (byte ∷ bytes) [] line behind (label ∷ labels) column each last are say said k place within =
+refused_text laws base n [] (byte ∷ bytes) [] line behind (label ∷ labels) column each last are say said k place
+    within =
     absurd cc
 refused_text laws base n [] (byte ∷ bytes) [] line behind [] column each last are say said k place within =
     let same : line ≡ byte ∷ bytes = cc in
@@ -249,7 +251,8 @@ refused_text laws base n [] (byte ∷ bytes) [] line behind [] column each last 
     subst (λ (m : ℕ). IsRefusedSo (reading_from (place_at base n []) (byte ∷ bytes)) [] (fault_in m column)) (sym here)
     (last_refused laws base n byte bytes column (omega (arith, here, within)) last
     (ap (read_line base) (sym same) ∙ said))
-refused_text laws base n [] (byte ∷ bytes) (first ∷ []) line behind labels column each last are say said k place within =
+refused_text laws base n [] (byte ∷ bytes) (first ∷ []) line behind labels column each last are say said k place
+    within =
     absurd cc
 refused_text laws base n [] (byte ∷ bytes) (first ∷ next ∷ before) line behind labels column each last are say said k
     place within = absurd cc
@@ -258,7 +261,8 @@ refused_text laws base n (l ∷ front) rest [] line behind (label ∷ labels) co
 refused_text laws base n (l ∷ front) rest [] line behind [] column each last are say said k place within =
     let same : line ≡ l = cc in
     let here : k ≡ n = omega (arith, place) in
-    subst (λ (m : ℕ). IsRefusedSo (reading_from (place_at base n []) (ended (l ∷ front) ++ rest)) [] (fault_in m column))
+    subst (λ (m : ℕ). IsRefusedSo (reading_from (place_at base n []) (ended (l ∷ front) ++ rest)) []
+    (fault_in m column))
     (sym here)
     (subst (λ (bytes : List ℕ). IsRefusedSo (reading_from (place_at base n []) bytes) [] (fault_in n column))
     (sym (ended_first l front rest))
@@ -276,7 +280,8 @@ refused_text laws base n (l ∷ front) rest (first ∷ before) line behind (labe
     subst (λ (r : Reading). IsRefusedSo r (label ∷ labels) (fault_in k column))
     (sym (ap (reading_from (place_at base n [])) (ended_first l front rest)
     ∙ label_read laws base n l (ended front ++ rest) label (omega (arith, place, within)) each.0 l_said))
-    (refused_before label (reading_from (place_at base (n + 1) []) (ended front ++ rest)) labels (fault_in k column) next)
+    (refused_before label (reading_from (place_at base (n + 1) []) (ended front ++ rest)) labels (fault_in k column)
+    next)
 
 -- ---- a text of more lines than are read
 
@@ -321,7 +326,8 @@ limited_text laws base n (l ∷ front) rest (first ∷ before) line behind (labe
     let same : first ≡ l = cc in
     let first_said : read_line base first ≡ Ok label = cc in
     let l_said : read_line base l ≡ Ok label = ap (read_line base) (sym same) ∙ first_said in
-    let next = limited_text laws base (n + 1) front rest before line behind labels each.1 (cc) (cc) (omega (arith, place)) in
+    let next = limited_text laws base (n + 1) front rest before line behind labels each.1 (cc) (cc)
+    (omega (arith, place)) in
     subst (λ (r : Reading). IsLimitedSo r (label ∷ labels))
     (sym (ap (reading_from (place_at base n [])) (ended_first l front rest)
     ∙ label_read laws base n l (ended front ++ rest) label (omega (arith, place)) each.0 l_said))

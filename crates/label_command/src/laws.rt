@@ -1,5 +1,6 @@
 //! What follows from the definitions alone: that a text is answered line by line, and what is answered to answers.
-ghost use Rattle.std.specs.Prelude.{◌≡◌, ℕ, ◌+◌, ◌*◌, ◌<◌, ◌≤◌, List, [], ◌∷◌, ◌++◌, Option, Some, codes, decimal, length};
+ghost use Rattle.std.specs.Prelude.{◌≡◌, ℕ, ◌+◌, ◌*◌, ◌<◌, ◌≤◌, List, [], ◌∷◌, ◌++◌, Option, Some};
+ghost use Rattle.std.specs.Prelude.{codes, decimal, length};
 ghost use Rattle.label_command.specs.AnsweredAgain.{IsAnsweredAgain, Writes};
 ghost use Rattle.label_command.specs.Labels.{IsRefusedAtALine, along_labels, answers};
 ghost use Rattle.label_command.specs.ThereAndBack.{BeginBefore, BeginTogether, IsAsFast, IsLabelOf};

@@ -16,9 +16,9 @@ use tc_address::laws::number_and_label_are_inverse;
 use tc_job::Job;
 use tc_words::laws::{each_command_has_its_usage, each_form_is_taken};
 
-/// What is sent is read as the frames of the file, the report of a copy is that of its frames, what is sounded is sliced
-/// into its intervals again, what is told of labels and of commands is taken as words, and what is answered to labels is
-/// answered again.
+/// What is sent is read as the frames of the file, the report of a copy is that of its frames, what is sounded is
+/// sliced into its intervals again, what is told of labels and of commands is taken as words, and what is answered to
+/// labels is answered again.
 pub(crate) fn it_is_read_on(job: &Job)
     ensures { IsReadOn job.now }
 {
