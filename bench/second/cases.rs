@@ -25,7 +25,8 @@ pub fn case(seed: u64, number: u64) -> Case {
         spoil(&mut case.input, d);
         return case;
     }
-    let command = if d.one_in(40) { "number" } else { d.pick(&COMMANDS) };
+    let drawn = if d.one_in(40) { "number" } else { d.pick(&COMMANDS) };
+    let command = if number % 20 == 19 { "labels" } else { drawn };
     let mut words = vec![command.to_string()];
     words.extend(values(command, d));
     let mut input = match command {
@@ -35,6 +36,7 @@ pub fn case(seed: u64, number: u64) -> Case {
         "mtc-read" => midi(d),
         "vitc-read" => line_file(d),
         "chase" => script(&words[1], d),
+        "labels" => text_of_labels(&words[1], d),
         "ltc-make" | "ltc-load" | "vitc-make" | "label" | "number" => Vec::new(),
         _ => recording(d),
     };
@@ -149,6 +151,7 @@ fn values(command: &str, d: &mut Draws) -> Vec<String> {
         "chase" => words = vec![count.name().into(), label(count, d).text()],
         "label" => words = vec![count.name().into(), d.below(count.day() + 3).to_string()],
         "number" => words = vec![count.name().into(), label(count, d).text()],
+        "labels" => words = asked_of_labels(count, d),
         _ => {}
     }
     words.retain(|word| !word.is_empty());
@@ -549,4 +552,64 @@ fn script(count_name: &str, d: &mut Draws) -> Vec<u8> {
         text.insert(0, '\u{feff}');
     }
     text.into_bytes()
+}
+
+/// A count and what is printed of its labels.
+fn asked_of_labels(count: Count, d: &mut Draws) -> Vec<String> {
+    let mut words = pulled_at_times(count, d);
+    let way = d.pick(&["number", "label", "plus", "minus", "since", "seconds", "to", "seconds", "to"]);
+    words.push(way.into());
+    match way {
+        "plus" | "minus" => {
+            let steps = d.pick(&[0, 1, 30, 1_798, count.day(), 4_294_967_295, 4_294_967_296]);
+            words.push(steps.to_string());
+        }
+        "since" => words.push(label(count, d).text()),
+        "to" => {
+            let other = self::count(d);
+            words.extend(pulled_at_times(other, d));
+        }
+        _ => {}
+    }
+    words
+}
+
+/// A count, and `ntsc` behind it now and then, mostly where it may stand.
+fn pulled_at_times(count: Count, d: &mut Draws) -> Vec<String> {
+    let may_stand = count == Count::Of24 || count == Count::Of30;
+    let is_pulled = if may_stand { d.one_in(2) } else { d.one_in(40) };
+    let mut words = vec![count.name().to_string()];
+    if is_pulled {
+        words.push("ntsc".into());
+    }
+    words
+}
+
+/// A text of labels, in each form, nearly always of the count.
+fn text_of_labels(count_name: &str, d: &mut Draws) -> Vec<u8> {
+    let count = Count::named(count_name).unwrap_or(Count::Of25);
+    let mut text = String::new();
+    for _ in 0..d.below(40) {
+        text += &line_of(count, d);
+        text.push('\n');
+    }
+    if d.one_in(3) {
+        text.pop();
+    }
+    text.into_bytes()
+}
+
+/// A line that says a label by its text, its number or its seconds, and one time in thirty one that may say none.
+fn line_of(count: Count, d: &mut Draws) -> String {
+    let now = label(count, d);
+    match d.below(30) {
+        0 => now.text() + d.pick(&["", " ", "\r", "0", ":00"]),
+        1 => now.text().replace(d.pick(&[':', ';', '0', '5']), d.pick(&[":", ";", "9", ""])),
+        2 => d.pick(&["", "1.", "1.00", ".040", "123456.000", "12345678", "10:00:0", "-1", "x"]).into(),
+        3 => (count.day() - 2 + d.below(4)).to_string(),
+        4 => "0".repeat(d.from_to(1, 70) as usize),
+        5..=12 => format!("{:01$}", now.number(), d.from_to(0, 7) as usize),
+        13..=20 => format!("{}.{:03}", d.below(86_500), d.below(1_000)),
+        _ => now.text(),
+    }
 }

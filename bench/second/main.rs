@@ -9,6 +9,7 @@ mod fields;
 mod frames;
 mod intervals;
 mod labels;
+mod lines;
 mod made;
 mod midi;
 mod noisy;

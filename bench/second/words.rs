@@ -3,6 +3,7 @@ use crate::cells::{Told, Tolerance, events, report};
 use crate::frames::{Frame, frames, jam, lines, midi, spans};
 use crate::intervals::{File, MOST_RATE, convert, read};
 use crate::labels::{Count, Label, Way};
+use crate::lines::{Base, Printed, along_text};
 use crate::made::{Striping, load, stripe};
 use crate::run::{End, Run};
 use crate::sound::{Slicing, Threshold, make, slice, slice_track};
@@ -116,6 +117,7 @@ pub fn run(words: &[String], input: &[u8]) -> Run {
         "chase" => script(words, input),
         "number" => numbered(words),
         "label" => labelled(words),
+        "labels" => answered(words, input),
         "version" => Words::of(words, 0, 0).map(|_| Run::text("tc 1.0.0\n".into(), End::Done)),
         // (what `help` prints is no rule of a format: its cases have words behind it)
         "help" => Words::of(words, 0, 0).map(|_| Run::text(String::new(), End::Done)),
@@ -333,4 +335,50 @@ fn labelled(words: &[String]) -> Read<Run> {
     let count = w.count()?;
     let number = w.number(0, count.day() - 1)?;
     Ok(Run::text(format!("{}\n", Label::at(count, number).text()), End::Done))
+}
+
+/// `ntsc` behind a count of 24 or 30.
+fn may_be_pulled(count: Count) -> bool {
+    count == Count::Of24 || count == Count::Of30
+}
+
+fn answered(words: &[String], input: &[u8]) -> Read<Run> {
+    let is_pulled = words.get(2).is_some_and(|word| word == "ntsc");
+    let place = if is_pulled { 3 } else { 2 };
+    let way = words.get(place).ok_or("count of words")?;
+    let values = words.len() - place - 1;
+    let is_so_long = match &way[..] {
+        "number" | "label" | "seconds" => values == 0,
+        "plus" | "minus" | "since" => values == 1,
+        "to" => values == 1 || values == 2,
+        _ => true,
+    };
+    if !is_so_long {
+        return Err("count of words".into());
+    }
+    let mut w = Words { words, at: 0 };
+    let count = w.count()?;
+    if is_pulled {
+        w.value(|_| may_be_pulled(count).then_some(()))?;
+    }
+    let base = Base { count, is_pulled };
+    let way = w.value(|word| Some(word.to_string()))?;
+    let what = match &way[..] {
+        "number" => Printed::Number,
+        "label" => Printed::Text,
+        "seconds" => Printed::Seconds,
+        "plus" => Printed::Step(w.number(0, 4_294_967_295)? as i64),
+        "minus" => Printed::Step(-(w.number(0, 4_294_967_295)? as i64)),
+        "since" => Printed::Since(w.label(count)?),
+        "to" => {
+            let count = w.count()?;
+            let is_pulled = w.next().is_some();
+            if is_pulled {
+                w.value(|word| (word == "ntsc" && may_be_pulled(count)).then_some(()))?;
+            }
+            Printed::Under(Base { count, is_pulled })
+        }
+        _ => return Err(format!("value of word {place}")),
+    };
+    Ok(along_text(base, &what, input))
 }
