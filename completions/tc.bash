@@ -2,7 +2,7 @@
 _tc() {
     local word=${COMP_WORDS[COMP_CWORD]} command=${COMP_WORDS[1]} values=
     if [ "$COMP_CWORD" -eq 1 ]; then
-        values="ltc-read ltc-worn ltc-rough ltc-fly ltc-spans ltc-mtc ltc-jam ltc-make ltc-load ltc-convert pcm-ltc wav-ltc ltc-pcm mtc-read vitc-read vitc-make chase ltc-chase number label labels help version"
+        values="ltc-read ltc-worn ltc-rough ltc-fly ltc-spans ltc-mtc ltc-jam ltc-make ltc-load ltc-convert pcm-ltc wav-ltc ltc-pcm mtc-read vitc-read luma-vitc vitc-make chase ltc-chase number label labels help version"
     else
         case $command:$COMP_CWORD in
             number:2 | label:2 | labels:2 | ltc-make:2 | chase:2 | ltc-chase:2) values="24 25 30 30d" ;;
@@ -13,6 +13,7 @@ _tc() {
                     ntsc) values="number label seconds plus minus since to" ;;
                     24 | 30) values="ntsc" ;;
                 esac ;;
+            luma-vitc:2) values="25 30" ;;
             vitc-make:2) values="25 30 30d" ;;
             ltc-make:3) values="forward backward" ;;
             ltc-convert:2) values="1 2" ;;

@@ -15,6 +15,7 @@ complete -c tc -n '__fish_is_first_arg' -a wav-ltc -d 'a track of a sound file a
 complete -c tc -n '__fish_is_first_arg' -a ltc-pcm -d 'a recording as sound'
 complete -c tc -n '__fish_is_first_arg' -a mtc-read -d 'the labels in MIDI bytes'
 complete -c tc -n '__fish_is_first_arg' -a vitc-read -d 'the fields of vertical interval time code'
+complete -c tc -n '__fish_is_first_arg' -a luma-vitc -d 'a line file of what the rows of a picture say'
 complete -c tc -n '__fish_is_first_arg' -a vitc-make -d 'a line file of a run of labels'
 complete -c tc -n '__fish_is_first_arg' -a chase -d 'the trace of a chase script'
 complete -c tc -n '__fish_is_first_arg' -a ltc-chase -d 'the trace of a chase that follows a recording'
@@ -28,6 +29,7 @@ complete -c tc -n '__fish_seen_subcommand_from labels; and test (count (commandl
 complete -c tc -n '__fish_seen_subcommand_from labels; and test (count (commandline -opc)) -ge 4; and test (commandline -opc)[-1] = to' -a '24 25 30 30d'
 complete -c tc -n '__fish_seen_subcommand_from labels; and test (count (commandline -opc)) -eq 4; and test (commandline -opc)[-1] = ntsc' -a 'number label seconds plus minus since to'
 complete -c tc -n '__fish_seen_subcommand_from labels; and test (count (commandline -opc)) -ge 5; and contains -- (commandline -opc)[-1] 24 30' -a ntsc
+complete -c tc -n '__fish_seen_subcommand_from luma-vitc; and test (count (commandline -opc)) -eq 2' -a '25 30'
 complete -c tc -n '__fish_seen_subcommand_from vitc-make; and test (count (commandline -opc)) -eq 2' -a '25 30 30d'
 complete -c tc -n '__fish_seen_subcommand_from ltc-make; and test (count (commandline -opc)) -eq 3' -a 'forward backward'
 complete -c tc -n '__fish_seen_subcommand_from ltc-convert; and test (count (commandline -opc)) -eq 2' -a '1 2'

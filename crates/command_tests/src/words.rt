@@ -6,10 +6,10 @@ use pcm_front::{Pace, Threshold};
 use std::alloc::{AllocError, Global};
 use std::test::Fail;
 use step_grid::Grid;
-use tc_address::text;
+use tc_address::{rate, text};
 use tc_job::{
-    ChaseRun, Jam, Job, LabelRun, LineStripe, PathSlicing, Slicing, SoundLevel, Task, TrackPath,
-    WaveSlicing, Witness, WordsFault,
+    ChaseRun, Jam, Job, LabelRun, LineStripe, LumaRun, PathSlicing, Slicing, SoundLevel, Task,
+    TrackPath, WaveSlicing, Witness, WordsFault,
 };
 use tc_words::read_words;
 
@@ -112,6 +112,13 @@ fn chase_of(job: &Job) -> Option<ChaseRun> {
 fn level_of(job: &Job) -> Option<SoundLevel> {
     match job {
         Job::LtcPcm { level } => Some(*level),
+        _ => None,
+    }
+}
+
+fn pixels_of(job: &Job) -> Option<LumaRun> {
+    match job {
+        Job::LumaVitc { run } => Some(*run),
         _ => None,
     }
 }
@@ -455,6 +462,27 @@ fn lines_to_be_made_are_read(rt: HostRuntime) -> Result<(), Fail> {
         };
         assert_eq!(rt; stripe.length(), length, "at {line}");
         assert_eq!(rt; stripe.frames(), frames, "at {line}");
+    }
+    Ok(())
+}
+
+#[test]
+fn fields_of_pixels_are_read(rt: HostRuntime) -> Result<(), Fail> {
+    let alloc = rt.alloc();
+    for (line, system, width, height, first, rows) in [
+        ("luma-vitc 25 720 288 0 40", 25, 720, 288, 0, 40),
+        ("luma-vitc 30 4096 4096 4056 40", 30, 4096, 4096, 4056, 40),
+        ("luma-vitc 30 360 1 0 1", 30, 360, 1, 0, 1),
+    ] {
+        let Some(run) = pixels_of(&job_in(alloc, line)?) else {
+            return Err("no fields".into());
+        };
+        let raster = run.raster();
+        assert_eq!(rt; rate(run.system()), system, "at {line}");
+        assert_eq!(rt; raster.width(), width, "at {line}");
+        assert_eq!(rt; raster.height(), height, "at {line}");
+        assert_eq!(rt; raster.first(), first, "at {line}");
+        assert_eq!(rt; raster.rows(), rows, "at {line}");
     }
     Ok(())
 }

@@ -4,6 +4,7 @@ pub mod LabelRun
 pub mod Live
 pub mod LtcChase
 pub mod LtcMake
+pub mod LumaVitc
 pub mod NumberLemmas
 pub mod PcmLtc
 pub mod PcmPath
