@@ -1,4 +1,4 @@
-//! How samples become steps. Read next: `path_front/src/group.rt`.
+//! How samples become steps.
 /// The most steps that a sample can be.
 pub const MAX_REPEATS: u32 = 8;
 

@@ -18,9 +18,9 @@ ghost use Rattle.tc_words.specs.Words.{vitc_make};
 use crate::flight::flight_in;
 use crate::label_run::labels;
 use crate::live::without_live;
-use crate::luma_vitc::fields_of;
 use crate::ltc_chase::chased;
 use crate::ltc_make::striped;
+use crate::luma_vitc::fields_of;
 use crate::pcm_ltc::sliced;
 use crate::pcm_path::{is_path, path_of_samples};
 use crate::values::{
