@@ -10,7 +10,8 @@ use Rattle.signal_commands.specs.declared.luma_lines.TheConstants.{LINE_LENGTH}
 use Rattle.signal_commands.specs.LumaVitc.{written_lines}
 
 pub line_of_runs : (items pushed old : List ℕ) (number : ℕ) (runs : List ℕ)
-    → items ≡ pushed ++ flat_map (big_bytes 2) runs → pushed ≡ old ++ number ∷ [] → number ≡ length runs → items ≡ old ++ line_bytes runs
+    → items ≡ pushed ++ flat_map (big_bytes 2) runs → pushed ≡ old ++ number ∷ [] → number ≡ length runs
+    → items ≡ old ++ line_bytes runs
 line_of_runs items pushed old number runs are push long =
     let bytes = flat_map (big_bytes 2) runs in
     are ∙ ap (λ (l : List ℕ). l ++ bytes) push ∙ append_assoc old (number ∷ []) bytes
