@@ -34,7 +34,7 @@ def word(system, number):
 
 
 def edges(system, rate, total, speed):
-    """Where the level changes, and to which sign, as far as so many samples."""
+    """Where the level changes, and to which sign, in the first `total` samples."""
     number, bits, sign, place = random.randrange(86400 * system), [], 1, 0.0
     while place < total:
         if not bits:
@@ -91,7 +91,7 @@ def high_pass(samples, rate, frequency):
 
 
 def damaged(samples, way):
-    """With dropouts, clicks and splices, each where the way says so."""
+    """With dropouts, clicks and splices, each if the way says so."""
     count = len(samples)
     for _ in range(6 if way in ("dropouts", "parts") else 0):
         first, share = random.randrange(count), random.choice((0, 0.05, 0.05))

@@ -84,7 +84,7 @@ impl Label {
         self.count == Count::Drop && self.frames < 2 && self.seconds == 0 && self.minutes % 10 != 0
     }
 
-    /// How many labels stand before it in the day.
+    /// How many labels come before it in the day.
     pub fn number(&self) -> u64 {
         let minutes = 60 * self.hours + self.minutes;
         let plain = (60 * minutes + self.seconds) * self.count.rate() + self.frames;
@@ -115,7 +115,7 @@ impl Label {
         }
     }
 
-    /// So many labels on, around the day.
+    /// The label `by` labels on, around the day.
     pub fn step(&self, by: i64) -> Label {
         let day = self.count.day() as i64;
         Label::at(self.count, (self.number() as i64 + by).rem_euclid(day) as u64)
@@ -155,7 +155,7 @@ impl Way {
         }
     }
 
-    /// So many labels as the tape runs.
+    /// `by` labels as the tape runs, with the sign of its direction.
     pub fn steps(self, by: i64) -> i64 {
         match self {
             Way::Forward => by,

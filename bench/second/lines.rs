@@ -20,7 +20,7 @@ pub enum Printed {
 }
 
 impl Base {
-    /// So many frames pass, in so many seconds.
+    /// How many frames pass, and in how many seconds.
     fn rate(self) -> (u128, u128) {
         let frames = self.count.rate() as u128;
         match self.is_pulled || self.count == Count::Drop {
@@ -29,7 +29,7 @@ impl Base {
         }
     }
 
-    /// The label that so many frames after midnight begins, around the day.
+    /// The label that begins `frames` frames after midnight, around the day.
     fn label(self, frames: u128) -> Label {
         Label::at(self.count, (frames % self.count.day() as u128) as u64)
     }
@@ -57,7 +57,7 @@ fn milliseconds(line: &[u8]) -> Option<u128> {
     (point <= 5 && line.len() == point + 4).then_some(1_000 * whole + behind)
 }
 
-/// How many bytes of a line fit a form, in which a 0 stands for each digit.
+/// How many bytes of a line fit a form, in which a 0 is any digit.
 fn fitting(form: &str, line: &[u8]) -> usize {
     let fits = |(place, byte): &(u8, &u8)| if *place == b'0' { byte.is_ascii_digit() } else { place == *byte };
     form.bytes().zip(line).take_while(fits).count()

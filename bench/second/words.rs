@@ -27,7 +27,7 @@ struct Words<'a> {
 type Read<T> = Result<T, String>;
 
 impl<'a> Words<'a> {
-    /// Between so many and so many words behind the command.
+    /// Between `least` and `most` words behind the command.
     fn of(words: &'a [String], least: usize, most: usize) -> Read<Words<'a>> {
         match (least..=most).contains(&(words.len() - 1)) {
             true => Ok(Words { words, at: 0 }),
@@ -40,13 +40,13 @@ impl<'a> Words<'a> {
         value(&self.words[self.at]).ok_or_else(|| format!("value of word {}", self.at))
     }
 
-    /// The next word, where there is one.
+    /// The next word, if there is one.
     fn next(&self) -> Option<&'a str> {
         self.words.get(self.at + 1).map(|word| &word[..])
     }
 
 
-    /// A word more has no value: it is not the `live` that may stand there.
+    /// A word more has no value: it is not the `live` that may come there.
     fn none_left(&mut self) -> Read<()> {
         if self.next().is_some() { self.value(|_| None) } else { Ok(()) }
     }
@@ -126,7 +126,7 @@ pub fn run(words: &[String], input: &[u8]) -> Run {
     ran.unwrap_or_else(Run::usage)
 }
 
-/// What is told of a recording.
+/// What is heard of a recording.
 fn heard(hearing: Hearing, file: &File) -> Told {
     let system = file.header.map_or(25, |header| header.system);
     events(hearing.tolerance, system, &file.intervals, hearing.is_firm, file.end == End::Done)

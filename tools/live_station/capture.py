@@ -32,7 +32,7 @@ STANDARD_INPUT = "-"
 
 class Capture:
     """Samples as they come. `notes` is a descriptor of what a program complains of, `is_lasting` whether it is opened
-    again where it ends.
+    again when it ends.
     """
 
     def __init__(self, name: str, form: Form, descriptor: int, is_lasting: bool = False) -> None:
@@ -43,7 +43,7 @@ class Capture:
         os.set_blocking(descriptor, False)
 
     def read(self) -> bytes | None:
-        """Whole samples of all tracks that have come, and nothing at the end; None where there are not so many."""
+        """Whole samples of all tracks that have come; nothing at the end; None if no whole sample has come."""
         if self.left == 0:
             return b""
         try:
@@ -93,7 +93,7 @@ class Streamed(Capture):
 
 
 class Played(Capture):
-    """A file at its own pace, or so many times that."""
+    """A file at its own pace, or at a multiple of it."""
 
     def __init__(
         self, name: str, form: Form, source: Input, left: int | None, pace: float, begun: bytes = b""
@@ -183,7 +183,7 @@ def file(name: str, track: int, pace: float) -> tuple[Capture, int]:
 
 @contextlib.contextmanager
 def told_of(name: str) -> Iterator[None]:
-    """What is wrong with a file is told with its name."""
+    """What is wrong with a file is reported with its name."""
     try:
         yield
     except NoSound as fault:

@@ -1,7 +1,7 @@
 """MIDI Time Code to a port: a pipe of `tc` of its own, whose last command writes into the port itself.
 
-So nothing that is shown or served stands in its way. A port that takes nothing ends that command, since it is opened so
-that no write waits; it is told, and tried again.
+So nothing that is shown or served holds it up. A port that takes nothing ends that command, since it is opened so
+that no write waits; it is reported, and tried again.
 """
 import contextlib
 import os
@@ -20,13 +20,13 @@ from .feed import Feed
 from .form import Form
 from .loop import Loop
 
-# So often a port that is not there is tried, and so long a process may take nothing, in seconds. A port that failed
-# is there again when it has taken what came for so long.
+# How often a port that is not there is tried, and how long a process may take nothing, in seconds. A port that failed
+# is there again when it has taken what came for the third of these times.
 AGAIN, PATIENCE, SURE = 1.0, 2.0, 2.0
 
 
 def refuse(path: str) -> None:
-    """Raises where something of this name stands that is no port: it would be harmed."""
+    """Raises if a file of this name exists that is no port: it would be harmed."""
     with contextlib.suppress(FileNotFoundError):
         refuse_mode(path, os.stat(path).st_mode)
 
@@ -71,7 +71,7 @@ class Midi:
                 self.say(f"sending to {shown(self.path)}")
 
     def fault(self, port: int) -> str:
-        """Why nothing can be sent; empty where it can."""
+        """Why nothing can be sent; empty if it can."""
         poll = select.poll()
         poll.register(port, 0)
         if poll.poll(0):
@@ -86,7 +86,7 @@ class Midi:
         self.say(f"{shown(self.path)} {fault}; it is tried each second")
 
     def say(self, text: str) -> None:
-        """Tells a state that is new."""
+        """Shows a state that is new."""
         if text != self.state:
             self.state = text
             self.tell(text)

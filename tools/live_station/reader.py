@@ -1,13 +1,13 @@
-"""One browser: what it asked for, and what it has not taken yet."""
+"""One browser: what it requested, and what it has not taken yet."""
 import contextlib
 import socket
 import time
 
-# A request is so long at most, and takes so many seconds at most.
+# The most bytes of a request, and the most seconds that it may take.
 MOST_ASKED, ASKING_SECONDS = 8_192, 5.0
-# One that takes nothing for so long is dropped, and so much is kept for it by the system.
+# A reader that takes nothing for these seconds is dropped; and the bytes that the system keeps for it.
 STALLED_SECONDS, KEPT = 5.0, 32_768
-# After an answer, so long is what it still sends passed over, so that the answer comes whole.
+# After an answer, what the reader still sends is passed over for these seconds, so that the answer comes whole.
 LEAVING_SECONDS = 1.0
 PIECE = 4_096
 ASKING, ANSWERED, FOLLOWING, LEAVING, GONE = range(5)
@@ -63,13 +63,13 @@ class Reader:
         self.state = ASKING
         self.request = b""
         self.kept = b""
-        # Since when it asks, takes nothing, or leaves.
+        # Since when it is requesting, takes nothing, or leaves.
         self.since = time.monotonic()
         # It takes less than there is: a message was left out.
         self.has_missed = False
 
     def hear(self) -> bytes | None:
-        """A whole request, once; what comes later is passed over. It is gone where its connection is closed."""
+        """A whole request, once; what comes later is passed over. It is gone if its connection is closed."""
         try:
             piece = self.connection.recv(PIECE)
         except BlockingIOError:
@@ -99,7 +99,7 @@ class Reader:
         self.send(FOLLOWED + data)
 
     def send(self, data: bytes) -> None:
-        """A message. It is left out where one before was not taken yet."""
+        """A message. It is left out if one before was not taken yet."""
         if self.kept:
             self.has_missed = True
             return

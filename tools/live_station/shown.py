@@ -5,7 +5,7 @@ from .events import Event
 
 # What the station itself adds to the states of the code.
 WAITING, CARD_LOST, ENDED = "waiting", "card lost", "ended"
-# The speed is kept so often a second, for so many seconds.
+# How many speeds are kept a second, and for how many seconds.
 HISTORY_RATE, HISTORY_SECONDS = 2, 300
 
 
@@ -35,7 +35,7 @@ class Shown:
     page: str = ""
     log: str = ""
     events: tuple[Event, ...] = ()
-    # The speeds of the last minutes, negative where the tape ran backward, None where nothing was heard; and how many
+    # The speeds of the last minutes, negative if the tape ran backward, None if nothing was heard; and how many
     # there ever were.
     history: tuple[int | None, ...] = ()
     kept: int = 0

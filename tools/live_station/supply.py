@@ -1,4 +1,4 @@
-"""The capture as long as the station runs: opened, read, and opened again where a card or JACK ended."""
+"""The capture as long as the station runs: opened, read, and opened again if a card or JACK ended."""
 import time
 from collections.abc import Callable
 
@@ -10,15 +10,15 @@ from .events import CARD, NOTE
 from .lines import Lines
 from .loop import Loop
 
-# A card that gives nothing for so long is lost, and is opened again after so long, in seconds.
+# A card that gives nothing for the first of these is lost, and is opened again after the second, in seconds.
 SILENT, AGAIN = 3.0, 1.0
-# So many lines that a program complains with are told in a minute.
+# How many lines in which a program complains are shown in a minute.
 NOTES = 10
 Opened = Callable[[], tuple[Capture, int]]
 
 
 class Supply:
-    """Blocks of samples. `begin` is called when a capture is opened, `take` with each block, and `pause` where it
+    """Blocks of samples. `begin` is called when a capture is opened, `take` with each block, and `pause` when it
     ended.
     """
 

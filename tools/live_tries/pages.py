@@ -64,7 +64,7 @@ def minute(room):
 
 
 def try_paths(room):
-    """Its three paths are answered, by GET alone; headers are bounded, and who asks nothing is dropped."""
+    """Its three paths are answered, by GET alone; headers are bounded, and a silent client is dropped."""
     want("curl")
     served = Served(minute(room))
     status, text, _ = served.curl("/")
@@ -97,7 +97,7 @@ def try_paths(room):
 
 
 def listened(there, seconds):
-    """What a follower gets for so long, and the messages with a label."""
+    """What a follower gets in `seconds`, and the messages with a label."""
     data, end = b"", time.monotonic() + seconds
     there.settimeout(0.2)
     while time.monotonic() < end:

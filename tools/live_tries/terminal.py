@@ -74,7 +74,7 @@ class Terminal:
 
     def __init__(self, words, columns=80, lines=24, env=None):
         self.grid = Grid(columns, lines)
-        # Each screen that stood, with the time; and all bytes.
+        # Each screen that was shown, with the time; and all bytes.
         self.screens, self.data = [], b""
         # A letter may come in two pieces.
         self.decoder = codecs.getincrementaldecoder("utf-8")("replace")
@@ -96,7 +96,7 @@ class Terminal:
         self.size(self.handle, columns, lines)
 
     def look(self, seconds):
-        """Reads for so long, or until the program has ended."""
+        """Reads for `seconds`, or until the program has ended."""
         end = time.monotonic() + seconds
         while (left := end - time.monotonic()) > 0:
             if not select.select([self.handle], [], [], left)[0]:

@@ -1,4 +1,4 @@
-"""The time code of a sound: each track and each system is tried, and other front ends where little is heard; the best
+"""The time code of a sound: each track and each system is tried, and other front ends if little is heard; the best
 is chosen, with how sure that is."""
 from collections.abc import Sequence
 from dataclasses import dataclass, field
@@ -10,19 +10,19 @@ from .sound import Sound
 from .spans import Reading, words_in
 
 SYSTEMS = (24, 25, 30)
-# Of so few intervals nothing is concluded: they are clicks.
+# From fewer intervals nothing is concluded: they are clicks.
 FEW_INTERVALS = 400
-# Hum has so many intervals a second at most.
+# The most intervals a second that hum has.
 HUM_INTERVALS = 500
-# A tape is heard well where so much of the code that is seen is heard.
+# A tape is heard well if at least this part of the code that is seen is heard.
 WELL = 0.9
-# Labels that go on over so many frames are code, and no chance.
+# From this number of frames on, labels that go on are code, and not chance.
 FRAMES_OF_CODE = 3
 # A frame has 80 intervals and one more a bit that is set, 13 of them in its sync word; a common one in all.
 CELLS, SYNC_ONES, COMMON_INTERVALS = 80, 13, 105
-# So many words tell how many intervals a frame has.
+# How many words are read to find how many intervals a frame has.
 WORDS_ASKED = 50
-# Of a sound of many tracks so many are tried by other front ends: those of which most is heard by the plain one.
+# How many of many tracks are tried by other front ends: those of which the plain one hears most.
 MOST_TRACKS_TRIED = 8
 
 
@@ -51,14 +51,14 @@ class Tried:
 
 @dataclass
 class Choice:
-    """The reading that was chosen, and what stands beside it."""
+    """The reading that was chosen, and what goes with it."""
 
     reading: Reading
     # Each track's readings by the front end that was best for it.
     others: list[Reading]
-    # The front ends that were tried on the track, where little was heard by the plain one.
+    # The front ends that were tried on the track, if little was heard by the plain one.
     tried: list[str] = field(default_factory=list)
-    # How many frames of it were heard before the best path was tried, where it was.
+    # How many frames of it were heard before the best path was tried, if it was.
     before_path: int | None = None
 
     @property
@@ -151,7 +151,7 @@ def choose(sound: Sound, wanted: Wanted, room: str, progress: Progress | None = 
     for track in sorted(found, key=lambda it: best(found[it]).merit(), reverse=True)[:MOST_TRACKS_TRIED]:
         readings = found[track]
         mine = best(readings)
-        # Where another track is heard well, one without any code is programme.
+        # If another track is heard well, one without any code is programme.
         if wanted.front is None and (mine.heard or not is_well):
             fronts = front_ends_for(sound, mine)
             found[track], tried[track] = tried_by_others(sound, readings, fronts, wanted, room)
@@ -162,7 +162,7 @@ def choose(sound: Sound, wanted: Wanted, room: str, progress: Progress | None = 
 
 
 def front_ends_for(sound: Sound, mine: Reading) -> list[FrontEnd]:
-    """What is worth a try on a track: all where more code is seen than heard; where nothing is heard of few intervals,
+    """What is worth a try on a track: all if more code is seen than heard; if nothing is heard of few intervals,
     a low threshold on a quiet one, and a filter where a hum may cover the code."""
     if hears_little(mine):
         return front_ends.others(mine.rate)
@@ -180,7 +180,7 @@ def tried_by_others(
     """The readings by the front end that hears most, and those that were tried."""
     tried = Tried()
     for front in fronts:
-        # It is slow: it is tried where there is code, of which frames are missing.
+        # It is slow: it is tried if there is code, of which frames are missing.
         if front.is_path and not is_code(best(readings)):
             continue
         tried.names.append(front.name)

@@ -5,12 +5,12 @@ from collections import defaultdict
 from collections.abc import Sequence
 from dataclasses import dataclass
 
-# A half cell is shared out into so many places. A line is drawn through the samples of a place where there are so many
-# or more; where more than such a part of all samples is in no such place, nothing is known.
+# How many places a half cell is shared out into. A line is drawn through the samples of a place that has at least LEAST
+# of them; if more than the part RARE of all samples is in places with fewer, nothing is known.
 PLACES, LEAST, RARE = 32, 8, 0.1
-# A line says nothing of a sample that is so many deviations away from the mean place of the others.
+# A line says nothing of a sample that is more deviations than these away from the mean place of the others.
 ASIDE = 2
-# The clock of the tape is that of so many half cells, and of so many on both sides of them.
+# The clock of the tape is worked out for CLOCK half cells at a time, from these and AROUND more on both sides.
 CLOCK, AROUND = 16, 24
 # Of fewer crossings there is no mean.
 LEAST_CROSSINGS = 1000
@@ -41,7 +41,7 @@ class Mean:
 
 
     def tells(self, place: float) -> bool:
-        """Whether the line tells the height at a place."""
+        """Whether the line gives the height at a place."""
         mean = self.places / self.count
         deviation = math.sqrt(max(0.0, self.squares / self.count - mean * mean))
         return self.count >= LEAST and abs(place - mean) <= ASIDE * deviation + 1e-3
@@ -61,7 +61,7 @@ class Clean:
 
 
 def counts_of(moments: Sequence[float], half: float) -> list[int] | None:
-    """How many half cells each distance has, 1 or 2; None where one has neither."""
+    """How many half cells each distance has, 1 or 2; None if one has neither."""
     counts = [round((after - before) / half) for before, after in zip(moments, moments[1:])]
     return counts if all(1 <= count <= 2 for count in counts) else None
 
@@ -96,7 +96,7 @@ def sides_of(counts: Sequence[int]) -> list[int]:
 
 
 def clean_of(samples: Sequence[int], moments: Sequence[float], half: float) -> Clean | None:
-    """The clean sound between the first crossings and the last; None where these are not those of code."""
+    """The clean sound between the first crossings and the last; None if these are not those of code."""
     counts = counts_of(moments, half)
     if counts is None or len(moments) < LEAST_CROSSINGS:
         return None

@@ -6,14 +6,14 @@ from dataclasses import dataclass
 
 THRESHOLD = 250
 LOW_THRESHOLD, LOWEST_THRESHOLD = 50, 20
-# Sums take so many samples at this rate: at 48,000 three.
+# A sum has a sample for each 16,000 of the rate: at 48,000 three.
 RATE_OF_A_SUM = 16_000
 MOST_SUMS = 16
 # Hum and its harmonics lie below, code above.
 HIGH_PASS_HERTZ = 300
-# So many ticks has a sample, with every front end.
+# The ticks of a sample, with every front end.
 FINENESS = 16
-# The best path needs so many samples a second, for any system.
+# The least samples a second for the best path, for any system.
 PATH_RATE = 4_200
 
 
@@ -29,7 +29,7 @@ class FrontEnd:
     is_path: bool = False
 
     def words(self) -> list[str]:
-        """What stands behind the track, or behind the rate."""
+        """What follows the track, or the rate."""
         if self.is_path:
             return [str(self.threshold), str(FINENESS), "path"]
         more = [str(self.sums), "deep"] if self.is_deep else [str(self.sums)] if self.sums > 1 else []
@@ -52,7 +52,7 @@ BEST_PATH = FrontEnd("best path", is_path=True)
 
 
 def others(rate: int) -> list[FrontEnd]:
-    """What is tried where the plain front end hears little, at this rate. A further one is one row more."""
+    """What is tried if the plain front end hears little, at this rate. A further one is one row more."""
     sums = max(2, min(MOST_SUMS, rate // RATE_OF_A_SUM))
     table = [
         FrontEnd(f"sums of {sums}", sums=sums),

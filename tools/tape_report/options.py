@@ -45,7 +45,7 @@ def add_reading(words: argparse.ArgumentParser) -> None:
     words.add_argument("--limit", type=number_from(0, 255), default=2, help="frames that are bridged in a row (2)")
     words.add_argument("--all-words", action="store_true", help="words without a witness too")
     words.add_argument("--threshold", type=number_from(1, 32_767), help="the least height of code (250)")
-    words.add_argument("--smooth", type=number_from(1, 16), help="sums of so many samples, for hiss (1)")
+    words.add_argument("--smooth", type=number_from(1, 16), help="sums of this many samples, for hiss (1)")
     words.add_argument("--deep", action="store_true", help="a lower threshold, for dull tapes and hum")
     words.add_argument("--path", action="store_true", help="the best path through the sound, which is slow")
     words.add_argument("--json", action="store_true", help="a JSON object a tape, in place of the report")
@@ -73,7 +73,7 @@ def archive_parser() -> argparse.ArgumentParser:
         "--jobs",
         type=number_from(1, 4096),
         default=os.cpu_count(),
-        help="so many tapes at a time, on each host",
+        help="this many tapes at a time, on each host",
     )
     words.add_argument("--hosts", metavar="FILE", help="hosts, one a line, reached by ssh")
     words.add_argument("--resume", action="store_true", help="goes on where a run was killed")
@@ -92,7 +92,7 @@ def part(text: str) -> tuple[int, int]:
 
 
 def refuse(words: argparse.ArgumentParser, options: argparse.Namespace) -> None:
-    """Ends with status 2 where words do not go together."""
+    """Ends with status 2 if words do not go together."""
     if options.rate and options.system and system_of(RATES[options.rate]) != options.system:
         words.error(f"--rate {options.rate} is none of --system {options.system}")
     if options.path and (options.smooth is not None or options.deep):
@@ -124,7 +124,7 @@ def reading_of(options: argparse.Namespace) -> dict[str, Any]:
 
 
 def archive_reading_of(options: argparse.Namespace) -> dict[str, Any]:
-    """The same of an archive, with the word for margins where it is said."""
+    """The same of an archive, with the word for margins if it is said."""
     return reading_of(options) | ({"margin": True} if options.margin else {})
 
 
@@ -136,7 +136,7 @@ def wanted_of(reading: dict[str, Any]) -> tuple[Wanted, Fraction | None]:
 
 
 def front_end(reading: dict[str, Any]) -> FrontEnd | None:
-    """The front end that is given, where one is."""
+    """The front end that is given, if one is."""
     threshold, smooth, is_deep = reading["threshold"], reading["smooth"], reading["deep"]
     if reading["path"]:
         return FrontEnd("best path", threshold or front_ends.THRESHOLD, is_path=True)

@@ -1,4 +1,4 @@
-"""Nothing that exists is harmed, and nothing half-written stands after any end but `kill -9`."""
+"""Nothing that exists is harmed, and nothing half-written is left after any end but `kill -9`."""
 import contextlib
 import fcntl
 import os
@@ -32,7 +32,7 @@ def parts_in(room):
 
 
 def try_name_of_a_half(room):
-    """A tape whose name is that of another's half-written copy stands after the copy is made."""
+    """A tape whose name is that of another's half-written copy is still there after the copy is made."""
     path, before = plain(room, "z.wav.part")
     copy = os.path.join(room, "z.wav")
     tape(path, "--stamp", copy)
@@ -96,7 +96,7 @@ def try_targets_that_stand(room):
 
 
 def try_devices(room):
-    """A device stands after it was a target, also by force."""
+    """A device is still there after it was a target, also by force."""
     path, _ = plain(room)
     device = os.path.join(room, "null")
     try:
@@ -126,7 +126,7 @@ def try_mode_and_time(room):
 
 @contextlib.contextmanager
 def small_disk(room, size):
-    """A disk of so many bytes."""
+    """A disk of `size` bytes."""
     place = os.path.join(room, "disk")
     os.mkdir(place)
     if run("mount", "-t", "tmpfs", "-o", f"size={size}", "none", place)[0] != 0:
@@ -151,7 +151,7 @@ def try_full_disk(room):
 
 
 def long_tape(room):
-    """Code, and then so much silence that its copy takes a while; the file has no such blocks on the disk."""
+    """Code, and then silence so long that its copy takes a while; the file has no such blocks on the disk."""
     path = wav(os.path.join(room, "long.wav"), 48_000, [code(48_000, intervals("25", "10:00:00:00", 60))])
     more = 32 << 20
     with open(path, "r+b") as file:
