@@ -23,7 +23,7 @@ use cases::{Case, case};
 use draws::Draws;
 use run::Run;
 use std::fs::File;
-use std::io::Write;
+use std::io::{Read, Write};
 use std::path::{Path, PathBuf};
 use std::process::{Command, Stdio};
 use std::sync::Mutex;
@@ -39,7 +39,7 @@ struct Asked {
     jobs: u64,
 }
 
-const USAGE: &str = "cases PROGRAM ROOM COUNT FIRST SEED JOBS";
+const USAGE: &str = "cases PROGRAM ROOM COUNT FIRST SEED JOBS, or cases told WORDS.. < INPUT";
 
 fn asked() -> Option<Asked> {
     let words: Vec<String> = std::env::args().skip(1).collect();
@@ -138,7 +138,23 @@ fn work(asked: &Asked, lane: u64, next: &AtomicU64, differ: &Mutex<Vec<u64>>) ->
     }
 }
 
+/// What a run of these words on the standard input is to write, with its note and status.
+fn told(words: &[String]) -> std::io::Result<i32> {
+    let mut input = Vec::new();
+    std::io::stdin().read_to_end(&mut input)?;
+    let wanted = words::run(words, &input);
+    std::io::stdout().write_all(&wanted.output)?;
+    eprint!("{}", wanted.end.note());
+    Ok(wanted.end.status())
+}
+
 fn main() {
+    let words: Vec<String> = std::env::args().skip(1).collect();
+    if let [first, words @ ..] = &words[..] {
+        if first == "told" {
+            std::process::exit(told(words).unwrap_or(1));
+        }
+    }
     let Some(asked) = asked() else {
         eprintln!("usage: {USAGE}");
         std::process::exit(2);
