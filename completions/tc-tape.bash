@@ -1,7 +1,7 @@
 # bash completion of tc-tape and tc-archive: options, and files.
 _tc_tape() {
     local word=${COMP_WORDS[COMP_CWORD]} before=${COMP_WORDS[COMP_CWORD - 1]}
-    local options="--track --system --rate --limit --all-words --threshold --smooth --deep --path --json --force --version"
+    local options="--track --system --rate --limit --all-words --threshold --smooth --deep --path --vitc --json --force --version"
     case ${COMP_WORDS[0]##*/} in
         *-archive) options+=" --jobs --hosts --resume --part --edl --ale --margin" ;;
         *) options+=" --csv --picture --page --stamp" ;;

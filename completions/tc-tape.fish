@@ -9,6 +9,7 @@ for tool in tc-tape tc-archive
     complete -c $tool -l smooth -x -d 'sums of so many samples'
     complete -c $tool -l deep -d 'a lower threshold'
     complete -c $tool -l path -d 'the best path, which is slow'
+    complete -c $tool -l vitc -d 'the code in the upper rows of the picture too'
     complete -c $tool -l json -d 'a JSON object a tape'
     complete -c $tool -l force -d 'replaces files that stand'
     complete -c $tool -l version -d 'the version'

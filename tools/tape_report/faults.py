@@ -9,6 +9,10 @@ class NoSound(Fault):
     """The file can't be read as sound."""
 
 
+class NoPicture(Fault):
+    """The rows of its picture can't be looked at."""
+
+
 class NoProgram(Fault):
     """A program is missing, or said what it should not."""
 

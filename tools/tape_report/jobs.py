@@ -6,14 +6,14 @@ import subprocess
 import sys
 
 from . import store
-from .faults import Fault, NoProgram, reason_of
+from .faults import Fault, NoProgram, NoSound, reason_of
 from .names import shown
 from .options import wanted_of
 from .row import FAILED, Row, Told
 from .source import opened
 from .store import Run
 from .targets import write_text, written
-from .work import tape_read
+from .work import silent_tape, tape_read
 
 # The word with which a job begins.
 JOB = "--job"
@@ -76,9 +76,17 @@ def work_one(run: Run, name: str) -> None:
 
 def read_one(run: Run, name: str) -> tuple[Told, str]:
     wanted, rate = wanted_of(run.reading)
-    with opened(run.path(name)) as source, tape_read(source, name, wanted, rate) as tape:
-        text, told = tape.report(run.reading.get("margin", False)), tape.told()
-        if tape.choice.is_found:
-            path = os.path.join(run.room(name), store.PAGE)
-            write_text(path, tape.page(text), force=True, tapes=[source.tape])
-        return told, text
+    has_vitc = bool(run.reading.get("vitc"))
+    with opened(run.path(name)) as source:
+        try:
+            with tape_read(source, name, wanted, rate, has_vitc=has_vitc) as tape:
+                text, told = tape.report(run.reading.get("margin", False)), tape.told()
+                if tape.choice.is_found:
+                    path = os.path.join(run.room(name), store.PAGE)
+                    write_text(path, tape.page(text), force=True, tapes=[source.tape])
+                return told, text
+        except NoSound as fault:
+            if not has_vitc:
+                raise
+            silent = silent_tape(source, name, wanted.limit, fault)
+            return silent.told(), silent.report()

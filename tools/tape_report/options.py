@@ -48,6 +48,7 @@ def add_reading(words: argparse.ArgumentParser) -> None:
     words.add_argument("--smooth", type=number_from(1, 16), help="sums of this many samples, for hiss (1)")
     words.add_argument("--deep", action="store_true", help="a lower threshold, for dull tapes and hum")
     words.add_argument("--path", action="store_true", help="the best path through the sound, which is slow")
+    words.add_argument("--vitc", action="store_true", help="the code in the upper rows of the picture too")
     words.add_argument("--json", action="store_true", help="a JSON object a tape, in place of the report")
     words.add_argument("--force", action="store_true", help="replaces files that stand")
 
@@ -120,7 +121,8 @@ def archive_options(arguments: Sequence[str]) -> argparse.Namespace:
 def reading_of(options: argparse.Namespace) -> dict[str, Any]:
     """The words that say how a tape is read."""
     names = ("track", "system", "rate", "limit", "all_words", "threshold", "smooth", "deep", "path")
-    return {name: getattr(options, name) for name in names}
+    # A run of an archive goes on where these are the same, so that a new one stands there only where it is said.
+    return {name: getattr(options, name) for name in names} | ({"vitc": True} if options.vitc else {})
 
 
 def archive_reading_of(options: argparse.Namespace) -> dict[str, Any]:

@@ -46,6 +46,8 @@ class Row:
     reference: int | None = None
     stamp: str = ""
     note: str = ""
+    # What the rows of the picture say, where they were looked at.
+    vitc: str = ""
 
     def cells(self) -> list[object]:
         return ["" if value is None else value for value in asdict(self).values()]
@@ -62,11 +64,14 @@ class Told:
     rate_of_samples: int = 0
     spans: list[dict[str, Any]] = field(default_factory=list)
     tracks: list[dict[str, Any]] = field(default_factory=list)
+    # What the rows of the picture say; nothing where they were not looked at.
+    picture: dict[str, Any] = field(default_factory=dict)
 
     def as_json(self) -> str:
         """One line."""
         object_of = {"version": JSON_VERSION, **asdict(self.row), "rate_of_samples": self.rate_of_samples}
-        return json.dumps({**object_of, "spans": self.spans, "tracks": self.tracks}, sort_keys=False)
+        picture = {"picture": self.picture} if self.picture else {}
+        return json.dumps({**object_of, "spans": self.spans, "tracks": self.tracks, **picture}, sort_keys=False)
 
 
 def row_of(name: str, sound: Sound, choice: Choice, place: Place | None) -> Row:

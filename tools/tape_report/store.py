@@ -88,7 +88,8 @@ def stored(run: Run, name: str) -> tuple[dict[str, Any] | None, Told] | None:
     try:
         with open(os.path.join(run.room(name), ROW), encoding="ascii") as file:
             said = json.load(file)
-        return said["state"], Told(Row(**said["row"]), said["rate_of_samples"], said["spans"], said["tracks"])
+        told = Told(Row(**said["row"]), said["rate_of_samples"], said["spans"], said["tracks"], said.get("picture", {}))
+        return said["state"], told
     except (OSError, ValueError, KeyError, TypeError):
         return None
 

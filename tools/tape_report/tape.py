@@ -9,13 +9,13 @@ from collections.abc import Sequence
 from . import options as words
 from . import report, row, stamp, targets
 from .endings import FAILED, FOUND, NONE_FOUND, say
-from .faults import Fault, reason_of
+from .faults import Fault, NoSound, reason_of
 from .front_ends import FINENESS
 from .names import shown
 from .programs import HERE
 from .source import opened
 from .spans import Reading
-from .work import Tape, tape_read
+from .work import Silent, Tape, silent_tape, tape_read
 
 
 def main(arguments: Sequence[str]) -> int:
@@ -31,8 +31,13 @@ def tell(options: argparse.Namespace, name: str, is_first: bool) -> int:
             asked = (options.page, options.picture, options.stamp)
             targets.refuse_all(asked, options.force, [source.tape])
             wanted, rate = words.wanted_of(words.reading_of(options))
-            with tape_read(source, name, wanted, rate, is_shown=True) as tape:
-                return tell_tape(options, tape, is_first)
+            try:
+                with tape_read(source, name, wanted, rate, is_shown=True, has_vitc=options.vitc) as tape:
+                    return tell_tape(options, tape, is_first)
+            except NoSound as fault:
+                if not options.vitc:
+                    raise
+                return tell_silent(options, silent_tape(source, name, wanted.limit, fault), is_first)
     except BrokenPipeError:
         raise
     except (Fault, OSError) as fault:
@@ -41,6 +46,20 @@ def tell(options: argparse.Namespace, name: str, is_first: bool) -> int:
             print(row.Told(row.Row(shown(name), row.FAILED, note=reason)).as_json(), flush=True)
         say(f"{shown(name)}: {reason}")
         return FAILED
+
+
+def tell_silent(options: argparse.Namespace, tape: Silent, is_first: bool) -> int:
+    """A file of which the picture alone can be read."""
+    if options.json:
+        print(tape.told().as_json())
+    elif options.csv:
+        report.write_csv(tape.name, None, sys.stdout, is_first)
+    else:
+        sys.stdout.write(("" if is_first else "\n") + tape.report())
+    sys.stdout.flush()
+    if options.page or options.picture or options.stamp:
+        raise NoSound(tape.reason)
+    return FOUND
 
 
 def tell_tape(options: argparse.Namespace, tape: Tape, is_first: bool) -> int:
@@ -55,7 +74,7 @@ def tell_tape(options: argparse.Namespace, tape: Tape, is_first: bool) -> int:
     sys.stdout.flush()
     if is_found:
         write_asked(options, tape, text)
-    return FOUND if is_found else NONE_FOUND
+    return FOUND if tape.is_found else NONE_FOUND
 
 
 def write_asked(options: argparse.Namespace, tape: Tape, text: str) -> None:

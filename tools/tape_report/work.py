@@ -5,14 +5,16 @@ from collections.abc import Iterator
 from dataclasses import dataclass
 from fractions import Fraction
 
-from . import levels, page, report, row, slicing
+from . import levels, page, report, row, slicing, vitc_report
 from .margin import margin_of
 from .choice import Choice, Wanted, choose
-from .faults import NoSound
+from .faults import NoPicture, NoSound, reason_of
 from .names import shown
 from .place import Place, place_of
 from .sound import Sound, sound_of
+from .spans import Reading
 from .source import Source
+from .vitc import Vitc, vitc_of
 
 
 @dataclass
@@ -25,9 +27,20 @@ class Tape:
     choice: Choice
     place: Place | None
     is_rate_given: bool
+    # What the rows of the picture say, or why they were not looked at; None where that was not asked for.
+    vitc: Vitc | str | None = None
+
+    @property
+    def is_found(self) -> bool:
+        """Its sound says a word, or its picture."""
+        return self.choice.is_found or says_words(self.vitc)
 
     def report(self, has_margin: bool = False) -> str:
         """The report, with the margin of the tape where it is asked for: that takes about a second."""
+        mine = None if self.vitc is None else vitc_report.lines(self.vitc, self.sound, self.choice.reading)
+        return self.sound_report(has_margin) + ("" if mine is None else "\n".join(mine) + "\n")
+
+    def sound_report(self, has_margin: bool) -> str:
         mine = self.choice.reading
         if self.choice.is_found:
             level = levels.level_of(self.sound, mine.track)
@@ -39,15 +52,64 @@ class Tape:
         return report.empty_report(self.name, self.sound, self.choice, heights)
 
     def told(self) -> row.Told:
-        return row.told_of(self.name, self.sound, self.choice, self.place)
+        told = row.told_of(self.name, self.sound, self.choice, self.place)
+        if self.vitc is not None:
+            add_picture(told, self.vitc, self.sound, self.choice.reading)
+        return told
 
     def page(self, text: str) -> str:
         return page.page(self.name, text, self.choice.reading)
 
 
+@dataclass
+class Silent:
+    """A file whose sound can't be read, of which the picture says words."""
+
+    name: str
+    reason: str
+    vitc: Vitc
+
+    def report(self) -> str:
+        lines = [self.name, f"sound         not read: {self.reason}", *vitc_report.lines(self.vitc, None, None)]
+        return "\n".join(lines) + "\n"
+
+    def told(self) -> row.Told:
+        told = row.Told(row.Row(self.name, row.CODE, note=self.reason))
+        add_picture(told, self.vitc, None, None)
+        return told
+
+
+def says_words(vitc: Vitc | str | None) -> bool:
+    return isinstance(vitc, Vitc) and vitc.words > 0
+
+
+def add_picture(told: row.Told, vitc: Vitc | str, sound: Sound | None, reading: Reading | None) -> None:
+    """Adds to a row what the picture says."""
+    told.row.vitc = vitc_report.cell(vitc, sound, reading)
+    told.picture = vitc_report.as_object(vitc, sound, reading)
+    if says_words(vitc):
+        told.row.status = row.CODE
+
+
+def picture_read(source: Source, limit: int) -> Vitc | str:
+    """What the rows of the picture say, or why they were not looked at."""
+    try:
+        return vitc_of(source.path, limit)
+    except NoPicture as fault:
+        return reason_of(fault)
+
+
+def silent_tape(source: Source, name: str, limit: int, fault: NoSound) -> Silent:
+    """A file without sound, where its picture says words; and where it does not the fault."""
+    vitc = picture_read(source, limit)
+    if isinstance(vitc, Vitc) and vitc.words:
+        return Silent(shown(name), reason_of(fault), vitc)
+    raise fault
+
+
 @contextlib.contextmanager
 def tape_read(
-    source: Source, name: str, wanted: Wanted, rate: Fraction | None, is_shown: bool = False
+    source: Source, name: str, wanted: Wanted, rate: Fraction | None, is_shown: bool = False, has_vitc: bool = False
 ) -> Iterator[Tape]:
     """Reads a tape. Its words are in a folder that goes with the block."""
     with tempfile.TemporaryDirectory() as room:
@@ -61,4 +123,5 @@ def tape_read(
             if progress:
                 slicing.end_progress()
         place = place_of(choice, rate) if choice.is_found else None
-        yield Tape(shown(name), source, sound, choice, place, rate is not None)
+        vitc = picture_read(source, wanted.limit) if has_vitc else None
+        yield Tape(shown(name), source, sound, choice, place, rate is not None, vitc)

@@ -1,5 +1,6 @@
 pub mod AllClear
 pub mod BitByBit
+pub mod Cellwise
 pub mod FallByFall
 pub mod Filled
 pub mod HeightByHeight

@@ -1,5 +1,5 @@
 -- With one more the first of the greatest stays the first, unless the new one is greater.
-use Rattle.std.proofs.Common.{◌≡◌, ℕ, zero, suc, ◌+◌, ◌<◌, ◌≤◌, max, ◌⊎◌, inl, inr, sym, subst, arith}
+use Rattle.std.proofs.Common.{◌≡◌, ℕ, zero, suc, ◌+◌, ◌<◌, ◌≤◌, max, ◌⊎◌, inl, inr, refl, sym, subst, arith}
 use Rattle.luma_row.specs.Choice.{greatest, IsFirstBest}
 use Rattle.luma_row.specs.KeptBest.{IsBestOf}
 
@@ -49,6 +49,14 @@ comes most worth sum number new b is more =
         first = λ other h. let g = b.best.greatest other h in omega arith;
       };
     }
+
+pub greatest_more : (n : ℕ) (worth : ℕ → ℕ) → greatest (n + 1) worth ≡ max (greatest n worth) (worth n)
+unfolding greatest
+greatest_more n worth = let e : n + 1 ≡ suc n = omega arith in rw e refl
+
+pub greatest_none : (worth : ℕ → ℕ) → greatest 0 worth ≡ 0
+unfolding greatest
+greatest_none worth = refl
 
 greatest_bound : (most : ℕ) (worth : ℕ → ℕ) (other : ℕ) → other < most → worth other ≤ greatest most worth
 unfolding greatest

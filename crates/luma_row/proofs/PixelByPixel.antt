@@ -65,6 +65,26 @@ no_pixel row table long =
       };
     }
 
+-- the light up to so many sixteenths of a pixel, out of the table; sixteen of them are the next pixel
+pub light_to_part : (row table : List ℕ) (pixel part x : ℕ) → pixel < length row → part ≤ 16
+    → AreSumsTo row table (length row) → x ≡ get_or row pixel 0
+    → 16 * get_or table pixel 0 + part * x ≡ light row (16 * pixel + part)
+unfolding light
+light_to_part row table pixel part x within few t is =
+    let before = t.sums pixel (omega arith) in
+    let cases : (part < 16) ⊎ (part ≡ 16) = grind arith in
+    elim cases [
+      | inl less ↦
+          let p : (16 * pixel + part) / 16 ≡ pixel = omega arith in
+          let r : (16 * pixel + part) % 16 ≡ part = omega arith in
+          rw (before, is, p, r) refl
+      | inr same ↦
+          let p : (16 * pixel + part) / 16 ≡ pixel + 1 = omega arith in
+          let r : (16 * pixel + part) % 16 ≡ 0 = omega arith in
+          let next = sum_more row pixel within in
+          rw (before, is, p, r, next, same) (omega arith)
+    ]
+
 -- the light up to a place in the row, out of the table
 pub light_in : (row table : List ℕ) (place pixel : ℕ) → place / 16 < length row → AreSumsTo row table (length row)
     → pixel ≡ get_or row (place / 16) 0

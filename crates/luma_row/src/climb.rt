@@ -1,10 +1,11 @@
 //! From the coarse place to the place of a word. Read next: `cells`.
 ghost use Rattle.std.specs.Prelude.{◌≡◌, ℕ, ◌+◌, ◌*◌, ◌/◌, ◌%◌, ◌^◌, ◌<◌, ◌≤◌, length};
-ghost use Rattle.luma_row.specs.Choice.{IsFirstBest};
 ghost use Rattle.luma_row.specs.Climb.{moved, neighbour, worth, Climbs, IsPlace};
+ghost use Rattle.luma_row.specs.KeptBest.{IsBestOf};
 ghost use Rattle.luma_row.specs.KeptLight.{AreSums};
 ghost use Rattle.luma_row.specs.KeptPlace.{IsInRow};
 ghost use Rattle.luma_row.specs.Light.{IsRow};
+ghost use Rattle.luma_row.specs.Place.{score};
 
 use crate::best::Best;
 use crate::light::Sums;
@@ -63,39 +64,55 @@ fn worth(row: &[u8], sums: &Sums, place: Place, step: u32, number: u32) -> u32
     }
 }
 
-/// The number of the first of the best neighbours.
-fn best_neighbour(row: &[u8], sums: &Sums, place: Place, step: u32) -> u32
+/// The first of the best neighbours, and the sum of its falls. Of the place itself the sum is known.
+fn best_neighbour(row: &[u8], sums: &Sums, place: Place, step: u32, own: u32) -> Best
     requires row { IsRow row.now }
     requires sums { AreSums row.now sums.now }
     requires place { IsInRow place }
     requires step { step < 2 ^ 10 }
-    ensures { IsFirstBest 9 (worth row.now place step) result }
+    requires own { own ≡ score row.now place }
+    ensures { IsBestOf 9 (worth row.now place step) result.sum result.number }
 {
-    let mut best = Best::first(worth(row, sums, place, step, 0));
+    let mut best = Best::first(own);
+    if step == 0 {
+        return best;
+    }
     for number in 1..9u32 {
         best = best.or(worth(row, sums, place, step, number), number);
     }
-    best.number
+    best
+}
+
+/// A place, and the sum of its falls.
+#[derive(Clone, Copy, Debug, PartialEq, Eq)]
+struct Scored {
+    place: Place,
+    score: u32,
 }
 
 /// To the best neighbour, and again, six times.
-fn climb(row: &[u8], sums: &Sums, from: Place, step: u32) -> Place
+fn climb(row: &[u8], sums: &Sums, from: Scored, step: u32) -> Scored
     requires row { IsRow row.now }
     requires sums { AreSums row.now sums.now }
-    requires place { IsInRow from }
+    requires place { IsInRow from.place }
+    requires score { from.score ≡ score row.now from.place }
     requires step { step < 2 ^ 10 }
-    ensures climbs { Climbs row.now step 6 from result }
-    ensures place { IsInRow result }
+    ensures climbs { Climbs row.now step 6 from.place result.place }
+    ensures place { IsInRow result.place }
+    ensures score { result.score ≡ score row.now result.place }
 {
-    let mut place = from;
+    let mut place = from.place;
+    let mut own = from.score;
     for turn in 0..MOVES {
-        let number = best_neighbour(row, sums, place, step);
+        let best = best_neighbour(row, sums, place, step, own);
+        let number = best.number;
         if number == 0 {
-            return place;
+            return Scored { place, score: own };
         }
         place = neighbour(place, step, number);
+        own = best.sum;
     }
-    place
+    Scored { place, score: own }
 }
 
 /// In eight steps from the coarse place to the place of the word.
@@ -106,11 +123,14 @@ pub(crate) fn refine(row: &[u8], sums: &Sums, coarse: Place) -> Place
     ensures refines { IsPlace row.now coarse result }
     ensures place { IsInRow result }
 {
-    let mut place = coarse;
+    let mut at = Scored {
+        place: coarse,
+        score: coarse.score(row, sums),
+    };
     let mut step = 2 * grain(width_of(row));
     for turn in 0..STEPS {
-        place = climb(row, sums, place, step);
+        at = climb(row, sums, at, step);
         step /= 2;
     }
-    place
+    at.place
 }

@@ -1,5 +1,5 @@
 //! The light of a row up to a place. Read next: `place`.
-ghost use Rattle.std.specs.Prelude.{◌≡◌, ◌+◌, ◌*◌, ◌^◌, ◌≤◌, length};
+ghost use Rattle.std.specs.Prelude.{◌≡◌, ◌+◌, ◌*◌, ◌^◌, ◌<◌, ◌≤◌, length};
 ghost use Rattle.luma_row.specs.KeptLight.{AreSums};
 ghost use Rattle.luma_row.specs.Light.{fall, light, IsRow};
 
@@ -40,6 +40,19 @@ pub(crate) fn light(row: &[u8], sums: &Sums, place: u32) -> u32
     } else {
         16 * sums[row.len()]
     }
+}
+
+/// The light up to so many sixteenths of a pixel.
+#[inline(always)]
+pub(crate) fn light_in(row: &[u8], sums: &Sums, pixel: usize, part: u32) -> u32
+    requires row { IsRow row.now }
+    requires sums { AreSums row.now sums.now }
+    requires pixel { pixel < length row.now }
+    requires part { part ≤ 16 }
+    ensures value { result ≡ light row.now (16 * pixel + part) }
+    ensures most { result ≤ 2 ^ 24 }
+{
+    16 * sums[pixel] + part * u32::from(row[pixel])
 }
 
 /// By how much more light comes before a place than behind it.

@@ -54,10 +54,12 @@ impl Place {
         ensures value { result ≡ pair_fall row.now self pair }
         ensures most { result ≤ 2 ^ 26 }
     {
-        let before = self.eighth(80 * pair);
-        let place = self.eighth(80 * pair + 8);
-        let behind = self.eighth(80 * pair + 16);
-        fall(row, sums, before, place, behind)
+        let apart = self.last - self.first;
+        let cells = apart * pair;
+        let early = (80 * self.first + 10 * cells).saturating_sub(apart);
+        let place = self.first + cells / 8;
+        let behind = self.first + (10 * cells + apart) / 80;
+        fall(row, sums, early / 80, place, behind)
     }
 
     /// The sum of the nine falls.

@@ -27,6 +27,7 @@ pub struct CodeRow {
 pub struct RowReader {
     sums: Sums,
     falls: Falls,
+    sums_of_falls: Falls,
 }
 
 /// Whether two pixels are eight levels apart.
@@ -48,6 +49,7 @@ impl RowReader {
         RowReader {
             sums: [0; SUMS],
             falls: [EVEN; MAX_WIDTH],
+            sums_of_falls: [EVEN; MAX_WIDTH],
         }
     }
 
@@ -63,7 +65,7 @@ impl RowReader {
         }
         sum_up(row, &mut self.sums);
         fall_along(row, &self.sums, &mut self.falls);
-        let coarse = best_coarse(row, &self.falls);
+        let coarse = best_coarse(row, &self.falls, &mut self.sums_of_falls);
         if coarse.sum <= 9 * EVEN {
             return None;
         }

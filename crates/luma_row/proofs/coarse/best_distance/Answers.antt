@@ -3,28 +3,22 @@ use Rattle.luma_row.specs.Choice.{greatest}
 use Rattle.luma_row.specs.Coarse.{best_at, sum_at}
 use Rattle.luma_row.specs.KeptBest.{IsBestOf}
 use Rattle.luma_row.specs.Width.{distance, distances, starts}
-use Rattle.luma_row.proofs.OneMore.{first_is_greatest}
 use Rattle.luma_row.proofs.coarse.best_distance.Goals as goal
 
 pub loop-number-init : goal.loop-number-init
 loop-number-init c =
-    let apart = c.distance.result in
+    let row = c.args.row.now in
     let at = c.distance.ensures.value ∙ ap (λ w. distance w 0) c.width_of-width.ensures.value in
-    let most = first_is_greatest (starts (length c.args.row.now) apart) (sum_at c.args.row.now apart)
-    c.best_start-start.result.sum c.best_start-start.result.number c.best_start-start.ensures in
-    c.first-best.ensures (best_at c.args.row.now)
-    (most ∙ ap (λ d. greatest (starts (length c.args.row.now) d) (sum_at c.args.row.now d)) at)
+    c.first-best.ensures (best_at row)
+    (c.best_sum.ensures ∙ ap (λ d. greatest (starts (length row) d) (sum_at row d)) at)
 
 pub loop-number-preserved : goal.loop-number-preserved
 loop-number-preserved c =
-    let apart = c.distance-in-loop-number.result in
+    let row = c.args.row.now in
     let at = c.distance-in-loop-number.ensures.value
     ∙ ap (λ w. distance w c.loop-number.number) c.width_of-width.ensures.value in
-    let start = c.best_start-start-in-loop-number in
-    let most = first_is_greatest (starts (length c.args.row.now) apart) (sum_at c.args.row.now apart)
-    start.result.sum start.result.number start.ensures in
-    c.or-best.ensures (best_at c.args.row.now) c.loop-number.invariant
-    (most ∙ ap (λ d. greatest (starts (length c.args.row.now) d) (sum_at c.args.row.now d)) at)
+    c.or-best.ensures (best_at row) c.loop-number.invariant
+    (c.best_sum-sum.ensures ∙ ap (λ d. greatest (starts (length row) d) (sum_at row d)) at)
 
 pub returns : goal.returns
 returns c =
