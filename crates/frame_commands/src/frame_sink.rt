@@ -27,7 +27,7 @@ pub(crate) trait FrameSink: Drop {
     /// What the words choose for it.
     type Choice: Copy;
 
-    /// How the frames are had.
+    /// How the frames are found.
     ghost flight: { Self.Choice → Flight };
 
     /// What it writes.
@@ -39,11 +39,11 @@ pub(crate) trait FrameSink: Drop {
     /// How many frames it has counted, at most as many as it was given.
     ghost taken: { Self → ℕ };
 
-    /// How the frames are had.
+    /// How the frames are found.
     fn flight(choice: Self::Choice) -> Flight
         ensures { result ≡ flight choice };
 
-    /// Writes what stands first.
+    /// Writes what comes first.
     fn begin<K: Sink>(
         choice: Self::Choice,
         header: &IntervalHeader,
@@ -75,7 +75,7 @@ pub(crate) trait FrameSink: Drop {
         ensures going { result ≡ false → (choice : Self.Choice) (header : IntervalHeader) (frames : List Frame)
             → given self.now choice header frames → ¬ AreTooMany (FrameText.most (made choice)) frames };
 
-    /// Writes what stands last, behind so many intervals, whose sum is so many ticks. `frames` has counted what
+    /// Writes what comes last, after `intervals` intervals, whose sum is `ticks`. `frames` has counted what
     /// was given.
     fn finish<K: Sink>(
         &self,

@@ -34,7 +34,7 @@ use tc_command::{Stop, push_line, push_piece};
 use tc_io::{Sink, Source};
 use tc_job::{Flight, Witness};
 
-/// Works `ltc-spans`: a line for each span of a recording, where its frames are had so, and between two
+/// Works `ltc-spans`: a line for each span of a recording, as `flight` finds its frames, and between two
 /// of them one for the gap.
 pub fn tell_spans<S: Source, K: Sink>(
     flight: Flight,
@@ -53,7 +53,7 @@ pub fn tell_spans<S: Source, K: Sink>(
     }
 }
 
-/// What is told of `ltc-spans` holds: the spans share out the frames of the file.
+/// What is claimed of `ltc-spans` holds: the spans share out the frames of the file.
 fn spans_are_told()
     ensures { (flight : Flight) → IsTold (told_ltc_spans flight) }
 {
@@ -68,7 +68,7 @@ fn spans_are_told()
     spans_come_in_order();
 }
 
-/// What is told of `ltc-spans` is lawful.
+/// What is claimed of `ltc-spans` is lawful.
 pub fn spans_are_lawful()
     ensures { (flight : Flight) → IsLawful (told_ltc_spans flight) }
 {
@@ -127,7 +127,7 @@ impl SpanLines {
         }
     }
 
-    /// Writes what a frame tells: the span that ended, and the gap behind it.
+    /// Writes what a frame completes: the span that ended, and the gap behind it.
     fn push_cut<K: Sink>(&self, cut: Cut, out: &mut K) -> Result<(), Stop>
         requires { FitsCut cut }
         ensures all { OnOk result

@@ -35,7 +35,7 @@ pub fn sound_recording<S: Source, K: Sink>(
     work_along::<MadeSound, S, K>(level, source, out)
 }
 
-/// What is told of `ltc-pcm` is lawful.
+/// What is claimed of `ltc-pcm` is lawful.
 pub fn made_sound_is_lawful()
     ensures { (level : ℕ) → IsLawful (told_ltc_pcm level) }
 {
@@ -43,7 +43,7 @@ pub fn made_sound_is_lawful()
     what_is_printed_is_in_order();
 }
 
-/// So many equal samples are put at once, at most.
+/// How many equal samples are put at once, at most.
 const RUN: usize = 512;
 
 /// Their bytes.
@@ -79,7 +79,7 @@ fn sample_bytes(sample: i16) -> [u8; 2]
     bytes
 }
 
-/// The bytes of so many equal samples.
+/// The bytes of `RUN` equal samples.
 fn run_of(sample: i16) -> Run
     ensures { result.items ≡ bytes_of (replicate 512 sample) }
 {
@@ -93,7 +93,7 @@ fn run_of(sample: i16) -> Run
     run
 }
 
-/// Puts so many samples, of which the run has as many as are put at once.
+/// Puts `samples` equal samples, up to `RUN` of them at once.
 #[inline(always)]
 fn put_run<K: Sink>(
     run: &Run,

@@ -125,7 +125,7 @@ seconds_no_newline m fits =
 
 -- ---- it says the label
 
--- a day begins within so many milliseconds
+-- a frame of the day begins at a millisecond below 2 to the 64th
 few_milliseconds : (base : Timebase) (n : ℕ) → n < day_length (count_of base)
     → millisecond_at (rate_of base) n < 2 ^ 64
 few_milliseconds F24 n below = omega (arith, below)
@@ -218,7 +218,7 @@ lines_say_labels laws base (line ∷ lines) (a ∷ labels) say =
 
 -- ---- two ways
 
--- what the second way answers to the label that the first one told
+-- what the second way answers to the label that the first one gave
 two_answers : AnswerLaws → (base : Timebase) (first next whole : Way) (a : Address) → AreTogether first next whole
     → IsOf base a → answer base next (label_told first a) ≡ answer base whole a
 two_answers laws base ways.Number next whole a together is = ap (λ (way : Way). answer base way a) together

@@ -27,7 +27,7 @@ use Rattle.label_command.specs.ThereAndBack.{BeginBefore, BeginTogether, IsAsFas
 
 -- ---- the first label
 
--- it stands first in a list
+-- it comes first in a list
 record IsFirst (first : Address) (all : List Address) : Type 0 where
   pub rest : List Address
   pub are : all ≡ first ∷ rest
@@ -84,7 +84,7 @@ number_of_first a is same = rw is.are (rw same refl)
 midnight_is_first : (c : Count) → number_of (address c 0 0 0 0) ≡ 0
 midnight_is_first c = number_of_first (address c 0 0 0 0) (first_label c) refl
 
--- ---- so many frames behind it
+-- ---- some frames behind it
 
 -- what the laws of steps say
 pub record StepLaws : Type 0 where

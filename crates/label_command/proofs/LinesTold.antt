@@ -244,7 +244,7 @@ one_fault base text a b (inr one) (inl other) =
     absurd (no_good_refused (reading_of base text).verdict b one.0 other)
 one_fault base text a b (inr one) (inr other) = one_some (end_fault_of base text) a b one.1 other.1
 
--- where a text has a fault, it is that of its first line that says no label
+-- if a text has a fault, it is that of its first line that says no label
 record FirstRefused (base : Timebase) (text : List ℕ) (lines : List (List ℕ)) (fault : LineFault) : Type 0 where
   pub labels : List Address
   pub first : IsFirstRefused base lines labels fault
@@ -314,7 +314,7 @@ stopped_at_a_line laws run text written lines left fault has (inr ends) =
       are = ends.1.2 ∙ ap (answers run) first.are;
     }
 
--- ---- what is told of it
+-- ---- what is claimed of it
 
 keeps : LabelLaws → (run : LabelRunning) (text written : List ℕ) (lines : List (List ℕ)) → HasLines text lines
     → IsInput (along_labels run) text → Meaning.output (along_labels run) text written → Said run.base 1 lines

@@ -18,7 +18,7 @@ use Rattle.tc_job.specs.Pace.{pace_of}
 
 -- ---- intervals of one length
 
--- so many, and those that follow
+-- the first `count` pieces, and those that follow
 pub pieces_from : (length count whole : ℕ) → count ≤ whole → intervals_bytes One (replicate whole length)
     ≡ intervals_bytes One (replicate count length) ++ intervals_bytes One (replicate (whole - count) length)
 pieces_from length count whole within =
@@ -46,7 +46,7 @@ three_parts p =
     ∙ ap (λ (l : List ℕ). intervals_bytes One first ++ l)
     (flat_map-append (spelling One) (option_to_list p.rest) (replicate p.begun p.length))
 
--- nothing has begun where nothing has passed
+-- nothing has begun if nothing has passed
 pub none_begun : (pace : Pace) → begun pace 0 ≡ []
 none_begun Ended = refl
 none_begun (Passing length) = ap (λ n. replicate n length) (zero-div length)

@@ -20,7 +20,7 @@ use tc_command::{Engine, Gathered, InputFault, Stop, work};
 use tc_io::{Sink, Source};
 use tc_job::Slicing;
 
-/// So many samples are taken, at most.
+/// How many samples are taken, at most.
 pub const MAX_SAMPLES: u64 = 1_000_000_000;
 
 /// Works `pcm-ltc`: an interval file of the distances between the crossings of samples.
@@ -36,7 +36,7 @@ pub fn slice_sound<S: Source, K: Sink>(
     work(&mut SlicedSound::new(slicing), source, out)
 }
 
-/// What is told of `pcm-ltc` holds: the intervals tell the crossings of all samples that there are.
+/// What is claimed of `pcm-ltc` holds: the intervals give the crossings of all samples that there are.
 fn a_sliced_sound_is_told(slicing: &Slicing)
     ensures { IsTold (told_pcm_ltc slicing.now) }
 {
@@ -53,13 +53,13 @@ struct SlicedSound {
     slicer: Slicer,
     /// Whole samples so far.
     samples: u64,
-    /// The first byte of a sample, where a pull ended behind it.
+    /// The first byte of a sample, if a pull ended behind it.
     half: Option<u8>,
     gathered: Gathered,
 }
 
 impl SlicedSound {
-    /// Before the first sample. The header stands already.
+    /// Before the first sample. The header is already written.
     fn new(slicing: &Slicing) -> SlicedSound
         ensures choice { result.slicing ≡ slicing.now }
         ensures going { IsGoing result }
@@ -161,7 +161,7 @@ impl SlicedSound {
     }
 }
 
-/// The bytes of at most so many samples.
+/// The bytes of the first `samples` samples, or all if there are fewer.
 fn within(bytes: &[u8], samples: u64) -> &[u8]
     requires some { 1 ≤ samples }
     requires most { samples ≤ MAX_SAMPLES }

@@ -35,7 +35,7 @@ pub(crate) fn spell<K: Sink>(
     spell_whole(gathered, intervals.length, intervals.begun, out)
 }
 
-/// Spells so many intervals of a length.
+/// Spells `count` intervals of a length.
 #[inline(always)]
 fn spell_whole<K: Sink>(
     gathered: &mut Gathered,
@@ -57,7 +57,7 @@ fn spell_whole<K: Sink>(
     Ok(())
 }
 
-/// Spells the rest of a distance, where one ended.
+/// Spells the rest of a distance, if one ended.
 #[inline(always)]
 fn spell_rest<K: Sink>(gathered: &mut Gathered, rest: Option<u32>, out: &mut K) -> Result<(), Stop>
     requires { IfSome rest (λ rest. IsInterval rest) }

@@ -31,10 +31,10 @@ use tc_job::WaveSlicing;
 use wave_file::laws::{a_file_is_read_as_it_was_written, samples_are_few_and_behind_a_format};
 use wave_file::{Asked, MAX_SAMPLES, Taken, WaveDecoder, WaveFormat};
 
-/// So many ticks has a sample.
+/// The ticks of a sample.
 const TICKS: u32 = 16;
 
-/// So many samples are decoded at once, at most.
+/// How many samples are decoded at once, at most.
 const ROOM: usize = 2_048;
 
 /// Works `wav-ltc`: an interval file of the distances between the crossings of a track.
@@ -50,7 +50,7 @@ pub fn slice_track<S: Source, K: Sink>(
     work(&mut SlicedTrack::new(slicing), source, out)
 }
 
-/// What is told of `wav-ltc` holds: a sound file that was made is read as it was made, and the intervals tell the
+/// What is claimed of `wav-ltc` holds: a sound file that was made is read as it was made, and the intervals give the
 /// crossings of its track.
 fn a_sliced_track_is_told(slicing: &WaveSlicing)
     ensures { IsTold (told_wav_ltc slicing.now) }
@@ -61,7 +61,7 @@ fn a_sliced_track_is_told(slicing: &WaveSlicing)
     let _track = slicing.track();
 }
 
-/// What is told of `wav-ltc` is lawful.
+/// What is claimed of `wav-ltc` is lawful.
 pub fn sliced_tracks_are_lawful()
     ensures { (slicing : SlicesWave) → IsLawful (told_wav_ltc slicing) }
 {
