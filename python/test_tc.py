@@ -74,5 +74,78 @@ class Reading(unittest.TestCase):
         self.assertEqual(found, [wanted] * 4)
 
 
+@unittest.skipUnless(os.path.exists(TC), "bin/tc is not built")
+class Tapes(unittest.TestCase):
+    @classmethod
+    def setUpClass(cls):
+        cls.ticks = array.array("I", intervals("25", "09:59:59:20", 60))
+        cls.labels = [f"{'09:59:59' if n < 5 else f'10:00:{(n - 5) // 25:02}'}:{(20 + n) % 25:02}" for n in range(60)]
+
+    def test_words_of_a_clean_tape(self):
+        for settings in ({}, {"tolerance": tc.Tolerance.WORN}, {"tolerance": tc.Tolerance.ROUGH, "firm": True}):
+            tape = tc.Tape(25, **settings)
+            words = tape.write(self.ticks) + tape.last()
+            self.assertEqual([word.label for word in words], self.labels)
+
+    def test_pieces_and_copies_bring_the_same(self):
+        whole = tc.Tape().write(self.ticks)
+        for length in (1, 999, 5_000):
+            tape, brought = tc.Tape(), []
+            for at in range(0, len(self.ticks), length):
+                brought += tape.write(list(self.ticks[at : at + length]))
+                tape = tape.copy()
+            self.assertEqual(brought, whole)
+
+    def test_a_backward_word_waits_for_its_witness(self):
+        ticks = intervals("25", "09:59:59:20", 3, "backward")
+        tape = tc.Tape(25, tc.Tolerance.ROUGH, firm=True)
+        told, last = tape.write(ticks), tape.last()
+        self.assertEqual([word.backward for word in told + last], [True] * 3)
+        self.assertEqual((len(told), len(last), tape.last()), (2, 1, last))
+
+    def test_what_is_no_interval_is_refused(self):
+        for wrong in (0, 16_777_216):
+            tape = tc.Tape()
+            with self.assertRaises(ValueError):
+                tape.write([5_000, wrong, 5_000])
+        for wrong in (b"abc", [-1], [1 << 32], array.array("h", [1])):
+            with self.assertRaises(ValueError):
+                tc.Tape().write(wrong)
+        for settings in ((29,), (25, 3), (25, 0, 2)):
+            with self.assertRaises(ValueError):
+                tc.Tape(*settings)
+
+
+@unittest.skipUnless(os.path.exists(TC), "bin/tc is not built")
+class Wheels(unittest.TestCase):
+    def test_a_hole_is_bridged_up_to_the_limit(self):
+        words = tc.Tape().write(intervals("25", "09:59:59:20", 10))
+        for limit, kinds in ((3, [2, 2, 2]), (2, [2, 2, 3]), (0, [3])):
+            wheel, frames = tc.Wheel(limit), []
+            for word in words[:4] + words[7:]:
+                frames += wheel.copy().heard(word)
+                wheel.heard(word)
+            self.assertEqual([frame.kind for frame in frames], [1] * 4 + kinds + [1] * 3)
+            self.assertEqual(frames[4 + len(kinds)].joined, limit == 3)
+            self.assertEqual([frame.label for frame in frames if frame.kind == tc.Kind.HEARD][4], words[7].label)
+
+    def test_time_does_not_fall(self):
+        wheel = tc.Wheel(1)
+        self.assertEqual(wheel.passed(1_000), [])
+        for tick in (999, 1 << 60, -1):
+            with self.assertRaises(ValueError):
+                wheel.passed(tick)
+        word = tc.Tape().write(intervals("25", "09:59:59:20", 2))[0]
+        first = wheel.heard(word)
+        self.assertEqual([(frame.kind, frame.joined, frame.tick) for frame in first], [(1, False, word.tick)])
+        far = [(frame.kind, frame.step) for frame in wheel.passed((1 << 60) - 1)]
+        self.assertEqual(far, [(tc.Kind.INVENTED, 1), (tc.Kind.GONE, 0)])
+
+    def test_limits(self):
+        for limit in (-1, 256, 1 << 40):
+            with self.assertRaises(ValueError):
+                tc.Wheel(limit)
+
+
 if __name__ == "__main__":
     unittest.main()

@@ -1,4 +1,5 @@
 mod FlagBits
+mod FramesOn
 mod LendsOn
 mod OneWord
 mod Steps

@@ -1,9 +1,17 @@
 -- What the reader of a handle leaves in the handle.
 use Rattle.std.specs.Borrow.{Lends, MutBor, Fml}
+use Rattle.frame_wheel.specs.Wheel.{WheelState}
 use Rattle.sound_reader.specs.Sound.{SoundState}
+use Rattle.tape_reader.specs.declared.reader.TapeReader.{TapeReader}
 use Rattle.tc_c.specs.contracts.kept.KeptReader as reader
+use Rattle.tc_c.specs.contracts.tape_kept.KeptTape as tape
+use Rattle.tc_c.specs.contracts.wheel_kept.KeptWheel as wheel
 use Rattle.tc_c.specs.declared.handle.TcReader.{TcReader}
+use Rattle.tc_c.specs.declared.tape_handle.TcTape.{TcTape}
+use Rattle.tc_c.specs.declared.wheel_handle.TcWheel.{TcWheel}
 use Rattle.tc_c.specs.contracts.handle.TcReader as handle
+use Rattle.tc_c.specs.contracts.tape_handle.TcTape as tape_handle
+use Rattle.tc_c.specs.contracts.wheel_handle.TcWheel as wheel_handle
 
 -- the handle with another state of its reader
 abbrev pub with_reader : TcReader → SoundState → TcReader
@@ -12,3 +20,19 @@ with_reader handle value = record handle { value = value }
 -- the handle ends with the last state of its reader
 abbrev pub LendsReader : MutBor TcReader → MutBor SoundState → Fml
 LendsReader s r = Lends handle.the_row reader.the_row s r (with_reader s.now)
+
+-- the same of a tape
+abbrev pub with_tape : TcTape → TapeReader → TcTape
+with_tape handle value = record handle { value = value }
+
+-- the handle ends with the last state of its reader
+abbrev pub LendsTape : MutBor TcTape → MutBor TapeReader → Fml
+LendsTape s r = Lends tape_handle.the_row tape.the_row s r (with_tape s.now)
+
+-- and of a flywheel
+abbrev pub with_wheel : TcWheel → WheelState → TcWheel
+with_wheel handle value = record handle { value = value }
+
+-- the handle ends with the last state of its flywheel
+abbrev pub LendsWheel : MutBor TcWheel → MutBor WheelState → Fml
+LendsWheel s r = Lends wheel_handle.the_row wheel.the_row s r (with_wheel s.now)

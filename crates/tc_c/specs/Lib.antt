@@ -1,4 +1,5 @@
 pub mod CEvent
+pub mod CFrame
 pub mod CLabel
 pub mod CSettings
 pub mod CWord

@@ -3,9 +3,15 @@ use Rattle.std.specs.Borrow.{Fml, full_share}
 use Rattle.std.specs.Ptr.{lies_at, room_at}
 use base.Fml.{fsep, fex}
 use denote.RawPtr.{Ptr}
+use Rattle.frame_wheel.specs.Wheel.{WheelState}
 use Rattle.sound_reader.specs.Sound.{SoundState}
+use Rattle.tape_reader.specs.declared.reader.TapeReader.{TapeReader}
 use Rattle.tc_c.specs.contracts.kept.KeptReader as reader
 use Rattle.tc_c.specs.contracts.handle.TcReader as handle
+use Rattle.tc_c.specs.contracts.tape_kept.KeptTape as tape
+use Rattle.tc_c.specs.contracts.tape_handle.TcTape as tape_handle
+use Rattle.tc_c.specs.contracts.wheel_kept.KeptWheel as wheel
+use Rattle.tc_c.specs.contracts.wheel_handle.TcWheel as wheel_handle
 
 -- room for both
 abbrev pub HasRoom : Ptr → Ptr → Fml
@@ -15,3 +21,21 @@ HasRoom room at = fsep (room_at reader.the_row room) (room_at handle.the_row at)
 abbrev pub HasReader : Ptr → Ptr → Fml
 HasReader room at =
     fex SoundState (λ value. lies_at handle.the_row full_share at (record { at = room; value = value }))
+
+-- room for a reader of a tape and its handle
+abbrev pub HasTapeRoom : Ptr → Ptr → Fml
+HasTapeRoom room at = fsep (room_at tape.the_row room) (room_at tape_handle.the_row at)
+
+-- a handle whose reader of a tape lies in the room
+abbrev pub HasTape : Ptr → Ptr → Fml
+HasTape room at =
+    fex TapeReader (λ value. lies_at tape_handle.the_row full_share at (record { at = room; value = value }))
+
+-- room for a flywheel and its handle
+abbrev pub HasWheelRoom : Ptr → Ptr → Fml
+HasWheelRoom room at = fsep (room_at wheel.the_row room) (room_at wheel_handle.the_row at)
+
+-- a handle whose flywheel lies in the room
+abbrev pub HasWheel : Ptr → Ptr → Fml
+HasWheel room at =
+    fex WheelState (λ value. lies_at wheel_handle.the_row full_share at (record { at = room; value = value }))

@@ -3,7 +3,7 @@ ghost use Rattle.std.specs.Prelude.{◌≡◌, Some, IfSome};
 ghost use Rattle.tc_address.specs.declared.count.Count.{Count};
 ghost use Rattle.tc_address.specs.Label.{Address, IsLabel};
 ghost use Rattle.tc_c.specs.CEvent.{count_number};
-ghost use Rattle.tc_c.specs.CLabel.{MeansLabel};
+ghost use Rattle.tc_c.specs.CLabel.{c_label, c_no_label, MeansLabel};
 
 use crate::event::count_number;
 use tc_address::{Count, Label};
@@ -32,7 +32,8 @@ impl TcLabel {
 
     /// The numbers of a label.
     pub(crate) fn numbers_of(label: &Label) -> TcLabel
-        ensures { MeansLabel result label.now }
+        ensures means { MeansLabel result label.now }
+        ensures is { result ≡ c_label label.now }
     {
         TcLabel {
             count: u32::from(count_number(label.count())),
@@ -41,6 +42,19 @@ impl TcLabel {
             seconds: label.seconds(),
             frames: label.frames(),
         }
+    }
+}
+
+/// The numbers that stand where there is no label.
+pub(crate) fn no_label() -> TcLabel
+    ensures { result ≡ c_no_label }
+{
+    TcLabel {
+        count: 0,
+        hours: 0,
+        minutes: 0,
+        seconds: 0,
+        frames: 0,
     }
 }
 
