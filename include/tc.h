@@ -297,6 +297,99 @@ static inline tc_given tc_wheel_hear(tc_wheel *wheel, const tc_heard *word, tc_f
     return tc_wheel_hear_(&handle, word, frames, room);
 }
 
+/* ---- MIDI Time Code: frames in, bytes out */
+
+/* The library's own form of a writer. */
+size_t tc_mtc_writer_bytes(void);
+size_t tc_mtc_writer_boundary(void);
+void tc_mtc_writer_at(void *room, tc_handle *handle);
+void tc_mtc_writer_start_(tc_handle *handle);
+tc_given tc_mtc_writer_write_(tc_handle *handle, const tc_frame *frame, uint8_t *bytes, size_t room);
+
+#define TC_MTC_MOST 18 /* so many bytes a frame at most: a full message, and four quarter frames */
+#define TC_MTC_WRITER_BYTES 64
+#define TC_MTC_WRITER_BOUNDARY 16
+typedef struct tc_mtc_writer {
+    TC_ALIGN(TC_MTC_WRITER_BOUNDARY) unsigned char state[TC_MTC_WRITER_BYTES];
+} tc_mtc_writer;
+
+/* Begins anew: the next frame begins a run, with a full message. */
+static inline void tc_mtc_writer_start(tc_mtc_writer *writer) {
+    tc_handle handle = {writer->state};
+    tc_mtc_writer_start_(&handle);
+}
+
+/* Makes a writer, before its first frame. False where the library is of another version than this header. */
+static inline bool tc_mtc_writer_init(tc_mtc_writer *writer) {
+    tc_handle handle;
+    if (tc_abi() != TC_ABI || tc_mtc_writer_bytes() > TC_MTC_WRITER_BYTES ||
+        tc_mtc_writer_boundary() > TC_MTC_WRITER_BOUNDARY) {
+        return false;
+    }
+    tc_mtc_writer_at(writer->state, &handle);
+    return true;
+}
+
+/* Writes the messages of the next frame, as a flywheel gives it: 18 bytes where it begins a run, 8 where it goes on
+ * one, and none for TC_GONE. It is `done` where there is room for 18, and `refused` where the numbers are none of a
+ * frame. The quarter frames of a frame are four, to be sent a quarter of it apart. */
+static inline tc_given tc_mtc_writer_write(tc_mtc_writer *writer, const tc_frame *frame, uint8_t *bytes, size_t room) {
+    tc_handle handle = {writer->state};
+    return tc_mtc_writer_write_(&handle, frame, bytes, room);
+}
+
+/* ---- MIDI Time Code: bytes in, labels out */
+
+/* What was read. */
+enum { TC_MTC_FULL = 1, TC_MTC_QUARTER = 2 };
+typedef struct tc_mtc_event {
+    uint32_t kind;      /* a full message, or eight quarter frames in a row */
+    uint32_t direction; /* of quarter frames: forward where their pieces rise */
+    uint32_t fault;     /* 0, or why the address is no label: 1 hours, 2 minutes, 3 seconds, 4 frames, 5 dropped */
+    tc_label label;     /* where there is no fault */
+    uint64_t place;     /* that of the byte that completes it, from 0 over all bytes */
+} tc_mtc_event;         /* what says nothing of an event is 0 */
+
+/* The library's own form of a reader. */
+size_t tc_mtc_reader_bytes(void);
+size_t tc_mtc_reader_boundary(void);
+void tc_mtc_reader_at(void *room, tc_handle *handle);
+void tc_mtc_reader_start_(tc_handle *handle);
+tc_taken tc_mtc_reader_read_(tc_handle *handle, const uint8_t *bytes, size_t count, tc_mtc_event *events, size_t room);
+
+#define TC_MTC_READER_BYTES 128
+#define TC_MTC_READER_BOUNDARY 16
+typedef struct tc_mtc_reader {
+    TC_ALIGN(TC_MTC_READER_BOUNDARY) unsigned char state[TC_MTC_READER_BYTES];
+} tc_mtc_reader;
+
+/* Begins anew. */
+static inline void tc_mtc_reader_start(tc_mtc_reader *reader) {
+    tc_handle handle = {reader->state};
+    tc_mtc_reader_start_(&handle);
+}
+
+/* Makes a reader, before its first byte. False where the library is of another version than this header. */
+static inline bool tc_mtc_reader_init(tc_mtc_reader *reader) {
+    tc_handle handle;
+    if (tc_abi() != TC_ABI || tc_mtc_reader_bytes() > TC_MTC_READER_BYTES ||
+        tc_mtc_reader_boundary() > TC_MTC_READER_BOUNDARY) {
+        return false;
+    }
+    tc_mtc_reader_at(reader->state, &handle);
+    return true;
+}
+
+/* Takes bytes of MIDI from the front, and writes the labels that they complete, in order, as long as there is room: a
+ * room of 0 takes nothing. Messages of other kinds, and real-time bytes between, are passed over. Call again with the
+ * bytes that are left while room is full. In whatever pieces the bytes come, the labels are the same. `full` comes with
+ * 2 to the 62nd bytes. */
+static inline tc_taken tc_mtc_reader_read(tc_mtc_reader *reader, const uint8_t *bytes, size_t count,
+                                          tc_mtc_event *events, size_t room) {
+    tc_handle handle = {reader->state};
+    return tc_mtc_reader_read_(&handle, bytes, count, events, room);
+}
+
 #ifdef __cplusplus
 }
 #endif

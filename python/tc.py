@@ -10,7 +10,8 @@ else has the buffer protocol. A tick is a part of a sample, of which a sample ha
 Intervals are 32 bits wide, in the same forms or as whole numbers; a tick is their unit.
 
 A `Reader` takes samples, a `Tape` intervals, and both give words, refused words and breaks. A `Wheel` takes words and
-the time, and gives frames: those that were heard, and invented ones where none was.
+the time, and gives frames: those that were heard, and invented ones where none was. An `MtcWriter` makes MIDI Time Code
+of frames, and an `MtcReader` reads its bytes.
 
 The library is what TC_LIBRARY names in the environment, else lib/libtc.so.1 beside this file's folder, else the
 loader's libtc.so.1. It needs nothing but Python.
@@ -88,6 +89,16 @@ class Kind(enum.IntEnum):
     GONE = 3
 
 
+class LabelFault(enum.IntEnum):
+    """Why an address of MIDI Time Code is no label: the first of its parts that no label has."""
+
+    HOURS = 1
+    MINUTES = 2
+    SECONDS = 3
+    FRAMES = 4
+    DROPPED = 5
+
+
 class Word(NamedTuple):
     """A word of 80 bits that was read."""
 
@@ -138,6 +149,22 @@ class Frame(NamedTuple):
     """How many labels an invented one lies after the word before, from 1 to the limit."""
     tick: int
     """Where it ends."""
+    count: str
+    """Its count: 24, 25, 30 or 30d, and nothing where the time code is gone."""
+
+
+class MtcLabel(NamedTuple):
+    """A label that was read from MIDI Time Code, or one that is refused."""
+
+    full: bool
+    """Whether a full message has it, or eight quarter frames."""
+    label: str
+    """The frame address, and nothing where it is refused."""
+    backward: bool
+    """Of quarter frames, whether their pieces fall."""
+    fault: LabelFault | None
+    place: int
+    """That of the byte that completes it, from 0 over all bytes."""
 
 
 class Full(Exception):
@@ -205,8 +232,21 @@ class _Frame(ctypes.Structure):
     def seen(self) -> Frame:
         kind, label = Kind(self.kind), self.label
         text = _text(label.count, label.hours, label.minutes, label.seconds, label.frames)
-        text = "" if kind == Kind.GONE else text
-        return Frame(kind, text, self.direction == 1, self.joined == 1, self.step, self.tick)
+        text, count = ("", "") if kind == Kind.GONE else (text, COUNTS[label.count])
+        return Frame(kind, text, self.direction == 1, self.joined == 1, self.step, self.tick, count)
+
+
+class _MtcEvent(ctypes.Structure):
+    _fields_ = [
+        *((name, ctypes.c_uint32) for name in ("kind", "direction", "fault")),
+        ("label", _Label),
+        ("place", ctypes.c_uint64),
+    ]
+
+    def seen(self) -> MtcLabel:
+        label, fault = self.label, LabelFault(self.fault) if self.fault else None
+        text = "" if fault else _text(label.count, label.hours, label.minutes, label.seconds, label.frames)
+        return MtcLabel(self.kind == 1, text, self.direction == 1, fault, self.place)
 
 
 class _Given(ctypes.Structure):
@@ -240,12 +280,13 @@ def _describe(loaded: ctypes.CDLL) -> None:
     """Tells ctypes what the functions take and give."""
     place, size = ctypes.POINTER(ctypes.c_void_p), ctypes.c_size_t
     events, frames = ctypes.POINTER(_Event), ctypes.POINTER(_Frame)
-    for name in ("reader", "tape", "wheel"):
+    for name in ("reader", "tape", "wheel", "mtc_writer", "mtc_reader"):
         for what in ("bytes", "boundary"):
             getattr(loaded, f"tc_{name}_{what}").restype = size
         made = getattr(loaded, f"tc_{name}_at")
         made.restype, made.argtypes = None, [ctypes.c_void_p, place]
-        getattr(loaded, f"tc_{name}_start_").restype = ctypes.c_bool
+        started = getattr(loaded, f"tc_{name}_start_")
+        started.restype = None if name.startswith("mtc") else ctypes.c_bool
     loaded.tc_reader_start_.argtypes = [place, ctypes.POINTER(_Settings)]
     loaded.tc_reader_write_s16_.restype = _Taken
     loaded.tc_reader_write_s16_.argtypes = [place, ctypes.c_void_p, size, events, size]
@@ -257,6 +298,10 @@ def _describe(loaded: ctypes.CDLL) -> None:
     loaded.tc_wheel_pass_.restype = loaded.tc_wheel_hear_.restype = _Given
     loaded.tc_wheel_pass_.argtypes = [place, ctypes.c_uint64, frames, size]
     loaded.tc_wheel_hear_.argtypes = [place, ctypes.POINTER(_Heard), frames, size]
+    loaded.tc_mtc_writer_write_.restype = _Given
+    loaded.tc_mtc_writer_write_.argtypes = [place, frames, ctypes.POINTER(ctypes.c_uint8), size]
+    loaded.tc_mtc_reader_read_.restype = _Taken
+    loaded.tc_mtc_reader_read_.argtypes = [place, ctypes.c_void_p, size, ctypes.POINTER(_MtcEvent), size]
 
 
 class _Object:
@@ -362,10 +407,10 @@ class Tape(_Object):
         return [event.seen() for event in self._given[:made]]
 
 
-def _events_of(kept: _Object, what: str, view: memoryview, width: int, least: int) -> list[Event]:
+def _events_of(kept: _Object, what: str, view: memoryview, width: int, least: int) -> list:
     """Has all that lies in a view taken, by calls that want room for so many events at least."""
     held = (ctypes.c_char * view.nbytes).from_buffer_copy(view.cast("B"))
-    brought: list[Event] = []
+    brought: list = []
     at, count = 0, view.nbytes // width
     while True:
         place = ctypes.c_void_p(ctypes.addressof(held) + width * at)
@@ -400,9 +445,7 @@ class Wheel(_Object):
         """The frames that are due before a word, and the word as one. Raises ValueError where it is no word, or ended
         before the latest tick.
         """
-        parts = [int(part) for part in word.label.replace(";", ":").split(":")]
-        label = _Label(COUNTS.index(word.count), *_numbers(parts, word.label))
-        heard = _Heard(label, int(word.backward), word.tick, word.length)
+        heard = _Heard(_label_of(word.count, word.label), int(word.backward), word.tick, word.length)
         return self._frames("hear_", ctypes.byref(heard))
 
     def _frames(self, what: str, told) -> list[Frame]:
@@ -414,6 +457,51 @@ class Wheel(_Object):
             brought += [frame.seen() for frame in self._given[: taken.made]]
             if taken.done:
                 return brought
+
+
+class MtcWriter(_Object):
+    """Makes MIDI Time Code of frames: a full message where a run begins, and four quarter frames of each."""
+
+    _name, _gives = "mtc_writer", ctypes.c_uint8
+
+    def __init__(self) -> None:
+        self._make()
+
+    def write(self, frame: Frame) -> bytes:
+        """The bytes of the next frame: 18 where it begins a run, 8 where it goes on one, none where the time code is
+        gone. Raises ValueError where it is no frame.
+        """
+        label = _label_of(frame.count, frame.label) if frame.kind != Kind.GONE else _Label()
+        numbers = frame.kind, int(frame.backward), int(frame.joined), frame.step
+        told = _Frame(*numbers, label, 0, frame.tick)
+        given = self._call("write_", ctypes.byref(self._handle), ctypes.byref(told), self._given, ROOM)
+        if given.refused:
+            raise ValueError(f"no frame: {frame}")
+        return bytes(self._given[: given.made])
+
+
+class MtcReader(_Object):
+    """Reads the labels of MIDI Time Code from bytes of MIDI, in pieces of any length."""
+
+    _name, _gives = "mtc_reader", _MtcEvent
+
+    def __init__(self) -> None:
+        self._make()
+
+    def write(self, data) -> list[MtcLabel]:
+        """Takes all bytes, and gives the labels that they complete. Raises ValueError where these are no bytes."""
+        view = memoryview(data)
+        if not view.c_contiguous or view.itemsize != 1:
+            raise ValueError("bytes are one behind another")
+        return _events_of(self, "read_", view, 1, 1)
+
+
+def _label_of(count: str, label: str) -> _Label:
+    """A frame address in numbers. Raises ValueError where the text is none."""
+    parts = [int(part) for part in label.replace(";", ":").split(":")]
+    if len(parts) != 4 or count not in COUNTS:
+        raise ValueError(f"no label: {label} of {count}")
+    return _Label(COUNTS.index(count), *_numbers(parts, label))
 
 
 def words(samples, **numbers: int) -> Iterator[Word]:

@@ -147,5 +147,46 @@ class Wheels(unittest.TestCase):
                 tc.Wheel(limit)
 
 
+@unittest.skipUnless(os.path.exists(TC), "bin/tc is not built")
+class Midi(unittest.TestCase):
+    @classmethod
+    def setUpClass(cls):
+        wheel = tc.Wheel(2)
+        words = tc.Tape(30).write(intervals("30d", "09:59:59;20", 24))
+        cls.frames = [frame for word in words for frame in wheel.heard(word)]
+
+    def test_what_is_written_is_read(self):
+        writer, reader = tc.MtcWriter(), tc.MtcReader()
+        sent = [writer.write(frame) for frame in self.frames]
+        self.assertEqual([len(data) for data in sent], [18] + [8] * 23)
+        read = reader.write(sent[0]) + reader.copy().write(b"".join(sent[1:]))
+        self.assertEqual([label.label for label in read], [self.frames[0].label] + [f.label for f in self.frames[::2]])
+        self.assertEqual([label.full for label in read], [True] + [False] * 12)
+        self.assertEqual(read[1].place, 25)
+
+    def test_an_end_begins_a_run_anew(self):
+        writer = tc.MtcWriter()
+        self.assertEqual(len(writer.write(self.frames[0])), 18)
+        gone = tc.Frame(tc.Kind.GONE, "", False, False, 0, 9, "")
+        self.assertEqual(writer.write(gone), b"")
+        self.assertEqual(len(writer.copy().write(self.frames[1])), 18)
+        for wrong in ({"label": "24:00:00;00"}, {"label": "10:01:00;00"}, {"kind": 4}, {"step": 1}, {"label": "x"}):
+            with self.assertRaises(ValueError):
+                writer.write(self.frames[1]._replace(**wrong))
+
+    def test_an_address_that_is_no_label(self):
+        for address, fault in (
+            ((0x38, 0, 0, 0), tc.LabelFault.HOURS),
+            ((0x20, 60, 0, 0), tc.LabelFault.MINUTES),
+            ((0x20, 0, 60, 0), tc.LabelFault.SECONDS),
+            ((0x20, 0, 0, 25), tc.LabelFault.FRAMES),
+            ((0x40, 1, 0, 1), tc.LabelFault.DROPPED),
+        ):
+            data = bytes((0xF0, 0x7F, 0x7F, 1, 1, *address, 0xF7))
+            self.assertEqual(tc.MtcReader().write(data), [tc.MtcLabel(True, "", False, fault, 9)])
+        with self.assertRaises(ValueError):
+            tc.MtcReader().write(array.array("h", [1]))
+
+
 if __name__ == "__main__":
     unittest.main()

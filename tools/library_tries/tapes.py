@@ -1,10 +1,12 @@
-"""Tapes and flywheels by the library's functions, set beside the lines of the program."""
+"""Tapes, flywheels and MIDI Time Code by the library's functions, set beside what the program writes."""
 import struct
 import subprocess
 
+from library_tries.midi import damaged, mtc_line
+
 COUNTS = ("24", "25", "30", "30d")
 REPORTS = ("ltc-read", "ltc-worn", "ltc-rough")
-HEARD, FRAME = struct.Struct("<6I2Q"), struct.Struct("<10IQ")
+HEARD, FRAME, LABEL = struct.Struct("<6I2Q"), struct.Struct("<10IQ"), struct.Struct("<8IQ")
 WAYS = ("forward", "backward")
 KINDS = ("heard", "invented", "gone")
 
@@ -86,8 +88,9 @@ def heard_in(count, lines):
     return told
 
 
-def try_tape(program, reads, turns, chance, intervals, lines_of):
+def try_tape(program, programs, chance, intervals, lines_of):
     """One tape, in pieces and with rooms of several sizes: how many events and how many frames there were."""
+    reads, turns, midi = programs
     count, ticks = tape(chance, intervals)
     made, system = file_of(program, count, ticks), count.rstrip("d")
     tolerance = chance.randrange(3)
@@ -115,11 +118,11 @@ def try_tape(program, reads, turns, chance, intervals, lines_of):
         if status != 4:
             raise Differs(f"an interval of {wrong}: status {status}")
         first_difference(f"before an interval of {wrong}", lines_of(found), front)
-    return len(wanted), try_wheel(program, turns, chance, count, made)
+    return len(wanted), try_wheel(program, turns, midi, chance, count, made)
 
 
-def try_wheel(program, turns, chance, count, made):
-    """The frames of a tape: how many there were."""
+def try_wheel(program, turns, midi, chance, count, made):
+    """The frames of a tape, and their MIDI Time Code: how many frames there were."""
     limit, tolerance = chance.choice((0, 1, 2, 7, 254, 255)), chance.choice(("", "worn", "rough"))
     words = ["ltc-fly", str(limit)] + ([tolerance] if tolerance else [])
     read = REPORTS[("", "worn", "rough").index(tolerance)]
@@ -133,14 +136,39 @@ def try_wheel(program, turns, chance, count, made):
             raise Differs(f"{' '.join(words)} with room for {room}: status {status}")
         frames = [frame_line(frame) for frame in FRAME.iter_unpack(found)]
         first_difference(f"{' '.join(words)} with room for {room}", frames, wanted)
+    raw = found
     found, status = run([turns[0], words[1], "0", last], told)
     if status != 0 or found:
         raise Differs("a flywheel with no room gives a frame")
+    sent = run([program, "ltc-mtc", *words[1:]], made)[0]
+    try_sent(program, midi, chance, raw, sent)
     return len(wanted)
 
 
-def try_edges(reads, turns):
-    """Settings, limits and words at their edges: how many."""
+def try_sent(program, midi, chance, frames, sent):
+    """The MIDI Time Code of frames, and what is read of it, clean and damaged."""
+    for room in ("18", "64"):
+        how = [chance.choice(midi), "write", room] + (["moved"] if chance.random() < 0.5 else [])
+        if run(how, frames) != (sent, 0):
+            raise Differs(f"MIDI Time Code with room for {room} is not the program's")
+    if run([midi[0], "write", "17"], frames) != (b"", 0):
+        raise Differs("with room for 17 bytes something is written")
+    for bytes_read in (sent, damaged(chance, sent)):
+        wanted = report_of(program, ["mtc-read"], bytes_read)[0]
+        for piece, room in ((1, 1), (7, 2), (1_024, 5), (1_000_000, 1_000)):
+            how = [chance.choice(midi), "read", str(piece), str(room)] + (["moved"] if chance.random() < 0.5 else [])
+            found, status = run(how, bytes_read)
+            if status != 0:
+                raise Differs(f"mtc-read in pieces of {piece}: status {status}")
+            labels = [mtc_line(label) for label in LABEL.iter_unpack(found)]
+            first_difference(f"mtc-read in pieces of {piece}", labels, wanted)
+        if run([midi[0], "read", "1024", "0"], bytes_read) != (b"", 0):
+            raise Differs("with no room a label is read")
+
+
+def try_edges(programs):
+    """Settings, limits, words and frames at their edges: how many."""
+    reads, turns, midi = programs
     good = [25, 0, 0]
     taken = ((0, 24), (0, 25), (0, 30), (1, 0), (1, 2), (2, 0), (2, 1))
     refused = ((0, 0), (0, 23), (0, 29), (1, 3), (2, 2), *((place, 4_294_967_295) for place in range(3)))
@@ -165,10 +193,26 @@ def try_edges(reads, turns):
     for tick, status in (((1 << 60) - 1, 0), (1 << 60, 4)):
         if run([turns[0], "2", "4", str(tick)], b"")[1] != status:
             raise Differs(f"the tick {tick} is not answered by {status}")
-    return len(taken) + len(refused) + len(limits) + 13
+    return len(taken) + len(refused) + len(limits) + 13 + try_frames(midi)
 
 
-def try_tapes(count, program, reads, turns, chance, intervals, lines_of):
+def try_frames(midi):
+    """Frames in numbers that mean one, and each of these numbers changed into one that means none: how many."""
+    heard, invented, gone = [1, 1, 1, 0], [2, 0, 0, 3], [3, 0, 0, 0]
+    label, none, tick = [3, 10, 11, 0, 2], [0] * 5, 1 << 63
+    frames = [[*heard, *label, 0, tick], [*invented, *label, 0, tick], [*gone, *none, 0, tick]]
+    wrong = [(0, 0), (0, 4), (0, 256), (1, 2), (2, 2), (3, 1), (4, 4), (5, 24), (6, 60), (7, 60), (8, 30), (9, 1)]
+    tries = [(frames[0], place, number) for place, number in (*wrong, (8, 1), (4, 1 << 31))]
+    tries += [(frames[1], 2, 1), (frames[1], 0, 1), *((frames[2], place, 1) for place in range(1, 10))]
+    for frame, place, number in tries:
+        bad = [number if at == place else each for at, each in enumerate(frame)]
+        for numbers, status in ((frame, 0), (bad, 4)):
+            if run([midi[0], "write", "18"], FRAME.pack(*numbers))[1] != status:
+                raise Differs(f"a frame {numbers} is not answered by {status}")
+    return len(tries)
+
+
+def try_tapes(count, program, programs, chance, intervals, lines_of):
     """Tapes at random: how many events and how many frames there were."""
-    both = [try_tape(program, reads, turns, chance, intervals, lines_of) for _ in range(count)]
+    both = [try_tape(program, programs, chance, intervals, lines_of) for _ in range(count)]
     return sum(events for events, _ in both), sum(frames for _, frames in both)

@@ -1,9 +1,10 @@
 -- A word that was heard, and a frame, in numbers. The numbers are this project's own.
-use Rattle.std.specs.Prelude.{◌≡◌}
+use Rattle.std.specs.Prelude.{◌≡◌, ℕ}
 use Rattle.flywheel.specs.declared.frame.Frame.{Frame}
 use Rattle.flywheel.specs.declared.frame.Frame.TheVariants.{Heard, Invented, Gone}
 use Rattle.flywheel.specs.declared.heard.HeardWord.{HeardWord}
 use Rattle.flywheel.specs.Wheel.{IsInRange}
+use Rattle.tc_address.specs.Label.{IsLabel}
 use Rattle.tc_c.specs.CEvent.{bit, direction_number}
 use Rattle.tc_c.specs.CLabel.{c_label, c_no_label, MeansLabel}
 use Rattle.tc_c.specs.declared.frame.TcFrame.{TcFrame}
@@ -46,3 +47,26 @@ c_frame (Gone tick) = record {
   zero = 0;
   tick = tick;
 }
+
+-- numbers say this of a frame, besides its label
+pub record Says (numbers : TcFrame) (kind direction joined step tick : ℕ) : Type 0 where
+  pub kind_is : kind ≡ numbers.kind
+  pub direction_is : direction ≡ numbers.direction
+  pub joined_is : joined ≡ numbers.joined
+  pub step_is : step ≡ numbers.step
+  pub tick_is : tick ≡ numbers.tick
+  pub zero : numbers.zero ≡ 0
+
+-- the numbers mean this frame
+abbrev pub MeansFrame : TcFrame → Frame → Type 0
+MeansFrame numbers (Heard label direction joined tick) =
+    Says numbers 1 (direction_number direction) (bit joined) 0 tick × MeansLabel numbers.label label
+MeansFrame numbers (Invented label direction step tick) =
+    Says numbers 2 (direction_number direction) 0 step tick × MeansLabel numbers.label label
+MeansFrame numbers (Gone tick) = Says numbers 3 0 0 0 tick × (numbers.label ≡ c_no_label)
+
+-- a frame's label is one of its count, where it has one
+abbrev pub HasLabel : Frame → Type 0
+HasLabel (Heard label direction joined tick) = IsLabel label
+HasLabel (Invented label direction step tick) = IsLabel label
+HasLabel (Gone tick) = Unit {0}

@@ -1,5 +1,5 @@
 -- What settings in numbers mean. The numbers are this project's own.
-use Rattle.std.specs.Prelude.{◌≡◌, ℕ, Bool}
+use Rattle.std.specs.Prelude.{◌≡◌, ℕ}
 use Rattle.biphase.specs.declared.profile.Profile.{Profile}
 use Rattle.biphase.specs.declared.profile.Profile.TheVariants.{Normal, Worn, Rough}
 use Rattle.pcm_front.specs.declared.pace.Pace.{Pace}
@@ -48,12 +48,8 @@ pub record Means (numbers : TcSettings) (s : SoundSettings) : Type 0 where
   pub smooth : s.smooth ≡ numbers.smooth
   pub pace : pace_number s.pace ≡ numbers.pace
 
--- whether words are asked for a witness
-abbrev pub firm_number : Bool → ℕ
-firm_number firm = bit firm
-
 -- the numbers mean that a tape is read so
 pub record MeansTape (numbers : TcTapeSettings) (s : TapeSettings) : Type 0 where
   pub system : system_number s.system ≡ numbers.system
   pub tolerance : tolerance_number s.profile ≡ numbers.tolerance
-  pub firm : firm_number s.firm ≡ numbers.firm
+  pub firm : bit s.firm ≡ numbers.firm

@@ -1,11 +1,20 @@
 -- What the reader of a handle leaves in the handle.
 use Rattle.std.specs.Borrow.{Lends, MutBor, Fml}
 use Rattle.frame_wheel.specs.Wheel.{WheelState}
+use Rattle.mtc_reader.specs.declared.reader.MtcReader.{MtcReader}
+use Rattle.quarter_frame.specs.declared.half.Half.{Half}
+use Rattle.std.specs.Prelude.{Option}
 use Rattle.sound_reader.specs.Sound.{SoundState}
 use Rattle.tape_reader.specs.declared.reader.TapeReader.{TapeReader}
 use Rattle.tc_c.specs.contracts.kept.KeptReader as reader
 use Rattle.tc_c.specs.contracts.tape_kept.KeptTape as tape
 use Rattle.tc_c.specs.contracts.wheel_kept.KeptWheel as wheel
+use Rattle.tc_c.specs.contracts.mtc_reader_kept.KeptMtcReader as mtc_reader
+use Rattle.tc_c.specs.contracts.mtc_reader_handle.TcMtcReader as mtc_reader_handle
+use Rattle.tc_c.specs.contracts.mtc_writer_kept.KeptMtcWriter as mtc_writer
+use Rattle.tc_c.specs.contracts.mtc_writer_handle.TcMtcWriter as mtc_writer_handle
+use Rattle.tc_c.specs.declared.mtc_reader_handle.TcMtcReader.{TcMtcReader}
+use Rattle.tc_c.specs.declared.mtc_writer_handle.TcMtcWriter.{TcMtcWriter}
 use Rattle.tc_c.specs.declared.handle.TcReader.{TcReader}
 use Rattle.tc_c.specs.declared.tape_handle.TcTape.{TcTape}
 use Rattle.tc_c.specs.declared.wheel_handle.TcWheel.{TcWheel}
@@ -36,3 +45,19 @@ with_wheel handle value = record handle { value = value }
 -- the handle ends with the last state of its flywheel
 abbrev pub LendsWheel : MutBor TcWheel → MutBor WheelState → Fml
 LendsWheel s r = Lends wheel_handle.the_row wheel.the_row s r (with_wheel s.now)
+
+-- of a reader of MIDI Time Code
+abbrev pub with_mtc_reader : TcMtcReader → MtcReader → TcMtcReader
+with_mtc_reader handle value = record handle { value = value }
+
+-- the handle ends with the last state of its reader
+abbrev pub LendsMtcReader : MutBor TcMtcReader → MutBor MtcReader → Fml
+LendsMtcReader s r = Lends mtc_reader_handle.the_row mtc_reader.the_row s r (with_mtc_reader s.now)
+
+-- and of a writer of it
+abbrev pub with_mtc_writer : TcMtcWriter → Option Half → TcMtcWriter
+with_mtc_writer handle value = record handle { value = value }
+
+-- the handle ends with the last state of its writer
+abbrev pub LendsMtcWriter : MutBor TcMtcWriter → MutBor (Option Half) → Fml
+LendsMtcWriter s r = Lends mtc_writer_handle.the_row mtc_writer.the_row s r (with_mtc_writer s.now)

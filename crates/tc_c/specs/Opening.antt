@@ -4,10 +4,17 @@ use Rattle.std.specs.Ptr.{lies_at, room_at}
 use base.Fml.{fsep, fex}
 use denote.RawPtr.{Ptr}
 use Rattle.frame_wheel.specs.Wheel.{WheelState}
+use Rattle.mtc_reader.specs.declared.reader.MtcReader.{MtcReader}
+use Rattle.quarter_frame.specs.declared.half.Half.{Half}
+use Rattle.std.specs.Prelude.{Option}
 use Rattle.sound_reader.specs.Sound.{SoundState}
 use Rattle.tape_reader.specs.declared.reader.TapeReader.{TapeReader}
 use Rattle.tc_c.specs.contracts.kept.KeptReader as reader
 use Rattle.tc_c.specs.contracts.handle.TcReader as handle
+use Rattle.tc_c.specs.contracts.mtc_reader_kept.KeptMtcReader as mtc_reader
+use Rattle.tc_c.specs.contracts.mtc_reader_handle.TcMtcReader as mtc_reader_handle
+use Rattle.tc_c.specs.contracts.mtc_writer_kept.KeptMtcWriter as mtc_writer
+use Rattle.tc_c.specs.contracts.mtc_writer_handle.TcMtcWriter as mtc_writer_handle
 use Rattle.tc_c.specs.contracts.tape_kept.KeptTape as tape
 use Rattle.tc_c.specs.contracts.tape_handle.TcTape as tape_handle
 use Rattle.tc_c.specs.contracts.wheel_kept.KeptWheel as wheel
@@ -39,3 +46,21 @@ HasWheelRoom room at = fsep (room_at wheel.the_row room) (room_at wheel_handle.t
 abbrev pub HasWheel : Ptr → Ptr → Fml
 HasWheel room at =
     fex WheelState (λ value. lies_at wheel_handle.the_row full_share at (record { at = room; value = value }))
+
+-- room for a reader of MIDI Time Code and its handle
+abbrev pub HasMtcReaderRoom : Ptr → Ptr → Fml
+HasMtcReaderRoom room at = fsep (room_at mtc_reader.the_row room) (room_at mtc_reader_handle.the_row at)
+
+-- a handle whose reader lies in the room
+abbrev pub HasMtcReader : Ptr → Ptr → Fml
+HasMtcReader room at =
+    fex MtcReader (λ value. lies_at mtc_reader_handle.the_row full_share at (record { at = room; value = value }))
+
+-- room for a writer of MIDI Time Code and its handle
+abbrev pub HasMtcWriterRoom : Ptr → Ptr → Fml
+HasMtcWriterRoom room at = fsep (room_at mtc_writer.the_row room) (room_at mtc_writer_handle.the_row at)
+
+-- a handle whose writer lies in the room
+abbrev pub HasMtcWriter : Ptr → Ptr → Fml
+HasMtcWriter room at = fex (Option Half)
+    (λ value. lies_at mtc_writer_handle.the_row full_share at (record { at = room; value = value }))

@@ -1,17 +1,23 @@
 -- What a call takes and writes.
-use Rattle.std.specs.Prelude.{◌≡◌, ℕ, ℤ, Bool, true, List, ◌++◌, map}
+use Rattle.std.specs.Prelude.{◌≡◌, ℕ, ℤ, Bool, true, Option, List, [], ◌∷◌, ◌++◌, map}
 use Rattle.flywheel.specs.declared.frame.Frame.{Frame}
 use Rattle.flywheel.specs.declared.heard.HeardWord.{HeardWord}
 use Rattle.frame_wheel.specs.Wheel as wheel
 use Rattle.frame_wheel.specs.Wheel.{WheelState}
+use Rattle.mtc_reader.specs.declared.reader.MtcReader.{MtcReader}
+use Rattle.quarter_frame.specs.declared.half.Half.{Half}
+use Rattle.quarter_frame.specs.Runs.{mtc_of}
+use Rattle.quarter_frame.specs.StandsFor as writer
 use Rattle.sound_reader.specs.Sound as sound
 use Rattle.sound_reader.specs.Sound.{SoundState}
 use Rattle.tape_reader.specs.Tape as tape
 use Rattle.tape_reader.specs.declared.reader.TapeReader.{TapeReader}
 use Rattle.tc_c.specs.CEvent.{c_event, c_told}
 use Rattle.tc_c.specs.CFrame.{c_frame}
+use Rattle.tc_c.specs.CMtc.{c_mtc_event, HasTold}
 use Rattle.tc_c.specs.declared.event.TcEvent.{TcEvent}
 use Rattle.tc_c.specs.declared.frame.TcFrame.{TcFrame}
+use Rattle.tc_c.specs.declared.mtc_event.TcMtcEvent.{TcMtcEvent}
 
 -- from one state to a later one, of what stands for what it was given and what it gave of that: it was given these
 -- more, and what was written is what it gave more, in numbers
@@ -36,3 +42,14 @@ WheelGoes old new heard done written = (own : List Frame) × (written ≡ map c_
     × ((words : List HeardWord) (given : List Frame) → wheel.StandsFor old words given
     → wheel.StandsFor new (words ++ heard) (given ++ own)
     × (done ≡ true → wheel.HasGivenAll new (words ++ heard) (given ++ own)))
+
+-- from one state of a reader of MIDI Time Code to a later one: it was given these bytes more, and what was written are
+-- the labels that they complete, in numbers
+abbrev pub MtcGoes : MtcReader → MtcReader → List ℕ → List TcMtcEvent → Type 0
+MtcGoes old new bytes written = GoesBy HasTold c_mtc_event old new bytes written
+
+-- from one state of a writer of MIDI Time Code to a later one: it was given a frame more, and these bytes are what it
+-- sends more
+abbrev pub MtcWrites : Option Half → Option Half → Frame → List ℕ → Type 0
+MtcWrites old new frame written = (frames : List Frame) → writer.StandsFor old frames
+    → writer.StandsFor new (frames ++ frame ∷ []) × (mtc_of (frames ++ frame ∷ []) ≡ mtc_of frames ++ written)

@@ -1,5 +1,5 @@
 //! A frame address in numbers. Read next: `label_exports`.
-ghost use Rattle.std.specs.Prelude.{◌≡◌, Some, IfSome};
+ghost use Rattle.std.specs.Prelude.{◌≡◌, ◌↔◌, IsTrue, Some, IfSome};
 ghost use Rattle.tc_address.specs.declared.count.Count.{Count};
 ghost use Rattle.tc_address.specs.Label.{Address, IsLabel};
 ghost use Rattle.tc_c.specs.CEvent.{count_number};
@@ -28,6 +28,17 @@ impl TcLabel {
     {
         let count = count_of(self.count)?;
         Label::new(count, self.hours, self.minutes, self.seconds, self.frames).ok()
+    }
+
+    /// Tells whether they are those that stand where there is no label.
+    pub(crate) fn is_none(&self) -> bool
+        ensures { IsTrue result ↔ self.now ≡ c_no_label }
+    {
+        self.count == 0
+            && self.hours == 0
+            && self.minutes == 0
+            && self.seconds == 0
+            && self.frames == 0
     }
 
     /// The numbers of a label.

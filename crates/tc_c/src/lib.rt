@@ -1,7 +1,7 @@
-//! Readers and a flywheel as functions for C, and words, their bits and labels.
+//! Readers, a flywheel and MIDI Time Code as functions for C, and words, their bits and labels.
 //!
-//! A program in C gives memory for an object, settings in numbers and samples, intervals or words, and gets
-//! events or frames in numbers. All that an object keeps lies in the caller's memory, at one place and of one
+//! A program in C gives memory for an object, settings in numbers and samples, intervals, words or bytes, and
+//! gets events or frames in numbers. All that an object keeps lies in the caller's memory, at one place and of one
 //! size. No call allocates, waits, prints or ends the process. `include/tc.h` names these functions, with
 //! their contracts in words.
 //!
@@ -15,12 +15,15 @@
 //!   the tape.
 //! - `tc_wheel_hear_` and `tc_wheel_pass_` write the frames of all words so far, up to the latest tick
 //!   (`WheelGoes`). A tick that falls is refused.
+//! - `tc_mtc_writer_write_` writes what the MIDI Time Code of the frames so far grows by (`MtcWrites`), and
+//!   `tc_mtc_reader_read_` the labels that bytes complete, in whatever pieces they come (`MtcGoes`).
 //! - `tc_reader_start_`, `tc_tape_start_` and `tc_wheel_start_` take the settings that the numbers mean, and say
 //!   whether they mean some (`specs/CSettings.antt`, `Means`, `MeansTape`). Where they do not, nothing changes.
-//! - `tc_reader_at`, `tc_tape_at` and `tc_wheel_at` make an object in the room that they are given
-//!   (`specs/Opening.antt`).
+//! - `tc_reader_at`, `tc_tape_at`, `tc_wheel_at`, `tc_mtc_writer_at` and `tc_mtc_reader_at` make an object in
+//!   the room that they are given (`specs/Opening.antt`).
 //! - The numbers of an event are those of `specs/CEvent.antt`, `c_event` and `c_told`, and those of a frame
-//!   `c_frame` of `specs/CFrame.antt`; numbers mean one settings, one label and one word at most (`laws`).
+//!   `c_frame` of `specs/CFrame.antt`; numbers mean one settings, one label, one word and one frame at most
+//!   (`laws`).
 //! - `tc_word_bits` gives the bits that spell the word which the numbers mean (`specs/CWord.antt`,
 //!   `MeansWord`), and `tc_bits_word` the word that bits spell, or the number of their first fault.
 //! - `tc_label_number`, `tc_label_at` and `tc_label_advance` are the numbers, labels and steps of a day, for
@@ -30,9 +33,10 @@
 //! they are said to have, which do not overlap, and one call at a time on one object.
 //!
 //! Read `event`, `settings`, `kept`, `write`, `handle`, `opening` and `exports`, in this order; of a tape `told`,
-//! `tape_settings` and the other files of its name, and of a flywheel `heard`, `frame`, `given` and the files of
-//! its name; then `label`, `label_exports`, `word` and `word_exports`, and the files of specs/ beside them.
-//! `sound_reader`, `tape_reader`, `frame_wheel`, `ltc_word` and `tc_address` are what is called.
+//! `tape_settings` and the other files of its name, of a flywheel `heard`, `frame`, `given` and the files of its
+//! name, and of MIDI Time Code `mtc_event` and the files of its name; then `label`, `label_exports`, `word` and
+//! `word_exports`, and the files of specs/ beside them. `sound_reader`, `tape_reader`, `frame_wheel`,
+//! `quarter_frame`, `mtc_reader`, `ltc_word` and `tc_address` are what is called.
 #![tactic(auto)]
 
 mod event;
@@ -45,6 +49,17 @@ mod kept;
 mod label;
 mod label_exports;
 pub mod laws;
+mod mtc_event;
+mod mtc_read;
+mod mtc_reader_exports;
+mod mtc_reader_handle;
+mod mtc_reader_kept;
+mod mtc_reader_opening;
+mod mtc_write;
+mod mtc_writer_exports;
+mod mtc_writer_handle;
+mod mtc_writer_kept;
+mod mtc_writer_opening;
 mod opening;
 mod settings;
 mod tape_exports;
@@ -70,6 +85,11 @@ pub use handle::TcReader;
 pub use heard::TcHeard;
 pub use kept::KeptReader;
 pub use label::TcLabel;
+pub use mtc_event::TcMtcEvent;
+pub use mtc_reader_handle::TcMtcReader;
+pub use mtc_reader_kept::KeptMtcReader;
+pub use mtc_writer_handle::TcMtcWriter;
+pub use mtc_writer_kept::KeptMtcWriter;
 pub use settings::TcSettings;
 pub use tape_handle::TcTape;
 pub use tape_kept::KeptTape;

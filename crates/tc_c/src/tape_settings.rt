@@ -1,7 +1,8 @@
 //! How a tape is read, in numbers. Read next: `tape_kept`.
 ghost use Rattle.std.specs.Prelude.{◌≡◌, Bool, Some, IfSome};
 ghost use Rattle.tape_reader.specs.declared.settings.TapeSettings.{TapeSettings};
-ghost use Rattle.tc_c.specs.CSettings.{firm_number, MeansTape};
+ghost use Rattle.tc_c.specs.CEvent.{bit};
+ghost use Rattle.tc_c.specs.CSettings.{MeansTape};
 
 use crate::settings::{profile_of, system_of};
 use tape_reader::TapeSettings;
@@ -27,14 +28,15 @@ impl TcTapeSettings {
         Some(TapeSettings {
             system: system_of(self.system)?,
             profile: profile_of(self.tolerance)?,
-            firm: firm_of(self.firm)?,
+            firm: flag_of(self.firm)?,
         })
     }
 }
 
-fn firm_of(number: u32) -> Option<bool>
-    ensures means { IfSome result (λ firm. firm_number firm ≡ number) }
-    ensures only { (firm : Bool) → firm_number firm ≡ number → result ≡ Some firm }
+/// Whether a flag is set, where the number says it.
+pub(crate) fn flag_of(number: u32) -> Option<bool>
+    ensures means { IfSome result (λ flag. bit flag ≡ number) }
+    ensures only { (flag : Bool) → bit flag ≡ number → result ≡ Some flag }
 {
     match number {
         0 => Some(false),
