@@ -390,6 +390,94 @@ static inline tc_taken tc_mtc_reader_read(tc_mtc_reader *reader, const uint8_t *
     return tc_mtc_reader_read_(&handle, bytes, count, events, room);
 }
 
+/* ---- code that is made: bits in, intervals out */
+
+/* The library's own form of a maker of cells. */
+size_t tc_maker_bytes(void);
+size_t tc_maker_boundary(void);
+void tc_maker_at(void *room, tc_handle *handle);
+bool tc_maker_start_(tc_handle *handle, uint32_t from, uint32_t to, uint32_t step);
+tc_given tc_maker_bits_(tc_handle *handle, const tc_bits *bits, uint32_t count, uint32_t *ticks, size_t room);
+
+#define TC_MAKER_BYTES 64
+#define TC_MAKER_BOUNDARY 16
+typedef struct tc_maker {
+    TC_ALIGN(TC_MAKER_BOUNDARY) unsigned char state[TC_MAKER_BYTES];
+} tc_maker;
+
+/* Begins anew, and tells whether the shape is taken: cells of `from` ticks, and then each by `step` nearer to `to`.
+ * Both lengths are 16 to 8388607, and 8 steps are not more than the lesser of them. Where not, nothing changes. */
+static inline bool tc_maker_start(tc_maker *maker, uint32_t from, uint32_t to, uint32_t step) {
+    tc_handle handle = {maker->state};
+    return tc_maker_start_(&handle, from, to, step);
+}
+
+/* Makes a maker, before its first bit, and tells whether the shape is taken, as tc_reader_init does. */
+static inline bool tc_maker_init(tc_maker *maker, uint32_t from, uint32_t to, uint32_t step) {
+    tc_handle handle;
+    if (tc_abi() != TC_ABI || tc_maker_bytes() > TC_MAKER_BYTES || tc_maker_boundary() > TC_MAKER_BOUNDARY) {
+        return false;
+    }
+    tc_maker_at(maker->state, &handle);
+    return tc_maker_start_(&handle, from, to, step);
+}
+
+/* Writes the intervals of the cells of the first `count` bits, bit 0 first: one of a zero, and two of a one. A word has
+ * 80, as tc_word_bits gives them. It is `done` where there is room for two a bit, and `refused` where there are more
+ * than 128. A reader locks at the first zero beside a one, so before the first word a zero and a one may stand: two
+ * bits of the number 2. */
+static inline tc_given tc_maker_bits(tc_maker *maker, const tc_bits *bits, uint32_t count, uint32_t *ticks,
+                                     size_t room) {
+    tc_handle handle = {maker->state};
+    return tc_maker_bits_(&handle, bits, count, ticks, room);
+}
+
+/* ---- sound that is made: intervals in, samples out. A tick is a sample */
+
+/* What a call took and gave. */
+typedef struct tc_sound_taken {
+    size_t used; /* intervals taken, from the front */
+    size_t made; /* samples written, from the front */
+} tc_sound_taken;
+
+/* The library's own form of a maker of sound. */
+size_t tc_sound_bytes(void);
+size_t tc_sound_boundary(void);
+void tc_sound_at(void *room, tc_handle *handle);
+bool tc_sound_start_(tc_handle *handle, uint32_t level);
+tc_sound_taken tc_sound_write_(tc_handle *handle, const uint32_t *ticks, size_t count, int16_t *samples, size_t room);
+
+#define TC_SOUND_BYTES 64
+#define TC_SOUND_BOUNDARY 16
+typedef struct tc_sound {
+    TC_ALIGN(TC_SOUND_BOUNDARY) unsigned char state[TC_SOUND_BYTES];
+} tc_sound;
+
+/* Begins anew, with samples of this level, 0 to 32767, and tells whether it is taken. Where not, nothing changes. */
+static inline bool tc_sound_start(tc_sound *sound, uint32_t level) {
+    tc_handle handle = {sound->state};
+    return tc_sound_start_(&handle, level);
+}
+
+/* Makes a maker of sound, before its first interval, and tells whether the level is taken, as tc_reader_init does. */
+static inline bool tc_sound_init(tc_sound *sound, uint32_t level) {
+    tc_handle handle;
+    if (tc_abi() != TC_ABI || tc_sound_bytes() > TC_SOUND_BYTES || tc_sound_boundary() > TC_SOUND_BOUNDARY) {
+        return false;
+    }
+    tc_sound_at(sound->state, &handle);
+    return tc_sound_start_(&handle, level);
+}
+
+/* Takes intervals from the front, and writes as many samples of each as it has ticks, the first above zero and then by
+ * turns, as long as there is room. The last interval may have samples that are still to come: they are written by the
+ * next call, which may be given no interval. Where made < room nothing is left. */
+static inline tc_sound_taken tc_sound_write(tc_sound *sound, const uint32_t *ticks, size_t count, int16_t *samples,
+                                            size_t room) {
+    tc_handle handle = {sound->state};
+    return tc_sound_write_(&handle, ticks, count, samples, room);
+}
+
 #ifdef __cplusplus
 }
 #endif

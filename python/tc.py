@@ -11,7 +11,8 @@ Intervals are 32 bits wide, in the same forms or as whole numbers; a tick is the
 
 A `Reader` takes samples, a `Tape` intervals, and both give words, refused words and breaks. A `Wheel` takes words and
 the time, and gives frames: those that were heard, and invented ones where none was. An `MtcWriter` makes MIDI Time Code
-of frames, and an `MtcReader` reads its bytes.
+of frames, and an `MtcReader` reads its bytes. `bits` gives the 80 bits of a word; a `Maker` makes intervals of bits,
+and a `Sound` samples of intervals.
 
 The library is what TC_LIBRARY names in the environment, else lib/libtc.so.1 beside this file's folder, else the
 loader's libtc.so.1. It needs nothing but Python.
@@ -249,6 +250,18 @@ class _MtcEvent(ctypes.Structure):
         return MtcLabel(self.kind == 1, text, self.direction == 1, fault, self.place)
 
 
+class _Word(ctypes.Structure):
+    _fields_ = [("label", _Label), ("flags", ctypes.c_uint32), ("user", ctypes.c_uint32)]
+
+
+class _Bits(ctypes.Structure):
+    _fields_ = [("low", ctypes.c_uint64), ("high", ctypes.c_uint64)]
+
+
+class _SoundTaken(ctypes.Structure):
+    _fields_ = [("used", ctypes.c_size_t), ("made", ctypes.c_size_t)]
+
+
 class _Given(ctypes.Structure):
     _fields_ = [("made", ctypes.c_size_t), ("done", ctypes.c_bool), ("refused", ctypes.c_bool)]
 
@@ -280,7 +293,7 @@ def _describe(loaded: ctypes.CDLL) -> None:
     """Tells ctypes what the functions take and give."""
     place, size = ctypes.POINTER(ctypes.c_void_p), ctypes.c_size_t
     events, frames = ctypes.POINTER(_Event), ctypes.POINTER(_Frame)
-    for name in ("reader", "tape", "wheel", "mtc_writer", "mtc_reader"):
+    for name in ("reader", "tape", "wheel", "mtc_writer", "mtc_reader", "maker", "sound"):
         for what in ("bytes", "boundary"):
             getattr(loaded, f"tc_{name}_{what}").restype = size
         made = getattr(loaded, f"tc_{name}_at")
@@ -298,6 +311,15 @@ def _describe(loaded: ctypes.CDLL) -> None:
     loaded.tc_wheel_pass_.restype = loaded.tc_wheel_hear_.restype = _Given
     loaded.tc_wheel_pass_.argtypes = [place, ctypes.c_uint64, frames, size]
     loaded.tc_wheel_hear_.argtypes = [place, ctypes.POINTER(_Heard), frames, size]
+    numbers, ticks = ctypes.c_uint32, ctypes.POINTER(ctypes.c_uint32)
+    loaded.tc_word_bits.restype = ctypes.c_bool
+    loaded.tc_word_bits.argtypes = [ctypes.POINTER(_Word), ctypes.POINTER(_Bits)]
+    loaded.tc_maker_start_.argtypes = [place, numbers, numbers, numbers]
+    loaded.tc_maker_bits_.restype = _Given
+    loaded.tc_maker_bits_.argtypes = [place, ctypes.POINTER(_Bits), numbers, ticks, size]
+    loaded.tc_sound_start_.argtypes = [place, numbers]
+    loaded.tc_sound_write_.restype = _SoundTaken
+    loaded.tc_sound_write_.argtypes = [place, ctypes.c_void_p, size, ctypes.POINTER(ctypes.c_int16), size]
     loaded.tc_mtc_writer_write_.restype = _Given
     loaded.tc_mtc_writer_write_.argtypes = [place, frames, ctypes.POINTER(ctypes.c_uint8), size]
     loaded.tc_mtc_reader_read_.restype = _Taken
@@ -328,7 +350,10 @@ class _Object:
         return getattr(self._library, f"tc_{self._name}_{what}")(*words)
 
     def _start(self, settings, told) -> None:
-        if not self._call("start_", ctypes.byref(self._handle), settings):
+        self._start_with((settings,), told)
+
+    def _start_with(self, settings, told) -> None:
+        if not self._call("start_", ctypes.byref(self._handle), *settings):
             raise ValueError(f"out of range: {told}")
 
     def copy(self):
@@ -494,6 +519,65 @@ class MtcReader(_Object):
         if not view.c_contiguous or view.itemsize != 1:
             raise ValueError("bytes are one behind another")
         return _events_of(self, "read_", view, 1, 1)
+
+
+class Maker(_Object):
+    """Makes the intervals of bits: a zero is one interval, and a one two. Lengths are in ticks."""
+
+    _name, _gives = "maker", ctypes.c_uint32
+    LEAD = 2
+    """Two bits, a zero and a one, by which a reader locks: `maker.write(Maker.LEAD, 2)` before the first word."""
+
+    def __init__(self, cell: int, to: int | None = None, step: int = 0):
+        """Cells of this length, 16 to 8,388,607, and then each by a step nearer to another length. Raises ValueError
+        where 8 steps are more than the lesser of both, or a length is out of range.
+        """
+        self._make()
+        shape = (cell, cell if to is None else to, step)
+        self._start_with(_numbers(shape, shape), shape)
+
+    def write(self, number: int, count: int = 80) -> list[int]:
+        """The intervals of so many bits of a number, bit 0 first, 128 at most: those of a word are `bits(..)`."""
+        if not 0 <= number < 1 << 128 or not 0 <= count <= 128:
+            raise ValueError(f"not so many bits: {count} of {number}")
+        told, made = _Bits(number & (1 << 64) - 1, number >> 64), (ctypes.c_uint32 * 256)()
+        given = self._call("bits_", ctypes.byref(self._handle), ctypes.byref(told), count, made, 256)
+        return list(made[: given.made])
+
+
+class Sound(_Object):
+    """Makes the samples of intervals: as many of one level as each has ticks, the first above zero, then by turns."""
+
+    _name, _gives = "sound", ctypes.c_int16
+
+    def __init__(self, level: int):
+        """The level, 0 to 32,767. Raises ValueError where it is out of range."""
+        self._make()
+        self._start(*_numbers([level], level), level)
+
+    def write(self, intervals) -> array.array:
+        """The samples of these intervals, in ticks."""
+        listed = array.array("I", _numbers(intervals, "an interval"))
+        held = (ctypes.c_uint32 * len(listed)).from_buffer_copy(listed)
+        made, at = array.array("h"), 0
+        while True:
+            place = ctypes.c_void_p(ctypes.addressof(held) + 4 * at)
+            taken = self._call("write_", ctypes.byref(self._handle), place, len(listed) - at, self._given, ROOM)
+            made.extend(self._given[: taken.made])
+            at += taken.used
+            if taken.made < ROOM:
+                return made
+
+
+def bits(label: str, count: str, user: int = 0, flags: int = 0) -> int:
+    """The 80 bits of a word as one number, of which bit 0 comes first in time: its label, its count, 24, 25, 30 or 30d,
+    its user bits, and its flags as `Word.flags` has them. An even number of the bits is 0. Raises ValueError where that
+    is no word.
+    """
+    told, found = _Word(_label_of(count, label), flags | 32 | (count == "30d"), *_numbers([user], user)), _Bits()
+    if not 0 <= flags < 32 or not library().tc_word_bits(ctypes.byref(told), ctypes.byref(found)):
+        raise ValueError(f"no word: {label} of {count}, user {user}, flags {flags}")
+    return found.low + (found.high << 64)
 
 
 def _label_of(count: str, label: str) -> _Label:

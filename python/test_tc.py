@@ -9,7 +9,7 @@ import unittest
 TOP = os.path.dirname(os.path.dirname(os.path.realpath(__file__)))
 sys.path[:0] = [os.path.join(TOP, "python"), os.path.join(TOP, "tools")]
 import tc
-from tape_tries.making import TC, code, intervals
+from tape_tries.making import TC, TICKS, code, intervals
 
 
 @unittest.skipUnless(os.path.exists(TC), "bin/tc is not built")
@@ -186,6 +186,56 @@ class Midi(unittest.TestCase):
             self.assertEqual(tc.MtcReader().write(data), [tc.MtcLabel(True, "", False, fault, 9)])
         with self.assertRaises(ValueError):
             tc.MtcReader().write(array.array("h", [1]))
+
+
+@unittest.skipUnless(os.path.exists(TC), "bin/tc is not built")
+class Making(unittest.TestCase):
+    def test_what_is_made_is_read(self):
+        labels = [f"09:59:59:{frame:02}" for frame in range(20, 25)] + ["10:00:00:00"]
+        maker, sound, reader = tc.Maker(24), tc.Sound(9_000), tc.Reader(system=25, fineness=1)
+        ticks = maker.write(tc.Maker.LEAD, 2)
+        for label in labels:
+            ticks += maker.copy().write(tc.bits(label, "25"))
+        self.assertEqual(ticks, list(intervals("25", labels[0], 6, rate=TICKS / 80 / 24)))
+        self.assertEqual([word.label for word in tc.Tape(25).write(ticks)], labels)
+        samples = sound.write(ticks[:100]) + sound.copy().write(ticks[100:])
+        self.assertEqual(len(samples), sum(ticks))
+        self.assertEqual(set(samples), {9_000, -9_000})
+        read = reader.write(samples + array.array("h", [-9_000 if samples[-1] > 0 else 9_000]))
+        self.assertEqual([word.label for word in read if isinstance(word, tc.Word)], labels)
+
+    def test_user_bits_and_flags_are_read(self):
+        maker, tape = tc.Maker(1_000), tc.Tape(30)
+        ticks = maker.write(tc.Maker.LEAD, 2)
+        ticks += maker.write(tc.bits("10:00:00;02", "30d", user=0x89ABCDEF, flags=0b10100))
+        (word,) = tape.write(ticks)
+        self.assertEqual((word.label, word.count, word.user), ("10:00:00;02", "30d", 0x89ABCDEF))
+        self.assertEqual((word.flags, word.balanced, word.length), (0b10101, True, 80_000))
+
+    def test_a_shape_moves_to_another_length(self):
+        maker = tc.Maker(20, 40, 2)
+        self.assertEqual(maker.write(0, 13), list(range(20, 41, 2)) + [40, 40])
+        for wrong in ((15,), (20, 15), (20, 40, 3), (1 << 23,), (-1,)):
+            with self.assertRaises(ValueError):
+                tc.Maker(*wrong)
+        for number, count in ((1 << 128, 80), (-1, 80), (1, 129)):
+            with self.assertRaises(ValueError):
+                maker.write(number, count)
+
+    def test_what_is_no_word_has_no_bits(self):
+        for label, count, user, flags in (
+            ("10:00:00:25", "25", 0, 0),
+            ("10:01:00;00", "30d", 0, 0),
+            ("10:00:00:00", "30", 0, 1),
+            ("10:00:00:00", "25", 0, 32),
+            ("10:00:00:00", "25", 1 << 32, 0),
+            ("10:00:00:00", "26", 0, 0),
+        ):
+            with self.assertRaises(ValueError):
+                tc.bits(label, count, user, flags)
+        for level in (32_768, -1):
+            with self.assertRaises(ValueError):
+                tc.Sound(level)
 
 
 if __name__ == "__main__":

@@ -4,6 +4,8 @@ use Rattle.frame_wheel.specs.Wheel.{WheelState}
 use Rattle.mtc_reader.specs.declared.reader.MtcReader.{MtcReader}
 use Rattle.quarter_frame.specs.declared.half.Half.{Half}
 use Rattle.std.specs.Prelude.{Option}
+use Rattle.biphase.specs.Shape.{Shape}
+use Rattle.code_maker.specs.Sound.{MadeSound}
 use Rattle.sound_reader.specs.Sound.{SoundState}
 use Rattle.tape_reader.specs.declared.reader.TapeReader.{TapeReader}
 use Rattle.tc_c.specs.contracts.kept.KeptReader as reader
@@ -15,6 +17,12 @@ use Rattle.tc_c.specs.contracts.mtc_writer_kept.KeptMtcWriter as mtc_writer
 use Rattle.tc_c.specs.contracts.mtc_writer_handle.TcMtcWriter as mtc_writer_handle
 use Rattle.tc_c.specs.declared.mtc_reader_handle.TcMtcReader.{TcMtcReader}
 use Rattle.tc_c.specs.declared.mtc_writer_handle.TcMtcWriter.{TcMtcWriter}
+use Rattle.tc_c.specs.contracts.maker_kept.KeptMaker as maker
+use Rattle.tc_c.specs.contracts.maker_handle.TcMaker as maker_handle
+use Rattle.tc_c.specs.contracts.sound_kept.KeptSound as sound
+use Rattle.tc_c.specs.contracts.sound_handle.TcSound as sound_handle
+use Rattle.tc_c.specs.declared.maker_handle.TcMaker.{TcMaker}
+use Rattle.tc_c.specs.declared.sound_handle.TcSound.{TcSound}
 use Rattle.tc_c.specs.declared.handle.TcReader.{TcReader}
 use Rattle.tc_c.specs.declared.tape_handle.TcTape.{TcTape}
 use Rattle.tc_c.specs.declared.wheel_handle.TcWheel.{TcWheel}
@@ -61,3 +69,19 @@ with_mtc_writer handle value = record handle { value = value }
 -- the handle ends with the last state of its writer
 abbrev pub LendsMtcWriter : MutBor TcMtcWriter → MutBor (Option Half) → Fml
 LendsMtcWriter s r = Lends mtc_writer_handle.the_row mtc_writer.the_row s r (with_mtc_writer s.now)
+
+-- of a maker of cells
+abbrev pub with_maker : TcMaker → Shape → TcMaker
+with_maker handle value = record handle { value = value }
+
+-- the handle ends with the last state of its maker
+abbrev pub LendsMaker : MutBor TcMaker → MutBor Shape → Fml
+LendsMaker s r = Lends maker_handle.the_row maker.the_row s r (with_maker s.now)
+
+-- and of a maker of sound
+abbrev pub with_sound : TcSound → MadeSound → TcSound
+with_sound handle value = record handle { value = value }
+
+-- the handle ends with the last state of its maker
+abbrev pub LendsSound : MutBor TcSound → MutBor MadeSound → Fml
+LendsSound s r = Lends sound_handle.the_row sound.the_row s r (with_sound s.now)

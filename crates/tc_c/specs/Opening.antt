@@ -7,6 +7,8 @@ use Rattle.frame_wheel.specs.Wheel.{WheelState}
 use Rattle.mtc_reader.specs.declared.reader.MtcReader.{MtcReader}
 use Rattle.quarter_frame.specs.declared.half.Half.{Half}
 use Rattle.std.specs.Prelude.{Option}
+use Rattle.biphase.specs.Shape.{Shape}
+use Rattle.code_maker.specs.Sound.{MadeSound}
 use Rattle.sound_reader.specs.Sound.{SoundState}
 use Rattle.tape_reader.specs.declared.reader.TapeReader.{TapeReader}
 use Rattle.tc_c.specs.contracts.kept.KeptReader as reader
@@ -15,6 +17,10 @@ use Rattle.tc_c.specs.contracts.mtc_reader_kept.KeptMtcReader as mtc_reader
 use Rattle.tc_c.specs.contracts.mtc_reader_handle.TcMtcReader as mtc_reader_handle
 use Rattle.tc_c.specs.contracts.mtc_writer_kept.KeptMtcWriter as mtc_writer
 use Rattle.tc_c.specs.contracts.mtc_writer_handle.TcMtcWriter as mtc_writer_handle
+use Rattle.tc_c.specs.contracts.maker_kept.KeptMaker as maker
+use Rattle.tc_c.specs.contracts.maker_handle.TcMaker as maker_handle
+use Rattle.tc_c.specs.contracts.sound_kept.KeptSound as sound
+use Rattle.tc_c.specs.contracts.sound_handle.TcSound as sound_handle
 use Rattle.tc_c.specs.contracts.tape_kept.KeptTape as tape
 use Rattle.tc_c.specs.contracts.tape_handle.TcTape as tape_handle
 use Rattle.tc_c.specs.contracts.wheel_kept.KeptWheel as wheel
@@ -64,3 +70,21 @@ HasMtcWriterRoom room at = fsep (room_at mtc_writer.the_row room) (room_at mtc_w
 abbrev pub HasMtcWriter : Ptr → Ptr → Fml
 HasMtcWriter room at = fex (Option Half)
     (λ value. lies_at mtc_writer_handle.the_row full_share at (record { at = room; value = value }))
+
+-- room for a maker of cells and its handle
+abbrev pub HasMakerRoom : Ptr → Ptr → Fml
+HasMakerRoom room at = fsep (room_at maker.the_row room) (room_at maker_handle.the_row at)
+
+-- a handle whose maker lies in the room
+abbrev pub HasMaker : Ptr → Ptr → Fml
+HasMaker room at =
+    fex Shape (λ value. lies_at maker_handle.the_row full_share at (record { at = room; value = value }))
+
+-- room for a maker of sound and its handle
+abbrev pub HasSoundRoom : Ptr → Ptr → Fml
+HasSoundRoom room at = fsep (room_at sound.the_row room) (room_at sound_handle.the_row at)
+
+-- a handle whose maker lies in the room
+abbrev pub HasSound : Ptr → Ptr → Fml
+HasSound room at =
+    fex MadeSound (λ value. lies_at sound_handle.the_row full_share at (record { at = room; value = value }))

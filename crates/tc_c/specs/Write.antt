@@ -1,5 +1,7 @@
 -- What a call takes and writes.
 use Rattle.std.specs.Prelude.{◌≡◌, ℕ, ℤ, Bool, true, Option, List, [], ◌∷◌, ◌++◌, map}
+use Rattle.code_maker.specs.Sound as made
+use Rattle.code_maker.specs.Sound.{MadeSound}
 use Rattle.flywheel.specs.declared.frame.Frame.{Frame}
 use Rattle.flywheel.specs.declared.heard.HeardWord.{HeardWord}
 use Rattle.frame_wheel.specs.Wheel as wheel
@@ -53,3 +55,8 @@ MtcGoes old new bytes written = GoesBy HasTold c_mtc_event old new bytes written
 abbrev pub MtcWrites : Option Half → Option Half → Frame → List ℕ → Type 0
 MtcWrites old new frame written = (frames : List Frame) → writer.StandsFor old frames
     → writer.StandsFor new (frames ++ frame ∷ []) × (mtc_of (frames ++ frame ∷ []) ≡ mtc_of frames ++ written)
+
+-- from one state of a maker of sound to a later one: it was given these intervals more, and wrote these samples more
+abbrev pub SoundMakes : MadeSound → MadeSound → List ℕ → List ℤ → Type 0
+SoundMakes old new ticks written = (front : List ℕ) (given : List ℤ) → made.StandsFor old front given
+    → made.StandsFor new (front ++ ticks) (given ++ written)

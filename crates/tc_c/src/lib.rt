@@ -17,10 +17,12 @@
 //!   (`WheelGoes`). A tick that falls is refused.
 //! - `tc_mtc_writer_write_` writes what the MIDI Time Code of the frames so far grows by (`MtcWrites`), and
 //!   `tc_mtc_reader_read_` the labels that bytes complete, in whatever pieces they come (`MtcGoes`).
+//! - `tc_maker_bits_` writes the intervals of the cells of bits (`code_maker`, `GoesOnBehind`), and
+//!   `tc_sound_write_` the samples of all intervals so far, in whatever pieces they come and go (`SoundMakes`).
 //! - `tc_reader_start_`, `tc_tape_start_` and `tc_wheel_start_` take the settings that the numbers mean, and say
 //!   whether they mean some (`specs/CSettings.antt`, `Means`, `MeansTape`). Where they do not, nothing changes.
-//! - `tc_reader_at`, `tc_tape_at`, `tc_wheel_at`, `tc_mtc_writer_at` and `tc_mtc_reader_at` make an object in
-//!   the room that they are given (`specs/Opening.antt`).
+//! - `tc_reader_at`, `tc_tape_at`, `tc_wheel_at`, `tc_mtc_writer_at`, `tc_mtc_reader_at`, `tc_maker_at` and
+//!   `tc_sound_at` make an object in the room that they are given (`specs/Opening.antt`).
 //! - The numbers of an event are those of `specs/CEvent.antt`, `c_event` and `c_told`, and those of a frame
 //!   `c_frame` of `specs/CFrame.antt`; numbers mean one settings, one label, one word and one frame at most
 //!   (`laws`).
@@ -34,9 +36,10 @@
 //!
 //! Read `event`, `settings`, `kept`, `write`, `handle`, `opening` and `exports`, in this order; of a tape `told`,
 //! `tape_settings` and the other files of its name, of a flywheel `heard`, `frame`, `given` and the files of its
-//! name, and of MIDI Time Code `mtc_event` and the files of its name; then `label`, `label_exports`, `word` and
-//! `word_exports`, and the files of specs/ beside them. `sound_reader`, `tape_reader`, `frame_wheel`,
-//! `quarter_frame`, `mtc_reader`, `ltc_word` and `tc_address` are what is called.
+//! name, and of MIDI Time Code `mtc_event` and the files of its name; then the files of a maker and of a sound,
+//! and `label`, `label_exports`, `word` and `word_exports`, and the files of specs/ beside them. `sound_reader`,
+//! `tape_reader`, `frame_wheel`, `quarter_frame`, `mtc_reader`, `code_maker`, `ltc_word` and `tc_address` are
+//! what is called.
 #![tactic(auto)]
 
 mod event;
@@ -49,6 +52,10 @@ mod kept;
 mod label;
 mod label_exports;
 pub mod laws;
+mod maker_exports;
+mod maker_handle;
+mod maker_kept;
+mod maker_opening;
 mod mtc_event;
 mod mtc_read;
 mod mtc_reader_exports;
@@ -62,6 +69,10 @@ mod mtc_writer_kept;
 mod mtc_writer_opening;
 mod opening;
 mod settings;
+mod sound_exports;
+mod sound_handle;
+mod sound_kept;
+mod sound_opening;
 mod tape_exports;
 mod tape_handle;
 mod tape_kept;
@@ -85,12 +96,17 @@ pub use handle::TcReader;
 pub use heard::TcHeard;
 pub use kept::KeptReader;
 pub use label::TcLabel;
+pub use maker_handle::TcMaker;
+pub use maker_kept::KeptMaker;
 pub use mtc_event::TcMtcEvent;
 pub use mtc_reader_handle::TcMtcReader;
 pub use mtc_reader_kept::KeptMtcReader;
 pub use mtc_writer_handle::TcMtcWriter;
 pub use mtc_writer_kept::KeptMtcWriter;
 pub use settings::TcSettings;
+pub use sound_exports::TcSoundTaken;
+pub use sound_handle::TcSound;
+pub use sound_kept::KeptSound;
 pub use tape_handle::TcTape;
 pub use tape_kept::KeptTape;
 pub use tape_settings::TcTapeSettings;
