@@ -1,14 +1,16 @@
-/* tc.h: linear time code, read from samples, its words and labels, by proved code, as functions for C11 and C++17.
+/* tc.h: linear time code, read from samples or from the intervals of a tape, its words, frames and labels, by proved
+ * code, as functions for C11 and C++17.
  *
- * No function here allocates, keeps global state, waits, prints or ends the process. What a reader keeps lies in the
- * caller's object, whose size is fixed: memcpy takes a copy that goes on from the same place, and nothing is freed.
- * One object serves one call at a time; different objects may serve different threads at once.
+ * No function here allocates, keeps global state, waits, prints or ends the process. What an object keeps, a reader or
+ * a flywheel, lies in the caller's memory, and its size is fixed: memcpy takes a copy that goes on from the same place,
+ * and nothing is freed. One object serves one call at a time; different objects may serve different threads at once.
  *
  * What a caller has to keep: a pointer is not NULL, also where a count is 0; it points to so many elements as the count
  * says, which stay as they are during the call but for those that are written; and what is written overlaps nothing
  * that is read.
  *
- * A tick is a part of a sample: a sample has `fineness` of them, and tick 0 is at the first sample. */
+ * A tick is a part of a sample: a sample has `fineness` of them, and tick 0 is at the first sample. Of a tape it is the
+ * unit of its intervals, and tick 0 is at the beginning of the first. */
 #ifndef TC_H
 #define TC_H
 #include <stdbool.h>
@@ -41,12 +43,14 @@ typedef struct tc_settings {
 enum { TC_WORD = 1, TC_REFUSED = 2, TC_LOST = 3 };
 enum { TC_FORWARD = 0, TC_BACKWARD = 1 };
 enum { TC_COUNT_24 = 0, TC_COUNT_25 = 1, TC_COUNT_30 = 2, TC_COUNT_30_DROP = 3 };
+enum { TC_ALONE = 12 };
 enum { TC_BIT_10 = 1, TC_COLOUR = 2, TC_BGF0 = 4, TC_BGF1 = 8, TC_BGF2 = 16, TC_BALANCED = 32 };
 typedef struct tc_event {
     uint8_t kind;      /* a word, 80 cells that end in a sync word and have a fault, or a break of the code */
     uint8_t direction; /* of a word, and of a refused one */
     uint8_t detail;    /* word: its count. Refused: its fault, 1 frame units, 2 frames, 3 second units, 4 second tens,
-                          5 minute units, 6 minute tens, 7 hour units, 8 hours, 9 a dropped label */
+                          5 minute units, 6 minute tens, 7 hour units, 8 hours, 9 a dropped label; or TC_ALONE, a word
+                          without a witness, where a tape is read so */
     uint8_t flags;     /* word: the bits above */
     uint8_t hours, minutes, seconds, frames; /* word: its label */
     uint32_t user;     /* word: its user bits, group 1 as the least significant */
@@ -62,7 +66,7 @@ typedef struct tc_taken {
     bool full;   /* nothing more is taken: 2 to the 50th samples, or a thousand million intervals. Start anew */
 } tc_taken;
 
-/* ---- the library's own form of a reader: where its state lies. Callers use the functions below */
+/* ---- the library's own form of an object: where its state lies. Callers use the functions below */
 typedef struct tc_handle {
     void *at;
 } tc_handle;
@@ -106,6 +110,71 @@ static inline tc_taken tc_reader_write_s16(tc_reader *reader, const int16_t *sam
     return tc_reader_write_s16_(&handle, samples, count, events, room);
 }
 
+/* ---- a reader of a tape: intervals in, events out */
+
+/* How a tape is read. A number that is not named here is refused. */
+typedef struct tc_tape_settings {
+    uint32_t system;    /* frames a second: 24, 25 or 30, which reads 29.97 and drop-frame counting too */
+    uint32_t tolerance; /* how much cells may differ: 0 normal, 1 worn, 2 rough */
+    uint32_t firm;      /* 1: a word is told where another's sync word, or the edge of its stretch, stands beside it,
+                           and is refused as alone where not; 0: each word is told */
+} tc_tape_settings;
+
+/* What a call took and gave. */
+typedef struct tc_tape_taken {
+    size_t used;  /* intervals taken, from the front */
+    size_t made;  /* events written, from the front */
+    bool full;    /* nothing more is taken: a thousand million intervals. Start anew */
+    bool refused; /* the next number is no interval, and is never taken: 0, or above 16777215 */
+} tc_tape_taken;
+
+/* The library's own form of it. */
+size_t tc_tape_bytes(void);
+size_t tc_tape_boundary(void);
+void tc_tape_at(void *room, tc_handle *handle);
+bool tc_tape_start_(tc_handle *handle, const tc_tape_settings *settings);
+tc_tape_taken tc_tape_write_(tc_handle *handle, const uint32_t *ticks, size_t count, tc_event *events, size_t room);
+size_t tc_tape_last_(tc_handle *handle, tc_event *events, size_t room);
+
+#define TC_TAPE_BYTES 4096
+#define TC_TAPE_BOUNDARY 16
+typedef struct tc_tape {
+    TC_ALIGN(TC_TAPE_BOUNDARY) unsigned char state[TC_TAPE_BYTES];
+} tc_tape;
+
+/* Begins anew, as tc_reader_start does. */
+static inline bool tc_tape_start(tc_tape *tape, const tc_tape_settings *settings) {
+    tc_handle handle = {tape->state};
+    return tc_tape_start_(&handle, settings);
+}
+
+/* Makes a reader of a tape, before its first interval, as tc_reader_init makes one of samples. */
+static inline bool tc_tape_init(tc_tape *tape, const tc_tape_settings *settings) {
+    tc_handle handle;
+    if (tc_abi() != TC_ABI || tc_tape_bytes() > TC_TAPE_BYTES || tc_tape_boundary() > TC_TAPE_BOUNDARY) {
+        return false;
+    }
+    tc_tape_at(tape->state, &handle);
+    return tc_tape_start_(&handle, settings);
+}
+
+/* Takes intervals, in ticks from 1 to 16777215, from the front, and writes the events that they bring, in order, as
+ * long as there is room for three more: a room of 0, 1 or 2 takes nothing. Behind the events that are made no event is
+ * changed. Call again with the intervals that are left while room - made < 3. In whatever pieces the intervals come,
+ * the events are the same. Where it asks for witnesses, a word that is read backward is told 16 cells after its end. */
+static inline tc_tape_taken tc_tape_write(tc_tape *tape, const uint32_t *ticks, size_t count, tc_event *events,
+                                          size_t room) {
+    tc_handle handle = {tape->state};
+    return tc_tape_write_(&handle, ticks, count, events, room);
+}
+
+/* Writes what is told if the tape ends here, and gives how many events these are, 2 at most: with those before they are
+ * the events of the tape. Nothing changes in the reader, which may go on. A room of 0, 1 or 2 takes none. */
+static inline size_t tc_tape_last(tc_tape *tape, tc_event *events, size_t room) {
+    tc_handle handle = {tape->state};
+    return tc_tape_last_(&handle, events, room);
+}
+
 /* ---- labels: frame addresses that a count has. Where numbers are none of a label, false, and nothing changes */
 typedef struct tc_label {
     uint32_t count; /* TC_COUNT_24 and so on */
@@ -144,6 +213,270 @@ bool tc_word_bits(const tc_word *word, tc_bits *bits);
  * tc_event; and TC_NO_BITS where there is no such system, or a bit above 79 is set. */
 enum { TC_NO_SYNC = 10, TC_NO_BITS = 11 };
 uint32_t tc_bits_word(uint32_t system, const tc_bits *bits, tc_word *word);
+
+/* ---- a flywheel: words and time in, frames out. Where no word comes, it invents frames at the pace and in the
+ * direction of the last one, up to a limit */
+
+/* A word that was heard. */
+typedef struct tc_heard {
+    tc_label label;
+    uint32_t direction; /* TC_FORWARD, TC_BACKWARD */
+    uint64_t tick;      /* where it ended: below 2 to the 60th */
+    uint64_t length;    /* how many ticks it lasted, the length of a frame: 1 to 4294967295 */
+} tc_heard;
+
+/* The word of an event, whose kind is TC_WORD. */
+static inline tc_heard tc_heard_in(const tc_event *event) {
+    tc_heard heard = {{event->detail, event->hours, event->minutes, event->seconds, event->frames}, event->direction,
+                      event->tick, event->length};
+    return heard;
+}
+
+/* What was given. */
+enum { TC_HEARD = 1, TC_INVENTED = 2, TC_GONE = 3 };
+typedef struct tc_frame {
+    uint32_t kind;      /* a word was heard; none was where one was due; or more were due than may be invented */
+    uint32_t direction; /* heard, invented */
+    uint32_t joined;    /* heard: 1 where it goes on where the word before leads, after the frames invented since */
+    uint32_t step;      /* invented: how many labels it lies after the word before, from 1 to the limit */
+    tc_label label;     /* heard, invented */
+    uint32_t zero;      /* 0 */
+    uint64_t tick;      /* where it ends */
+} tc_frame;             /* what says nothing of a frame is 0 */
+
+/* What a call gave. */
+typedef struct tc_given {
+    size_t made;  /* frames written, from the front */
+    bool done;    /* nothing more is due at the tick, and the word is among the frames. Where not, call again with the
+                     same tick or word */
+    bool refused; /* nothing changed: the tick lies before the latest one or at 2 to the 60th or later, or the numbers
+                     are none of a word */
+} tc_given;
+
+/* The library's own form of it. */
+size_t tc_wheel_bytes(void);
+size_t tc_wheel_boundary(void);
+void tc_wheel_at(void *room, tc_handle *handle);
+bool tc_wheel_start_(tc_handle *handle, uint32_t limit);
+tc_given tc_wheel_pass_(tc_handle *handle, uint64_t tick, tc_frame *frames, size_t room);
+tc_given tc_wheel_hear_(tc_handle *handle, const tc_heard *word, tc_frame *frames, size_t room);
+
+#define TC_WHEEL_BYTES 128
+#define TC_WHEEL_BOUNDARY 16
+typedef struct tc_wheel {
+    TC_ALIGN(TC_WHEEL_BOUNDARY) unsigned char state[TC_WHEEL_BYTES];
+} tc_wheel;
+
+/* Begins anew, and tells whether the limit is taken: so many frames are invented in a row at most, 0 to 255. Where it
+ * is not, nothing changes. The flywheel was made by tc_wheel_init before, or copied from one that was. */
+static inline bool tc_wheel_start(tc_wheel *wheel, uint32_t limit) {
+    tc_handle handle = {wheel->state};
+    return tc_wheel_start_(&handle, limit);
+}
+
+/* Makes a flywheel, before its first word, and tells whether the limit is taken, as tc_reader_init does. */
+static inline bool tc_wheel_init(tc_wheel *wheel, uint32_t limit) {
+    tc_handle handle;
+    if (tc_abi() != TC_ABI || tc_wheel_bytes() > TC_WHEEL_BYTES || tc_wheel_boundary() > TC_WHEEL_BOUNDARY) {
+        return false;
+    }
+    tc_wheel_at(wheel->state, &handle);
+    return tc_wheel_start_(&handle, limit);
+}
+
+/* Tells the time: writes the frames that are due at the tick, as long as there is room. A frame is due half a length
+ * after it should have been heard. Ticks do not fall from call to call, those of words too. */
+static inline tc_given tc_wheel_pass(tc_wheel *wheel, uint64_t tick, tc_frame *frames, size_t room) {
+    tc_handle handle = {wheel->state};
+    return tc_wheel_pass_(&handle, tick, frames, room);
+}
+
+/* Tells of a word: writes the frames that are due before it, and then it, as long as there is room. */
+static inline tc_given tc_wheel_hear(tc_wheel *wheel, const tc_heard *word, tc_frame *frames, size_t room) {
+    tc_handle handle = {wheel->state};
+    return tc_wheel_hear_(&handle, word, frames, room);
+}
+
+/* ---- MIDI Time Code: frames in, bytes out */
+
+/* The library's own form of a writer. */
+size_t tc_mtc_writer_bytes(void);
+size_t tc_mtc_writer_boundary(void);
+void tc_mtc_writer_at(void *room, tc_handle *handle);
+void tc_mtc_writer_start_(tc_handle *handle);
+tc_given tc_mtc_writer_write_(tc_handle *handle, const tc_frame *frame, uint8_t *bytes, size_t room);
+
+#define TC_MTC_MOST 18 /* so many bytes a frame at most: a full message, and four quarter frames */
+#define TC_MTC_WRITER_BYTES 64
+#define TC_MTC_WRITER_BOUNDARY 16
+typedef struct tc_mtc_writer {
+    TC_ALIGN(TC_MTC_WRITER_BOUNDARY) unsigned char state[TC_MTC_WRITER_BYTES];
+} tc_mtc_writer;
+
+/* Begins anew: the next frame begins a run, with a full message. */
+static inline void tc_mtc_writer_start(tc_mtc_writer *writer) {
+    tc_handle handle = {writer->state};
+    tc_mtc_writer_start_(&handle);
+}
+
+/* Makes a writer, before its first frame. False where the library is of another version than this header. */
+static inline bool tc_mtc_writer_init(tc_mtc_writer *writer) {
+    tc_handle handle;
+    if (tc_abi() != TC_ABI || tc_mtc_writer_bytes() > TC_MTC_WRITER_BYTES ||
+        tc_mtc_writer_boundary() > TC_MTC_WRITER_BOUNDARY) {
+        return false;
+    }
+    tc_mtc_writer_at(writer->state, &handle);
+    return true;
+}
+
+/* Writes the messages of the next frame, as a flywheel gives it: 18 bytes where it begins a run, 8 where it goes on
+ * one, and none for TC_GONE. It is `done` where there is room for 18, and `refused` where the numbers are none of a
+ * frame. The quarter frames of a frame are four, to be sent a quarter of it apart. */
+static inline tc_given tc_mtc_writer_write(tc_mtc_writer *writer, const tc_frame *frame, uint8_t *bytes, size_t room) {
+    tc_handle handle = {writer->state};
+    return tc_mtc_writer_write_(&handle, frame, bytes, room);
+}
+
+/* ---- MIDI Time Code: bytes in, labels out */
+
+/* What was read. */
+enum { TC_MTC_FULL = 1, TC_MTC_QUARTER = 2 };
+typedef struct tc_mtc_event {
+    uint32_t kind;      /* a full message, or eight quarter frames in a row */
+    uint32_t direction; /* of quarter frames: forward where their pieces rise */
+    uint32_t fault;     /* 0, or why the address is no label: 1 hours, 2 minutes, 3 seconds, 4 frames, 5 dropped */
+    tc_label label;     /* where there is no fault */
+    uint64_t place;     /* that of the byte that completes it, from 0 over all bytes */
+} tc_mtc_event;         /* what says nothing of an event is 0 */
+
+/* The library's own form of a reader. */
+size_t tc_mtc_reader_bytes(void);
+size_t tc_mtc_reader_boundary(void);
+void tc_mtc_reader_at(void *room, tc_handle *handle);
+void tc_mtc_reader_start_(tc_handle *handle);
+tc_taken tc_mtc_reader_read_(tc_handle *handle, const uint8_t *bytes, size_t count, tc_mtc_event *events, size_t room);
+
+#define TC_MTC_READER_BYTES 128
+#define TC_MTC_READER_BOUNDARY 16
+typedef struct tc_mtc_reader {
+    TC_ALIGN(TC_MTC_READER_BOUNDARY) unsigned char state[TC_MTC_READER_BYTES];
+} tc_mtc_reader;
+
+/* Begins anew. */
+static inline void tc_mtc_reader_start(tc_mtc_reader *reader) {
+    tc_handle handle = {reader->state};
+    tc_mtc_reader_start_(&handle);
+}
+
+/* Makes a reader, before its first byte. False where the library is of another version than this header. */
+static inline bool tc_mtc_reader_init(tc_mtc_reader *reader) {
+    tc_handle handle;
+    if (tc_abi() != TC_ABI || tc_mtc_reader_bytes() > TC_MTC_READER_BYTES ||
+        tc_mtc_reader_boundary() > TC_MTC_READER_BOUNDARY) {
+        return false;
+    }
+    tc_mtc_reader_at(reader->state, &handle);
+    return true;
+}
+
+/* Takes bytes of MIDI from the front, and writes the labels that they complete, in order, as long as there is room: a
+ * room of 0 takes nothing. Messages of other kinds, and real-time bytes between, are passed over. Call again with the
+ * bytes that are left while room is full. In whatever pieces the bytes come, the labels are the same. `full` comes with
+ * 2 to the 62nd bytes. */
+static inline tc_taken tc_mtc_reader_read(tc_mtc_reader *reader, const uint8_t *bytes, size_t count,
+                                          tc_mtc_event *events, size_t room) {
+    tc_handle handle = {reader->state};
+    return tc_mtc_reader_read_(&handle, bytes, count, events, room);
+}
+
+/* ---- code that is made: bits in, intervals out */
+
+/* The library's own form of a maker of cells. */
+size_t tc_maker_bytes(void);
+size_t tc_maker_boundary(void);
+void tc_maker_at(void *room, tc_handle *handle);
+bool tc_maker_start_(tc_handle *handle, uint32_t from, uint32_t to, uint32_t step);
+tc_given tc_maker_bits_(tc_handle *handle, const tc_bits *bits, uint32_t count, uint32_t *ticks, size_t room);
+
+#define TC_MAKER_BYTES 64
+#define TC_MAKER_BOUNDARY 16
+typedef struct tc_maker {
+    TC_ALIGN(TC_MAKER_BOUNDARY) unsigned char state[TC_MAKER_BYTES];
+} tc_maker;
+
+/* Begins anew, and tells whether the shape is taken: cells of `from` ticks, and then each by `step` nearer to `to`.
+ * Both lengths are 16 to 8388607, and 8 steps are not more than the lesser of them. Where not, nothing changes. */
+static inline bool tc_maker_start(tc_maker *maker, uint32_t from, uint32_t to, uint32_t step) {
+    tc_handle handle = {maker->state};
+    return tc_maker_start_(&handle, from, to, step);
+}
+
+/* Makes a maker, before its first bit, and tells whether the shape is taken, as tc_reader_init does. */
+static inline bool tc_maker_init(tc_maker *maker, uint32_t from, uint32_t to, uint32_t step) {
+    tc_handle handle;
+    if (tc_abi() != TC_ABI || tc_maker_bytes() > TC_MAKER_BYTES || tc_maker_boundary() > TC_MAKER_BOUNDARY) {
+        return false;
+    }
+    tc_maker_at(maker->state, &handle);
+    return tc_maker_start_(&handle, from, to, step);
+}
+
+/* Writes the intervals of the cells of the first `count` bits, bit 0 first: one of a zero, and two of a one. A word has
+ * 80, as tc_word_bits gives them. It is `done` where there is room for two a bit, and `refused` where there are more
+ * than 128. A reader locks at the first zero beside a one, so before the first word a zero and a one may stand: two
+ * bits of the number 2. */
+static inline tc_given tc_maker_bits(tc_maker *maker, const tc_bits *bits, uint32_t count, uint32_t *ticks,
+                                     size_t room) {
+    tc_handle handle = {maker->state};
+    return tc_maker_bits_(&handle, bits, count, ticks, room);
+}
+
+/* ---- sound that is made: intervals in, samples out. A tick is a sample */
+
+/* What a call took and gave. */
+typedef struct tc_sound_taken {
+    size_t used; /* intervals taken, from the front */
+    size_t made; /* samples written, from the front */
+} tc_sound_taken;
+
+/* The library's own form of a maker of sound. */
+size_t tc_sound_bytes(void);
+size_t tc_sound_boundary(void);
+void tc_sound_at(void *room, tc_handle *handle);
+bool tc_sound_start_(tc_handle *handle, uint32_t level);
+tc_sound_taken tc_sound_write_(tc_handle *handle, const uint32_t *ticks, size_t count, int16_t *samples, size_t room);
+
+#define TC_SOUND_BYTES 64
+#define TC_SOUND_BOUNDARY 16
+typedef struct tc_sound {
+    TC_ALIGN(TC_SOUND_BOUNDARY) unsigned char state[TC_SOUND_BYTES];
+} tc_sound;
+
+/* Begins anew, with samples of this level, 0 to 32767, and tells whether it is taken. Where not, nothing changes. */
+static inline bool tc_sound_start(tc_sound *sound, uint32_t level) {
+    tc_handle handle = {sound->state};
+    return tc_sound_start_(&handle, level);
+}
+
+/* Makes a maker of sound, before its first interval, and tells whether the level is taken, as tc_reader_init does. */
+static inline bool tc_sound_init(tc_sound *sound, uint32_t level) {
+    tc_handle handle;
+    if (tc_abi() != TC_ABI || tc_sound_bytes() > TC_SOUND_BYTES || tc_sound_boundary() > TC_SOUND_BOUNDARY) {
+        return false;
+    }
+    tc_sound_at(sound->state, &handle);
+    return tc_sound_start_(&handle, level);
+}
+
+/* Takes intervals from the front, and writes as many samples of each as it has ticks, the first above zero and then by
+ * turns, as long as there is room. The last interval may have samples that are still to come: they are written by the
+ * next call, which may be given no interval. Where made < room nothing is left. */
+static inline tc_sound_taken tc_sound_write(tc_sound *sound, const uint32_t *ticks, size_t count, int16_t *samples,
+                                            size_t room) {
+    tc_handle handle = {sound->state};
+    return tc_sound_write_(&handle, ticks, count, samples, room);
+}
 
 #ifdef __cplusplus
 }

@@ -1,4 +1,4 @@
-"""Linear time code, read from samples by proved code: the functions of tc.h, over ctypes.
+"""Linear time code, read from samples or from intervals of a tape by proved code: the functions of tc.h, over ctypes.
 
     import tc
 
@@ -7,6 +7,12 @@
 
 Samples are 16 bits wide, of one channel, in the machine's order of bytes: bytes, an array("h"), a memoryview, or what
 else has the buffer protocol. A tick is a part of a sample, of which a sample has `fineness`; tick 0 is at the first.
+Intervals are 32 bits wide, in the same forms or as whole numbers; a tick is their unit.
+
+A `Reader` takes samples, a `Tape` intervals, and both give words, refused words and breaks. A `Wheel` takes words and
+the time, and gives frames: those that were heard, and invented ones where none was. An `MtcWriter` makes MIDI Time Code
+of frames, and an `MtcReader` reads its bytes. `bits` gives the 80 bits of a word; a `Maker` makes intervals of bits,
+and a `Sound` samples of intervals.
 
 The library is what TC_LIBRARY names in the environment, else lib/libtc.so.1 beside this file's folder, else the
 loader's libtc.so.1. It needs nothing but Python.
@@ -14,15 +20,17 @@ loader's libtc.so.1. It needs nothing but Python.
 
 from __future__ import annotations
 
+import array
 import ctypes
 import enum
 import os
-from collections.abc import Iterator
+from collections.abc import Iterable, Iterator
 from dataclasses import dataclass
 from typing import NamedTuple, Union
 
 ABI = 1
 ROOM = 64
+COUNTS = ("24", "25", "30", "30d")
 
 
 class Tolerance(enum.IntEnum):
@@ -42,7 +50,7 @@ class Follows(enum.IntEnum):
 
 
 class Fault(enum.IntEnum):
-    """Why a word is refused: the first of its fields that no label has."""
+    """Why a word is refused: the first of its fields that no label has, or that it has no witness."""
 
     FRAME_UNITS = 1
     FRAMES = 2
@@ -53,6 +61,7 @@ class Fault(enum.IntEnum):
     HOUR_UNITS = 7
     HOURS = 8
     DROPPED_LABEL = 9
+    ALONE = 12
 
 
 @dataclass(frozen=True)
@@ -73,6 +82,24 @@ class Settings:
     """0: an interval is read when it has ended; else as it passes, in pieces of so many ticks, 1 to 16,777,215."""
 
 
+class Kind(enum.IntEnum):
+    """What a frame is: a word that was heard, one that was not, or the end of what may be invented."""
+
+    HEARD = 1
+    INVENTED = 2
+    GONE = 3
+
+
+class LabelFault(enum.IntEnum):
+    """Why an address of MIDI Time Code is no label: the first of its parts that no label has."""
+
+    HOURS = 1
+    MINUTES = 2
+    SECONDS = 3
+    FRAMES = 4
+    DROPPED = 5
+
+
 class Word(NamedTuple):
     """A word of 80 bits that was read."""
 
@@ -88,6 +115,8 @@ class Word(NamedTuple):
     """Where it ends."""
     length: int
     """The ticks of its 80 cells."""
+    count: str
+    """Its count: 24, 25, 30 or 30d."""
 
 
 class Refused(NamedTuple):
@@ -106,6 +135,37 @@ class Lost(NamedTuple):
 
 
 Event = Union[Word, Refused, Lost]
+
+
+class Frame(NamedTuple):
+    """A frame of a flywheel."""
+
+    kind: Kind
+    label: str
+    """The frame address, and nothing where the time code is gone."""
+    backward: bool
+    joined: bool
+    """Whether a heard one goes on where the word before leads, after the frames invented in between."""
+    step: int
+    """How many labels an invented one lies after the word before, from 1 to the limit."""
+    tick: int
+    """Where it ends."""
+    count: str
+    """Its count: 24, 25, 30 or 30d, and nothing where the time code is gone."""
+
+
+class MtcLabel(NamedTuple):
+    """A label that was read from MIDI Time Code, or one that is refused."""
+
+    full: bool
+    """Whether a full message has it, or eight quarter frames."""
+    label: str
+    """The frame address, and nothing where it is refused."""
+    backward: bool
+    """Of quarter frames, whether their pieces fall."""
+    fault: LabelFault | None
+    place: int
+    """That of the byte that completes it, from 0 over all bytes."""
 
 
 class Full(Exception):
@@ -132,13 +192,83 @@ class _Event(ctypes.Structure):
             return Lost(self.length, self.tick)
         if self.kind == 2:
             return Refused(Fault(self.detail), backward, self.tick)
-        mark = ";" if self.detail == 3 else ":"
-        label = f"{self.hours:02}:{self.minutes:02}:{self.seconds:02}{mark}{self.frames:02}"
-        return Word(label, backward, self.user, self.flags & 31, bool(self.flags >> 5), self.tick, self.length)
+        label = _text(self.detail, self.hours, self.minutes, self.seconds, self.frames)
+        flags, balanced, count = self.flags & 31, bool(self.flags >> 5), COUNTS[self.detail]
+        return Word(label, backward, self.user, flags, balanced, self.tick, self.length, count)
 
 
 class _Taken(ctypes.Structure):
     _fields_ = [("used", ctypes.c_size_t), ("made", ctypes.c_size_t), ("full", ctypes.c_bool)]
+
+
+class _TapeSettings(ctypes.Structure):
+    _fields_ = [(name, ctypes.c_uint32) for name in ("system", "tolerance", "firm")]
+
+
+class _TapeTaken(ctypes.Structure):
+    _fields_ = [*_Taken._fields_, ("refused", ctypes.c_bool)]
+
+
+class _Label(ctypes.Structure):
+    _fields_ = [(name, ctypes.c_uint32) for name in ("count", "hours", "minutes", "seconds", "frames")]
+
+
+class _Heard(ctypes.Structure):
+    _fields_ = [
+        ("label", _Label),
+        ("direction", ctypes.c_uint32),
+        ("tick", ctypes.c_uint64),
+        ("length", ctypes.c_uint64),
+    ]
+
+
+class _Frame(ctypes.Structure):
+    _fields_ = [
+        *((name, ctypes.c_uint32) for name in ("kind", "direction", "joined", "step")),
+        ("label", _Label),
+        ("zero", ctypes.c_uint32),
+        ("tick", ctypes.c_uint64),
+    ]
+
+    def seen(self) -> Frame:
+        kind, label = Kind(self.kind), self.label
+        text = _text(label.count, label.hours, label.minutes, label.seconds, label.frames)
+        text, count = ("", "") if kind == Kind.GONE else (text, COUNTS[label.count])
+        return Frame(kind, text, self.direction == 1, self.joined == 1, self.step, self.tick, count)
+
+
+class _MtcEvent(ctypes.Structure):
+    _fields_ = [
+        *((name, ctypes.c_uint32) for name in ("kind", "direction", "fault")),
+        ("label", _Label),
+        ("place", ctypes.c_uint64),
+    ]
+
+    def seen(self) -> MtcLabel:
+        label, fault = self.label, LabelFault(self.fault) if self.fault else None
+        text = "" if fault else _text(label.count, label.hours, label.minutes, label.seconds, label.frames)
+        return MtcLabel(self.kind == 1, text, self.direction == 1, fault, self.place)
+
+
+class _Word(ctypes.Structure):
+    _fields_ = [("label", _Label), ("flags", ctypes.c_uint32), ("user", ctypes.c_uint32)]
+
+
+class _Bits(ctypes.Structure):
+    _fields_ = [("low", ctypes.c_uint64), ("high", ctypes.c_uint64)]
+
+
+class _SoundTaken(ctypes.Structure):
+    _fields_ = [("used", ctypes.c_size_t), ("made", ctypes.c_size_t)]
+
+
+class _Given(ctypes.Structure):
+    _fields_ = [("made", ctypes.c_size_t), ("done", ctypes.c_bool), ("refused", ctypes.c_bool)]
+
+
+def _text(count: int, hours: int, minutes: int, seconds: int, frames: int) -> str:
+    """A frame address, with a semicolon where drop-frame counting is told."""
+    return f"{hours:02}:{minutes:02}:{seconds:02}{';' if count == 3 else ':'}{frames:02}"
 
 
 _library: ctypes.CDLL | None = None
@@ -154,52 +284,112 @@ def library() -> ctypes.CDLL:
         loaded.tc_abi.restype = ctypes.c_uint32
         if loaded.tc_abi() != ABI:
             raise OSError(f"{name} has version {loaded.tc_abi()} of its functions, and this file knows {ABI}")
-        place = ctypes.POINTER(ctypes.c_void_p)
-        loaded.tc_reader_bytes.restype = loaded.tc_reader_boundary.restype = ctypes.c_size_t
-        loaded.tc_reader_at.restype, loaded.tc_reader_at.argtypes = None, [ctypes.c_void_p, place]
-        loaded.tc_reader_start_.restype = ctypes.c_bool
-        loaded.tc_reader_start_.argtypes = [place, ctypes.POINTER(_Settings)]
-        loaded.tc_reader_write_s16_.restype = _Taken
-        size = ctypes.c_size_t
-        loaded.tc_reader_write_s16_.argtypes = [place, ctypes.c_void_p, size, ctypes.POINTER(_Event), size]
+        _describe(loaded)
         _library = loaded
     return _library
 
 
-class Reader:
+def _describe(loaded: ctypes.CDLL) -> None:
+    """Tells ctypes what the functions take and give."""
+    place, size = ctypes.POINTER(ctypes.c_void_p), ctypes.c_size_t
+    events, frames = ctypes.POINTER(_Event), ctypes.POINTER(_Frame)
+    for name in ("reader", "tape", "wheel", "mtc_writer", "mtc_reader", "maker", "sound"):
+        for what in ("bytes", "boundary"):
+            getattr(loaded, f"tc_{name}_{what}").restype = size
+        made = getattr(loaded, f"tc_{name}_at")
+        made.restype, made.argtypes = None, [ctypes.c_void_p, place]
+        started = getattr(loaded, f"tc_{name}_start_")
+        started.restype = None if name.startswith("mtc") else ctypes.c_bool
+    loaded.tc_reader_start_.argtypes = [place, ctypes.POINTER(_Settings)]
+    loaded.tc_reader_write_s16_.restype = _Taken
+    loaded.tc_reader_write_s16_.argtypes = [place, ctypes.c_void_p, size, events, size]
+    loaded.tc_tape_start_.argtypes = [place, ctypes.POINTER(_TapeSettings)]
+    loaded.tc_tape_write_.restype = _TapeTaken
+    loaded.tc_tape_write_.argtypes = [place, ctypes.c_void_p, size, events, size]
+    loaded.tc_tape_last_.restype, loaded.tc_tape_last_.argtypes = size, [place, events, size]
+    loaded.tc_wheel_start_.argtypes = [place, ctypes.c_uint32]
+    loaded.tc_wheel_pass_.restype = loaded.tc_wheel_hear_.restype = _Given
+    loaded.tc_wheel_pass_.argtypes = [place, ctypes.c_uint64, frames, size]
+    loaded.tc_wheel_hear_.argtypes = [place, ctypes.POINTER(_Heard), frames, size]
+    numbers, ticks = ctypes.c_uint32, ctypes.POINTER(ctypes.c_uint32)
+    loaded.tc_word_bits.restype = ctypes.c_bool
+    loaded.tc_word_bits.argtypes = [ctypes.POINTER(_Word), ctypes.POINTER(_Bits)]
+    loaded.tc_maker_start_.argtypes = [place, numbers, numbers, numbers]
+    loaded.tc_maker_bits_.restype = _Given
+    loaded.tc_maker_bits_.argtypes = [place, ctypes.POINTER(_Bits), numbers, ticks, size]
+    loaded.tc_sound_start_.argtypes = [place, numbers]
+    loaded.tc_sound_write_.restype = _SoundTaken
+    loaded.tc_sound_write_.argtypes = [place, ctypes.c_void_p, size, ctypes.POINTER(ctypes.c_int16), size]
+    loaded.tc_mtc_writer_write_.restype = _Given
+    loaded.tc_mtc_writer_write_.argtypes = [place, frames, ctypes.POINTER(ctypes.c_uint8), size]
+    loaded.tc_mtc_reader_read_.restype = _Taken
+    loaded.tc_mtc_reader_read_.argtypes = [place, ctypes.c_void_p, size, ctypes.POINTER(_MtcEvent), size]
+
+
+class _Object:
+    """What the library keeps in memory of this program's."""
+
+    _name: str
+    """The word of its functions."""
+    _gives: type
+    """What it writes."""
+
+    def _make(self) -> None:
+        """Makes room, and the object in it."""
+        self._make_room()
+        self._call("at", self._handle, ctypes.byref(self._handle))
+
+    def _make_room(self) -> None:
+        self._library = library()
+        boundary, self._bytes = self._call("boundary"), self._call("bytes")
+        self._room = ctypes.create_string_buffer(self._bytes + boundary)
+        self._handle = ctypes.c_void_p(-(-ctypes.addressof(self._room) // boundary) * boundary)
+        self._given = (self._gives * ROOM)()
+
+    def _call(self, what: str, *words):
+        return getattr(self._library, f"tc_{self._name}_{what}")(*words)
+
+    def _start(self, settings, told) -> None:
+        self._start_with((settings,), told)
+
+    def _start_with(self, settings, told) -> None:
+        if not self._call("start_", ctypes.byref(self._handle), *settings):
+            raise ValueError(f"out of range: {told}")
+
+    def copy(self):
+        """One that goes on from the same place."""
+        other = object.__new__(type(self))
+        other.__dict__.update(self.__dict__)
+        other._make_room()
+        ctypes.memmove(other._handle.value, self._handle.value, self._bytes)
+        return other
+
+
+def _numbers(numbers: Iterable[int], told) -> list[int]:
+    """The numbers, where each is one of 32 bits."""
+    listed = list(numbers)
+    if not all(isinstance(number, int) and 0 <= number < 1 << 32 for number in listed):
+        raise ValueError(f"out of range: {told}")
+    return listed
+
+
+class Reader(_Object):
     """Reads the words of a sound, in pieces of any length. One reader serves one thread at a time."""
+
+    _name, _gives = "reader", _Event
 
     def __init__(self, settings: Settings | None = None, **numbers: int):
         """Settings, or some of their fields by name. Raises ValueError where one is out of range."""
         self._settings = settings or Settings()
         if numbers:
             self._settings = Settings(**{**vars(self._settings), **numbers})
-        self._library = library()
-        self._make_room()
-        self._library.tc_reader_at(self._handle, ctypes.byref(self._handle))
-        numbers_in_order = [getattr(self._settings, name) for name in Settings.__dataclass_fields__]
-        if not all(isinstance(number, int) and 0 <= number < 1 << 32 for number in numbers_in_order):
-            raise ValueError(f"out of range: {self._settings}")
-        if not self._library.tc_reader_start_(ctypes.byref(self._handle), _Settings(*numbers_in_order)):
-            raise ValueError(f"out of range: {self._settings}")
-
-    def _make_room(self) -> None:
-        boundary, self._bytes = self._library.tc_reader_boundary(), self._library.tc_reader_bytes()
-        self._room = ctypes.create_string_buffer(self._bytes + boundary)
-        self._handle = ctypes.c_void_p(-(-ctypes.addressof(self._room) // boundary) * boundary)
-        self._events = (_Event * ROOM)()
+        self._make()
+        fields = (getattr(self._settings, name) for name in Settings.__dataclass_fields__)
+        self._start(_Settings(*_numbers(fields, self._settings)), self._settings)
 
     @property
     def settings(self) -> Settings:
         return self._settings
-
-    def copy(self) -> Reader:
-        """A reader that goes on from the same place."""
-        other = object.__new__(Reader)
-        other._settings, other._library = self._settings, self._library
-        other._make_room()
-        ctypes.memmove(other._handle.value, self._handle.value, self._bytes)
-        return other
 
     def write(self, samples) -> list[Event]:
         """Takes all samples, and gives the events that they bring. Raises ValueError where these are no samples of 16
@@ -208,19 +398,194 @@ class Reader:
         view = memoryview(samples)
         if not view.c_contiguous or view.format not in ("h", "<h", "B", "b", "c") or view.nbytes % 2:
             raise ValueError("samples are of 16 bits, one behind another")
-        held = (ctypes.c_char * view.nbytes).from_buffer_copy(view.cast("B"))
-        brought: list[Event] = []
-        at, count = 0, view.nbytes // 2
+        return _events_of(self, "write_s16_", view, 2, 2)
+
+
+class Tape(_Object):
+    """Reads the words of a tape from its intervals, in pieces of any length. One serves one thread at a time."""
+
+    _name, _gives = "tape", _Event
+
+    def __init__(self, system: int = 25, tolerance: Tolerance = Tolerance.NORMAL, firm: bool = False):
+        """Frames a second, 24, 25 or 30; how much cells may differ; and whether each word is asked for a witness,
+        another word's sync word beside it. Raises ValueError where one is out of range.
+        """
+        self._make()
+        told = (system, tolerance, int(firm))
+        self._start(_TapeSettings(*_numbers(told, told)), told)
+
+    def write(self, intervals) -> list[Event]:
+        """Takes all intervals, in ticks from 1 to 16,777,215, and gives the events that they bring. Raises ValueError
+        where one is none, when those before it are taken, and Full where the reader takes no more.
+        """
+        if not isinstance(intervals, (bytes, bytearray, memoryview, array.array)):
+            listed = list(intervals)
+            intervals = array.array("I", _numbers(listed, "an interval"))
+        view = memoryview(intervals)
+        if not view.c_contiguous or view.format not in ("I", "<I", "L", "B", "b", "c") or view.nbytes % 4:
+            raise ValueError("intervals are of 32 bits, one behind another")
+        return _events_of(self, "write_", view, 4, 3)
+
+    def last(self) -> list[Event]:
+        """What is told if the tape ends here, where words are asked for a witness. The reader may go on."""
+        made = self._call("last_", ctypes.byref(self._handle), self._given, ROOM)
+        return [event.seen() for event in self._given[:made]]
+
+
+def _events_of(kept: _Object, what: str, view: memoryview, width: int, least: int) -> list:
+    """Has all that lies in a view taken, by calls that want room for so many events at least."""
+    held = (ctypes.c_char * view.nbytes).from_buffer_copy(view.cast("B"))
+    brought: list = []
+    at, count = 0, view.nbytes // width
+    while True:
+        place = ctypes.c_void_p(ctypes.addressof(held) + width * at)
+        taken = kept._call(what, ctypes.byref(kept._handle), place, count - at, kept._given, ROOM)
+        brought += [event.seen() for event in kept._given[: taken.made]]
+        at += taken.used
+        if taken.full and at < count:
+            raise Full("the reader takes no more: begin a new one")
+        if getattr(taken, "refused", False):
+            raise ValueError(f"the number at {at} is no interval")
+        if ROOM - taken.made >= least:
+            return brought
+
+
+class Wheel(_Object):
+    """A flywheel: frames of the words that were heard, and where none was invented ones. Ticks do not fall."""
+
+    _name, _gives = "wheel", _Frame
+
+    def __init__(self, limit: int):
+        """So many frames are invented in a row at most, 0 to 255. Raises ValueError where it is out of range."""
+        self._make()
+        self._start(*_numbers([limit], limit), limit)
+
+    def passed(self, tick: int) -> list[Frame]:
+        """The frames that are due at the tick. Raises ValueError where it lies before the latest one."""
+        if not 0 <= tick < 1 << 64:
+            raise ValueError(f"no tick: {tick}")
+        return self._frames("pass_", tick)
+
+    def heard(self, word: Word) -> list[Frame]:
+        """The frames that are due before a word, and the word as one. Raises ValueError where it is no word, or ended
+        before the latest tick.
+        """
+        heard = _Heard(_label_of(word.count, word.label), int(word.backward), word.tick, word.length)
+        return self._frames("hear_", ctypes.byref(heard))
+
+    def _frames(self, what: str, told) -> list[Frame]:
+        brought: list[Frame] = []
         while True:
-            place = ctypes.c_void_p(ctypes.addressof(held) + 2 * at)
-            handle = ctypes.byref(self._handle)
-            taken = self._library.tc_reader_write_s16_(handle, place, count - at, self._events, ROOM)
-            brought += [event.seen() for event in self._events[: taken.made]]
-            at += taken.used
-            if taken.full and at < count:
-                raise Full("the reader takes no more: begin a new one")
-            if ROOM - taken.made >= 2:
+            taken = self._call(what, ctypes.byref(self._handle), told, self._given, ROOM)
+            if taken.refused:
+                raise ValueError("the tick lies before the latest one, or is none of a word's")
+            brought += [frame.seen() for frame in self._given[: taken.made]]
+            if taken.done:
                 return brought
+
+
+class MtcWriter(_Object):
+    """Makes MIDI Time Code of frames: a full message where a run begins, and four quarter frames of each."""
+
+    _name, _gives = "mtc_writer", ctypes.c_uint8
+
+    def __init__(self) -> None:
+        self._make()
+
+    def write(self, frame: Frame) -> bytes:
+        """The bytes of the next frame: 18 where it begins a run, 8 where it goes on one, none where the time code is
+        gone. Raises ValueError where it is no frame.
+        """
+        label = _label_of(frame.count, frame.label) if frame.kind != Kind.GONE else _Label()
+        numbers = frame.kind, int(frame.backward), int(frame.joined), frame.step
+        told = _Frame(*numbers, label, 0, frame.tick)
+        given = self._call("write_", ctypes.byref(self._handle), ctypes.byref(told), self._given, ROOM)
+        if given.refused:
+            raise ValueError(f"no frame: {frame}")
+        return bytes(self._given[: given.made])
+
+
+class MtcReader(_Object):
+    """Reads the labels of MIDI Time Code from bytes of MIDI, in pieces of any length."""
+
+    _name, _gives = "mtc_reader", _MtcEvent
+
+    def __init__(self) -> None:
+        self._make()
+
+    def write(self, data) -> list[MtcLabel]:
+        """Takes all bytes, and gives the labels that they complete. Raises ValueError where these are no bytes."""
+        view = memoryview(data)
+        if not view.c_contiguous or view.itemsize != 1:
+            raise ValueError("bytes are one behind another")
+        return _events_of(self, "read_", view, 1, 1)
+
+
+class Maker(_Object):
+    """Makes the intervals of bits: a zero is one interval, and a one two. Lengths are in ticks."""
+
+    _name, _gives = "maker", ctypes.c_uint32
+    LEAD = 2
+    """Two bits, a zero and a one, by which a reader locks: `maker.write(Maker.LEAD, 2)` before the first word."""
+
+    def __init__(self, cell: int, to: int | None = None, step: int = 0):
+        """Cells of this length, 16 to 8,388,607, and then each by a step nearer to another length. Raises ValueError
+        where 8 steps are more than the lesser of both, or a length is out of range.
+        """
+        self._make()
+        shape = (cell, cell if to is None else to, step)
+        self._start_with(_numbers(shape, shape), shape)
+
+    def write(self, number: int, count: int = 80) -> list[int]:
+        """The intervals of so many bits of a number, bit 0 first, 128 at most: those of a word are `bits(..)`."""
+        if not 0 <= number < 1 << 128 or not 0 <= count <= 128:
+            raise ValueError(f"not so many bits: {count} of {number}")
+        told, made = _Bits(number & (1 << 64) - 1, number >> 64), (ctypes.c_uint32 * 256)()
+        given = self._call("bits_", ctypes.byref(self._handle), ctypes.byref(told), count, made, 256)
+        return list(made[: given.made])
+
+
+class Sound(_Object):
+    """Makes the samples of intervals: as many of one level as each has ticks, the first above zero, then by turns."""
+
+    _name, _gives = "sound", ctypes.c_int16
+
+    def __init__(self, level: int):
+        """The level, 0 to 32,767. Raises ValueError where it is out of range."""
+        self._make()
+        self._start(*_numbers([level], level), level)
+
+    def write(self, intervals) -> array.array:
+        """The samples of these intervals, in ticks."""
+        listed = array.array("I", _numbers(intervals, "an interval"))
+        held = (ctypes.c_uint32 * len(listed)).from_buffer_copy(listed)
+        made, at = array.array("h"), 0
+        while True:
+            place = ctypes.c_void_p(ctypes.addressof(held) + 4 * at)
+            taken = self._call("write_", ctypes.byref(self._handle), place, len(listed) - at, self._given, ROOM)
+            made.extend(self._given[: taken.made])
+            at += taken.used
+            if taken.made < ROOM:
+                return made
+
+
+def bits(label: str, count: str, user: int = 0, flags: int = 0) -> int:
+    """The 80 bits of a word as one number, of which bit 0 comes first in time: its label, its count, 24, 25, 30 or 30d,
+    its user bits, and its flags as `Word.flags` has them. An even number of the bits is 0. Raises ValueError where that
+    is no word.
+    """
+    told, found = _Word(_label_of(count, label), flags | 32 | (count == "30d"), *_numbers([user], user)), _Bits()
+    if not 0 <= flags < 32 or not library().tc_word_bits(ctypes.byref(told), ctypes.byref(found)):
+        raise ValueError(f"no word: {label} of {count}, user {user}, flags {flags}")
+    return found.low + (found.high << 64)
+
+
+def _label_of(count: str, label: str) -> _Label:
+    """A frame address in numbers. Raises ValueError where the text is none."""
+    parts = [int(part) for part in label.replace(";", ":").split(":")]
+    if len(parts) != 4 or count not in COUNTS:
+        raise ValueError(f"no label: {label} of {count}")
+    return _Label(COUNTS.index(count), *_numbers(parts, label))
 
 
 def words(samples, **numbers: int) -> Iterator[Word]:

@@ -9,7 +9,7 @@ import unittest
 TOP = os.path.dirname(os.path.dirname(os.path.realpath(__file__)))
 sys.path[:0] = [os.path.join(TOP, "python"), os.path.join(TOP, "tools")]
 import tc
-from tape_tries.making import TC, code, intervals
+from tape_tries.making import TC, TICKS, code, intervals
 
 
 @unittest.skipUnless(os.path.exists(TC), "bin/tc is not built")
@@ -72,6 +72,170 @@ class Reading(unittest.TestCase):
         for thread in threads:
             thread.join()
         self.assertEqual(found, [wanted] * 4)
+
+
+@unittest.skipUnless(os.path.exists(TC), "bin/tc is not built")
+class Tapes(unittest.TestCase):
+    @classmethod
+    def setUpClass(cls):
+        cls.ticks = array.array("I", intervals("25", "09:59:59:20", 60))
+        cls.labels = [f"{'09:59:59' if n < 5 else f'10:00:{(n - 5) // 25:02}'}:{(20 + n) % 25:02}" for n in range(60)]
+
+    def test_words_of_a_clean_tape(self):
+        for settings in ({}, {"tolerance": tc.Tolerance.WORN}, {"tolerance": tc.Tolerance.ROUGH, "firm": True}):
+            tape = tc.Tape(25, **settings)
+            words = tape.write(self.ticks) + tape.last()
+            self.assertEqual([word.label for word in words], self.labels)
+
+    def test_pieces_and_copies_bring_the_same(self):
+        whole = tc.Tape().write(self.ticks)
+        for length in (1, 999, 5_000):
+            tape, brought = tc.Tape(), []
+            for at in range(0, len(self.ticks), length):
+                brought += tape.write(list(self.ticks[at : at + length]))
+                tape = tape.copy()
+            self.assertEqual(brought, whole)
+
+    def test_a_backward_word_waits_for_its_witness(self):
+        ticks = intervals("25", "09:59:59:20", 3, "backward")
+        tape = tc.Tape(25, tc.Tolerance.ROUGH, firm=True)
+        told, last = tape.write(ticks), tape.last()
+        self.assertEqual([word.backward for word in told + last], [True] * 3)
+        self.assertEqual((len(told), len(last), tape.last()), (2, 1, last))
+
+    def test_what_is_no_interval_is_refused(self):
+        for wrong in (0, 16_777_216):
+            tape = tc.Tape()
+            with self.assertRaises(ValueError):
+                tape.write([5_000, wrong, 5_000])
+        for wrong in (b"abc", [-1], [1 << 32], array.array("h", [1])):
+            with self.assertRaises(ValueError):
+                tc.Tape().write(wrong)
+        for settings in ((29,), (25, 3), (25, 0, 2)):
+            with self.assertRaises(ValueError):
+                tc.Tape(*settings)
+
+
+@unittest.skipUnless(os.path.exists(TC), "bin/tc is not built")
+class Wheels(unittest.TestCase):
+    def test_a_hole_is_bridged_up_to_the_limit(self):
+        words = tc.Tape().write(intervals("25", "09:59:59:20", 10))
+        for limit, kinds in ((3, [2, 2, 2]), (2, [2, 2, 3]), (0, [3])):
+            wheel, frames = tc.Wheel(limit), []
+            for word in words[:4] + words[7:]:
+                frames += wheel.copy().heard(word)
+                wheel.heard(word)
+            self.assertEqual([frame.kind for frame in frames], [1] * 4 + kinds + [1] * 3)
+            self.assertEqual(frames[4 + len(kinds)].joined, limit == 3)
+            self.assertEqual([frame.label for frame in frames if frame.kind == tc.Kind.HEARD][4], words[7].label)
+
+    def test_time_does_not_fall(self):
+        wheel = tc.Wheel(1)
+        self.assertEqual(wheel.passed(1_000), [])
+        for tick in (999, 1 << 60, -1):
+            with self.assertRaises(ValueError):
+                wheel.passed(tick)
+        word = tc.Tape().write(intervals("25", "09:59:59:20", 2))[0]
+        first = wheel.heard(word)
+        self.assertEqual([(frame.kind, frame.joined, frame.tick) for frame in first], [(1, False, word.tick)])
+        far = [(frame.kind, frame.step) for frame in wheel.passed((1 << 60) - 1)]
+        self.assertEqual(far, [(tc.Kind.INVENTED, 1), (tc.Kind.GONE, 0)])
+
+    def test_limits(self):
+        for limit in (-1, 256, 1 << 40):
+            with self.assertRaises(ValueError):
+                tc.Wheel(limit)
+
+
+@unittest.skipUnless(os.path.exists(TC), "bin/tc is not built")
+class Midi(unittest.TestCase):
+    @classmethod
+    def setUpClass(cls):
+        wheel = tc.Wheel(2)
+        words = tc.Tape(30).write(intervals("30d", "09:59:59;20", 24))
+        cls.frames = [frame for word in words for frame in wheel.heard(word)]
+
+    def test_what_is_written_is_read(self):
+        writer, reader = tc.MtcWriter(), tc.MtcReader()
+        sent = [writer.write(frame) for frame in self.frames]
+        self.assertEqual([len(data) for data in sent], [18] + [8] * 23)
+        read = reader.write(sent[0]) + reader.copy().write(b"".join(sent[1:]))
+        self.assertEqual([label.label for label in read], [self.frames[0].label] + [f.label for f in self.frames[::2]])
+        self.assertEqual([label.full for label in read], [True] + [False] * 12)
+        self.assertEqual(read[1].place, 25)
+
+    def test_an_end_begins_a_run_anew(self):
+        writer = tc.MtcWriter()
+        self.assertEqual(len(writer.write(self.frames[0])), 18)
+        gone = tc.Frame(tc.Kind.GONE, "", False, False, 0, 9, "")
+        self.assertEqual(writer.write(gone), b"")
+        self.assertEqual(len(writer.copy().write(self.frames[1])), 18)
+        for wrong in ({"label": "24:00:00;00"}, {"label": "10:01:00;00"}, {"kind": 4}, {"step": 1}, {"label": "x"}):
+            with self.assertRaises(ValueError):
+                writer.write(self.frames[1]._replace(**wrong))
+
+    def test_an_address_that_is_no_label(self):
+        for address, fault in (
+            ((0x38, 0, 0, 0), tc.LabelFault.HOURS),
+            ((0x20, 60, 0, 0), tc.LabelFault.MINUTES),
+            ((0x20, 0, 60, 0), tc.LabelFault.SECONDS),
+            ((0x20, 0, 0, 25), tc.LabelFault.FRAMES),
+            ((0x40, 1, 0, 1), tc.LabelFault.DROPPED),
+        ):
+            data = bytes((0xF0, 0x7F, 0x7F, 1, 1, *address, 0xF7))
+            self.assertEqual(tc.MtcReader().write(data), [tc.MtcLabel(True, "", False, fault, 9)])
+        with self.assertRaises(ValueError):
+            tc.MtcReader().write(array.array("h", [1]))
+
+
+@unittest.skipUnless(os.path.exists(TC), "bin/tc is not built")
+class Making(unittest.TestCase):
+    def test_what_is_made_is_read(self):
+        labels = [f"09:59:59:{frame:02}" for frame in range(20, 25)] + ["10:00:00:00"]
+        maker, sound, reader = tc.Maker(24), tc.Sound(9_000), tc.Reader(system=25, fineness=1)
+        ticks = maker.write(tc.Maker.LEAD, 2)
+        for label in labels:
+            ticks += maker.copy().write(tc.bits(label, "25"))
+        self.assertEqual(ticks, list(intervals("25", labels[0], 6, rate=TICKS / 80 / 24)))
+        self.assertEqual([word.label for word in tc.Tape(25).write(ticks)], labels)
+        samples = sound.write(ticks[:100]) + sound.copy().write(ticks[100:])
+        self.assertEqual(len(samples), sum(ticks))
+        self.assertEqual(set(samples), {9_000, -9_000})
+        read = reader.write(samples + array.array("h", [-9_000 if samples[-1] > 0 else 9_000]))
+        self.assertEqual([word.label for word in read if isinstance(word, tc.Word)], labels)
+
+    def test_user_bits_and_flags_are_read(self):
+        maker, tape = tc.Maker(1_000), tc.Tape(30)
+        ticks = maker.write(tc.Maker.LEAD, 2)
+        ticks += maker.write(tc.bits("10:00:00;02", "30d", user=0x89ABCDEF, flags=0b10100))
+        (word,) = tape.write(ticks)
+        self.assertEqual((word.label, word.count, word.user), ("10:00:00;02", "30d", 0x89ABCDEF))
+        self.assertEqual((word.flags, word.balanced, word.length), (0b10101, True, 80_000))
+
+    def test_a_shape_moves_to_another_length(self):
+        maker = tc.Maker(20, 40, 2)
+        self.assertEqual(maker.write(0, 13), list(range(20, 41, 2)) + [40, 40])
+        for wrong in ((15,), (20, 15), (20, 40, 3), (1 << 23,), (-1,)):
+            with self.assertRaises(ValueError):
+                tc.Maker(*wrong)
+        for number, count in ((1 << 128, 80), (-1, 80), (1, 129)):
+            with self.assertRaises(ValueError):
+                maker.write(number, count)
+
+    def test_what_is_no_word_has_no_bits(self):
+        for label, count, user, flags in (
+            ("10:00:00:25", "25", 0, 0),
+            ("10:01:00;00", "30d", 0, 0),
+            ("10:00:00:00", "30", 0, 1),
+            ("10:00:00:00", "25", 0, 32),
+            ("10:00:00:00", "25", 1 << 32, 0),
+            ("10:00:00:00", "26", 0, 0),
+        ):
+            with self.assertRaises(ValueError):
+                tc.bits(label, count, user, flags)
+        for level in (32_768, -1):
+            with self.assertRaises(ValueError):
+                tc.Sound(level)
 
 
 if __name__ == "__main__":

@@ -137,6 +137,19 @@ def wrong_against_program(library, chance, intervals, tries):
     return []
 
 
+def bits_from(library, count, label, frames):
+    """The bits of so many words from a label on, as numbers, by the library."""
+    parts = [int(part) for part in label.replace(";", ":").split(":")]
+    word, told = Word(Label(COUNTS.index(count), *parts), 33 if count == "30d" else 32, 0), []
+    for _ in range(frames):
+        bits = Bits()
+        if not library.tc_word_bits(ctypes.byref(word), ctypes.byref(bits)):
+            raise ValueError(f"{label} is no label of {count}")
+        told.append(bits.number())
+        library.tc_label_advance(ctypes.byref(word.label), ctypes.c_int64(1))
+    return told
+
+
 def all_wrong(library, chance, intervals):
     """What is wrong, one thing at most, and how many tries there were."""
     for name in ("tc_word_bits", "tc_label_number", "tc_label_at", "tc_label_advance"):

@@ -1,5 +1,5 @@
 -- Six flags are the bits of a number below 64, and each is read from its own.
-use Rattle.std.proofs.Common.{◌≡◌, ℕ, zero, suc, ◌+◌, ◌*◌, ◌/◌, ◌%◌, ◌<◌, Bool, true, false, refl, sym, ap, ◌∙◌, arith}
+use Rattle.std.proofs.Common.{◌≡◌, ℕ, zero, suc, ◌/◌, ◌%◌, ◌<◌, Bool, true, false, refl, arith}
 use Rattle.std.proofs.Common.{lit<}
 use Rattle.std.specs.Prelude.{◌==◌}
 use Rattle.tc_bits.specs.declared.flags.Flags.{Flags}

@@ -10,6 +10,8 @@ use Rattle.tc_bits.specs.declared.fault.FieldFault.TheVariants as faults
 use Rattle.ltc_word.specs.declared.word.LtcWord.{LtcWord}
 use Rattle.direction_reader.specs.declared.event.Event.{Event}
 use Rattle.direction_reader.specs.declared.event.Event.TheVariants.{Word, Refused, Lost}
+use Rattle.direction_reader.specs.declared.firm_event.FirmEvent.{FirmEvent}
+use Rattle.direction_reader.specs.declared.firm_event.FirmEvent.TheVariants.{Told, Alone}
 use Rattle.tc_c.specs.declared.event.TcEvent.{TcEvent}
 
 -- a direction
@@ -63,13 +65,12 @@ c_word direction word tick length = record {
   length = length;
 }
 
--- an event
-abbrev pub c_event : Event → TcEvent
-c_event (Word direction word tick length) = c_word direction word tick length
-c_event (Refused direction fault tick) = record {
+-- a refused word, with the number of its fault
+abbrev pub c_refused : Direction → ℕ → ℕ → TcEvent
+c_refused direction detail tick = record {
   kind = 2;
   direction = direction_number direction;
-  detail = fault_number fault;
+  detail = detail;
   flags = 0;
   hours = 0;
   minutes = 0;
@@ -80,6 +81,11 @@ c_event (Refused direction fault tick) = record {
   tick = tick;
   length = 0;
 }
+
+-- an event
+abbrev pub c_event : Event → TcEvent
+c_event (Word direction word tick length) = c_word direction word tick length
+c_event (Refused direction fault tick) = c_refused direction (fault_number fault) tick
 c_event (Lost interval tick) = record {
   kind = 3;
   direction = 0;
@@ -94,3 +100,8 @@ c_event (Lost interval tick) = record {
   tick = tick;
   length = interval;
 }
+
+-- an event that is told where words may be asked for a witness: a word without one is refused, and its fault is 12
+abbrev pub c_told : FirmEvent → TcEvent
+c_told (Told event) = c_event event
+c_told (Alone direction tick) = c_refused direction 12 tick

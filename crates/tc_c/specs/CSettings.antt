@@ -10,7 +10,10 @@ use Rattle.pcm_front.specs.Level.{least_of}
 use Rattle.sound_reader.specs.declared.settings.SoundSettings.{SoundSettings}
 use Rattle.tc_address.specs.declared.system.System.{System}
 use Rattle.tc_address.specs.declared.system.System.TheVariants.{F24, F25, F30}
+use Rattle.tape_reader.specs.declared.settings.TapeSettings.{TapeSettings}
+use Rattle.tc_c.specs.CEvent.{bit}
 use Rattle.tc_c.specs.declared.settings.TcSettings.{TcSettings}
+use Rattle.tc_c.specs.declared.tape_settings.TcTapeSettings.{TcTapeSettings}
 
 -- a system by its frames a second
 abbrev pub system_number : System → ℕ
@@ -44,3 +47,9 @@ pub record Means (numbers : TcSettings) (s : SoundSettings) : Type 0 where
   pub fineness : s.fineness ≡ numbers.fineness
   pub smooth : s.smooth ≡ numbers.smooth
   pub pace : pace_number s.pace ≡ numbers.pace
+
+-- the numbers mean that a tape is read so
+pub record MeansTape (numbers : TcTapeSettings) (s : TapeSettings) : Type 0 where
+  pub system : system_number s.system ≡ numbers.system
+  pub tolerance : tolerance_number s.profile ≡ numbers.tolerance
+  pub firm : bit s.firm ≡ numbers.firm

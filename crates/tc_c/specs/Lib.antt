@@ -1,5 +1,7 @@
 pub mod CEvent
+pub mod CFrame
 pub mod CLabel
+pub mod CMtc
 pub mod CSettings
 pub mod CWord
 pub mod Lending

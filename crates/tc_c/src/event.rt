@@ -1,6 +1,7 @@
-//! An event in numbers. Read next: `settings`.
+//! An event in numbers. Read next: `told`.
 ghost use Rattle.std.specs.Prelude.{◌≡◌, ◌≤◌};
-ghost use Rattle.tc_c.specs.CEvent.{c_event, c_word, count_number, direction_number, fault_number, flag_bits};
+ghost use Rattle.tc_c.specs.CEvent.{c_event, c_refused, c_word, count_number, direction_number, fault_number};
+ghost use Rattle.tc_c.specs.CEvent.{flag_bits};
 
 use direction_reader::Event;
 use ltc_word::LtcWord;
@@ -16,7 +17,7 @@ pub struct TcEvent {
     /// 0 forward, 1 backward.
     pub direction: u8,
     /// Of a word its count: 0 for 24, 1 for 25, 2 for 30, 3 for 30 drop-frame. Of a refused one its fault,
-    /// from 1 to 9.
+    /// from 1 to 9, or 12 where it has no witness.
     pub detail: u8,
     /// Of a word, bit 0 first: bit 10, colour framing, the three binary group flags, and the balance.
     pub flags: u8,
@@ -49,20 +50,7 @@ pub(crate) fn c_event(event: &Event) -> TcEvent
             direction,
             fault,
             tick,
-        } => TcEvent {
-            kind: 2,
-            direction: direction_number(direction),
-            detail: fault_number(fault),
-            flags: 0,
-            hours: 0,
-            minutes: 0,
-            seconds: 0,
-            frames: 0,
-            user: 0,
-            zero: 0,
-            tick,
-            length: 0,
-        },
+        } => refused(direction, fault_number(fault), tick),
         Event::Lost { interval, tick } => TcEvent {
             kind: 3,
             direction: 0,
@@ -77,6 +65,26 @@ pub(crate) fn c_event(event: &Event) -> TcEvent
             tick,
             length: interval,
         },
+    }
+}
+
+/// A refused word in numbers.
+pub(crate) fn refused(direction: Direction, detail: u8, tick: u64) -> TcEvent
+    ensures { result ≡ c_refused direction detail tick }
+{
+    TcEvent {
+        kind: 2,
+        direction: direction_number(direction),
+        detail,
+        flags: 0,
+        hours: 0,
+        minutes: 0,
+        seconds: 0,
+        frames: 0,
+        user: 0,
+        zero: 0,
+        tick,
+        length: 0,
     }
 }
 
@@ -112,7 +120,7 @@ pub(crate) fn flag_bits(flags: Flags, balanced: bool) -> u8
         + 32 * u8::from(balanced)
 }
 
-fn direction_number(direction: Direction) -> u8
+pub(crate) fn direction_number(direction: Direction) -> u8
     ensures { result ≡ direction_number direction }
 {
     match direction {

@@ -1,9 +1,9 @@
 //! A frame address in numbers. Read next: `label_exports`.
-ghost use Rattle.std.specs.Prelude.{◌≡◌, Some, IfSome};
+ghost use Rattle.std.specs.Prelude.{◌≡◌, ◌↔◌, IsTrue, Some, IfSome};
 ghost use Rattle.tc_address.specs.declared.count.Count.{Count};
 ghost use Rattle.tc_address.specs.Label.{Address, IsLabel};
 ghost use Rattle.tc_c.specs.CEvent.{count_number};
-ghost use Rattle.tc_c.specs.CLabel.{MeansLabel};
+ghost use Rattle.tc_c.specs.CLabel.{c_label, c_no_label, MeansLabel};
 
 use crate::event::count_number;
 use tc_address::{Count, Label};
@@ -30,9 +30,21 @@ impl TcLabel {
         Label::new(count, self.hours, self.minutes, self.seconds, self.frames).ok()
     }
 
+    /// Tells whether they are those that stand where there is no label.
+    pub(crate) fn is_none(&self) -> bool
+        ensures { IsTrue result ↔ self.now ≡ c_no_label }
+    {
+        self.count == 0
+            && self.hours == 0
+            && self.minutes == 0
+            && self.seconds == 0
+            && self.frames == 0
+    }
+
     /// The numbers of a label.
     pub(crate) fn numbers_of(label: &Label) -> TcLabel
-        ensures { MeansLabel result label.now }
+        ensures means { MeansLabel result label.now }
+        ensures is { result ≡ c_label label.now }
     {
         TcLabel {
             count: u32::from(count_number(label.count())),
@@ -41,6 +53,19 @@ impl TcLabel {
             seconds: label.seconds(),
             frames: label.frames(),
         }
+    }
+}
+
+/// The numbers that stand where there is no label.
+pub(crate) fn no_label() -> TcLabel
+    ensures { result ≡ c_no_label }
+{
+    TcLabel {
+        count: 0,
+        hours: 0,
+        minutes: 0,
+        seconds: 0,
+        frames: 0,
     }
 }
 

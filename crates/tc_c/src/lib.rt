@@ -1,49 +1,117 @@
-//! A reader as functions for C, and words, their bits and labels.
+//! Readers, a flywheel and MIDI Time Code as functions for C, and words, their bits and labels.
 //!
-//! A program in C gives memory for a reader, settings in numbers and samples, and gets events in numbers.
-//! All that a reader keeps lies in the caller's memory, at one place and of one size. No call allocates,
-//! waits, prints or ends the process. `include/tc.h` names these functions, with their contracts in words.
+//! A program in C gives memory for an object, settings in numbers and samples, intervals, words or bytes, and
+//! gets events or frames in numbers. All that an object keeps lies in the caller's memory, at one place and of one
+//! size. No call allocates, waits, prints or ends the process. `include/tc.h` names these functions, with
+//! their contracts in words.
 //!
 //! What this crate promises:
 //! - `tc_reader_write_s16_` takes samples from the front, and writes the events that they bring: they are
 //!   those of all samples so far, each once and in order, in whatever pieces the samples come
 //!   (`specs/Write.antt`, `Goes`). Behind the events that it writes it changes none, and where it leaves
 //!   room for two it has taken all samples, unless the reader is full.
-//! - `tc_reader_start_` takes the settings that the numbers mean, and says whether they mean some
-//!   (`specs/CSettings.antt`, `Means`). Where they do not, nothing changes.
-//! - `tc_reader_at` makes a reader in the room that it is given (`specs/Opening.antt`).
-//! - The numbers of an event are those of `specs/CEvent.antt`, `c_event`; numbers mean one settings, one
-//!   label and one word at most (`laws`).
+//! - `tc_tape_write_` does so with intervals, where room for three is left (`TapeGoes`). It takes no number
+//!   that is no interval, and says where one comes. With what `tc_tape_last_` writes, the events are those of
+//!   the tape.
+//! - `tc_wheel_hear_` and `tc_wheel_pass_` write the frames of all words so far, up to the latest tick
+//!   (`WheelGoes`). A tick that falls is refused.
+//! - `tc_mtc_writer_write_` writes what the MIDI Time Code of the frames so far grows by (`MtcWrites`), and
+//!   `tc_mtc_reader_read_` the labels that bytes complete, in whatever pieces they come (`MtcGoes`).
+//! - `tc_maker_bits_` writes the intervals of the cells of bits (`code_maker`, `GoesOnBehind`), and
+//!   `tc_sound_write_` the samples of all intervals so far, in whatever pieces they come and go (`SoundMakes`).
+//! - `tc_reader_start_`, `tc_tape_start_` and `tc_wheel_start_` take the settings that the numbers mean, and say
+//!   whether they mean some (`specs/CSettings.antt`, `Means`, `MeansTape`). Where they do not, nothing changes.
+//! - `tc_reader_at`, `tc_tape_at`, `tc_wheel_at`, `tc_mtc_writer_at`, `tc_mtc_reader_at`, `tc_maker_at` and
+//!   `tc_sound_at` make an object in the room that they are given (`specs/Opening.antt`).
+//! - The numbers of an event are those of `specs/CEvent.antt`, `c_event` and `c_told`, and those of a frame
+//!   `c_frame` of `specs/CFrame.antt`; numbers mean one settings, one label, one word and one frame at most
+//!   (`laws`).
 //! - `tc_word_bits` gives the bits that spell the word which the numbers mean (`specs/CWord.antt`,
 //!   `MeansWord`), and `tc_bits_word` the word that bits spell, or the number of their first fault.
 //! - `tc_label_number`, `tc_label_at` and `tc_label_advance` are the numbers, labels and steps of a day, for
 //!   exactly the numbers that mean a label (`specs/CLabel.antt`, `MeansLabel`).
 //!
 //! What a caller in C has to keep stands as `requires` and in the header: pointers to as many elements as
-//! they are said to have, which do not overlap, and one call at a time on one reader.
+//! they are said to have, which do not overlap, and one call at a time on one object.
 //!
-//! Read `event`, `settings`, `kept`, `write`, `handle`, `opening` and `exports`, in this order, then `label`,
-//! `label_exports`, `word` and `word_exports`, and the files of specs/ beside them. `sound_reader`, `ltc_word`
-//! and `tc_address` are what is called.
+//! Read `event`, `settings`, `kept`, `write`, `handle`, `opening` and `exports`, in this order; of a tape `told`,
+//! `tape_settings` and the other files of its name, of a flywheel `heard`, `frame`, `given` and the files of its
+//! name, and of MIDI Time Code `mtc_event` and the files of its name; then the files of a maker and of a sound,
+//! and `label`, `label_exports`, `word` and `word_exports`, and the files of specs/ beside them. `sound_reader`,
+//! `tape_reader`, `frame_wheel`, `quarter_frame`, `mtc_reader`, `code_maker`, `ltc_word` and `tc_address` are
+//! what is called.
 #![tactic(auto)]
 
 mod event;
 mod exports;
+mod frame;
+mod given;
 mod handle;
+mod heard;
 mod kept;
 mod label;
 mod label_exports;
 pub mod laws;
+mod maker_exports;
+mod maker_handle;
+mod maker_kept;
+mod maker_opening;
+mod mtc_event;
+mod mtc_read;
+mod mtc_reader_exports;
+mod mtc_reader_handle;
+mod mtc_reader_kept;
+mod mtc_reader_opening;
+mod mtc_write;
+mod mtc_writer_exports;
+mod mtc_writer_handle;
+mod mtc_writer_kept;
+mod mtc_writer_opening;
 mod opening;
 mod settings;
+mod sound_exports;
+mod sound_handle;
+mod sound_kept;
+mod sound_opening;
+mod tape_exports;
+mod tape_handle;
+mod tape_kept;
+mod tape_opening;
+mod tape_settings;
+mod tape_write;
+mod told;
+mod wheel_exports;
+mod wheel_handle;
+mod wheel_kept;
+mod wheel_opening;
+mod wheel_write;
 mod word;
 mod word_exports;
 mod write;
 
 pub use event::TcEvent;
+pub use frame::TcFrame;
+pub use given::TcGiven;
 pub use handle::TcReader;
+pub use heard::TcHeard;
 pub use kept::KeptReader;
 pub use label::TcLabel;
+pub use maker_handle::TcMaker;
+pub use maker_kept::KeptMaker;
+pub use mtc_event::TcMtcEvent;
+pub use mtc_reader_handle::TcMtcReader;
+pub use mtc_reader_kept::KeptMtcReader;
+pub use mtc_writer_handle::TcMtcWriter;
+pub use mtc_writer_kept::KeptMtcWriter;
 pub use settings::TcSettings;
+pub use sound_exports::TcSoundTaken;
+pub use sound_handle::TcSound;
+pub use sound_kept::KeptSound;
+pub use tape_handle::TcTape;
+pub use tape_kept::KeptTape;
+pub use tape_settings::TcTapeSettings;
+pub use tape_write::TcTapeTaken;
+pub use wheel_handle::TcWheel;
+pub use wheel_kept::KeptWheel;
 pub use word::{TcBits, TcWord};
 pub use write::TcTaken;

@@ -71,7 +71,7 @@ pub(crate) fn system_of(number: u32) -> Option<System>
     }
 }
 
-fn profile_of(number: u32) -> Option<Profile>
+pub(crate) fn profile_of(number: u32) -> Option<Profile>
     ensures means { IfSome result (λ p. tolerance_number p ≡ number) }
     ensures only { (p : Profile) → tolerance_number p ≡ number → result ≡ Some p }
 {

@@ -92,6 +92,13 @@ impl TcBits {
         }
     }
 
+    /// Them as one number.
+    pub(crate) fn number(&self) -> u128
+        ensures { result ≡ number_of_bits self.now }
+    {
+        u128::from(self.low) + u128::from(self.high) * (1 << 64)
+    }
+
     /// Them as one number of 80 bits, where no higher bit is set.
     pub(crate) fn eighty(&self) -> Option<u128>
         ensures is { IfSome result (λ number. number ≡ number_of_bits self.now) }

@@ -1,0 +1,2 @@
+mod BitsOn
+mod SamplesOn

@@ -1,0 +1,64 @@
+-- What a reader of a tape keeps, and which intervals it stands for, with what it has told of them.
+use Rattle.std.specs.Prelude.{◌≡◌, ℕ, nat_le, ◌&&◌, not, Bool, true, false, List, [], ◌∷◌, ◌++◌, map}
+use Rattle.biphase.specs.declared.profile.Profile.{Profile}
+use Rattle.direction_reader.specs.declared.event.Event.{Event}
+use Rattle.direction_reader.specs.declared.firm_event.FirmEvent.{FirmEvent}
+use Rattle.direction_reader.specs.declared.firm_event.FirmEvent.TheVariants.{Told}
+use Rattle.direction_reader.specs.Firm.{AreFirmEvents}
+use Rattle.direction_reader.specs.FirmReader.{FirmStandsFor}
+use Rattle.direction_reader.specs.ListEvents.{AreEvents}
+use Rattle.direction_reader.specs.StandsFor as reader
+use Rattle.direction_reader.specs.Tracker.{profile_of}
+use Rattle.limits.specs.declared.recording.TheConstants.{MAX_INTERVAL, MAX_INTERVALS}
+use Rattle.tc_address.specs.declared.system.System.{System}
+use Rattle.tape_reader.specs.declared.reader.TapeReader.{TapeReader}
+use Rattle.tape_reader.specs.declared.reader.TapeReader.TheVariants.{Plain, Firm}
+use Rattle.tape_reader.specs.declared.settings.TapeSettings.{TapeSettings}
+
+-- how it reads
+abbrev pub settings_of : TapeReader → TapeSettings
+settings_of (Plain r) = record { system = r.system; profile = profile_of r.tracker; firm = false }
+settings_of (Firm r) = record { system = r.system; profile = profile_of r.tracker; firm = true }
+
+-- how many intervals were taken
+abbrev pub count_of : TapeReader → ℕ
+count_of (Plain r) = r.intervals
+count_of (Firm r) = r.intervals
+
+-- it takes no more intervals
+abbrev pub is_full : TapeReader → Bool
+is_full tape = nat_le MAX_INTERVALS (count_of tape)
+
+-- a number of ticks is an interval of a recording
+abbrev pub is_interval : ℕ → Bool
+is_interval x = nat_le 1 x && nat_le x MAX_INTERVAL
+
+-- the first of some numbers is no interval
+abbrev pub begins_with_none : List ℕ → Bool
+begins_with_none [] = false
+begins_with_none (x ∷ more) = not (is_interval x)
+
+-- events as they are told where no word is asked for a witness
+abbrev pub as_told : List Event → List FirmEvent
+as_told events = map (λ (event : Event). Told event) events
+
+-- it was given these intervals, and has told these events of them
+abbrev pub StandsFor : TapeReader → List ℕ → List FirmEvent → Type 0
+StandsFor (Plain r) intervals told =
+    (events : List Event) × (told ≡ as_told events) × reader.StandsFor r intervals events
+StandsFor (Firm r) intervals told = FirmStandsFor r intervals told
+
+-- from one state to a later one: it was given these intervals more, and told these events more
+abbrev pub Brings : TapeReader → TapeReader → List ℕ → List FirmEvent → Type 0
+Brings old new intervals own = (front : List ℕ) (told : List FirmEvent) → StandsFor old front told
+    → StandsFor new (front ++ intervals) (told ++ own)
+
+-- the events of a list of intervals: where words are asked for a witness, as they are judged
+abbrev pub AreEventsAsked : Bool → System → Profile → List ℕ → List FirmEvent → Type 0
+AreEventsAsked false system profile intervals told =
+    (events : List Event) × (told ≡ as_told events) × AreEvents system profile intervals events
+AreEventsAsked true system profile intervals told = AreFirmEvents system profile intervals told
+
+-- the events of a list of intervals, under these settings
+abbrev pub AreTapeEvents : TapeSettings → List ℕ → List FirmEvent → Type 0
+AreTapeEvents s intervals told = AreEventsAsked s.firm s.system s.profile intervals told

@@ -1,0 +1,94 @@
+//! The functions of a reader of a tape that C calls. Read next: `label`.
+ghost use Rattle.std.specs.Prelude.{◌≡◌, ◌+◌, ◌≤◌, ◌<◌, ◌++◌, ℕ, List, [], length, map, take, drop, true, false};
+ghost use Rattle.std.specs.Align.{type_align};
+ghost use Rattle.std.specs.Mem.{type_size};
+ghost use Rattle.direction_reader.specs.declared.firm_event.FirmEvent.{FirmEvent};
+ghost use Rattle.tape_reader.specs.declared.settings.TapeSettings.{TapeSettings};
+ghost use Rattle.tape_reader.specs.Tape.{begins_with_none, is_full, settings_of, AreTapeEvents, StandsFor};
+ghost use Rattle.tc_c.specs.contracts.tape_kept.KeptTape.{the_row};
+ghost use Rattle.tc_c.specs.CEvent.{c_told};
+ghost use Rattle.tc_c.specs.CSettings.{MeansTape};
+ghost use Rattle.tc_c.specs.Write.{TapeGoes};
+
+use crate::event::TcEvent;
+use crate::tape_handle::TcTape;
+use crate::tape_kept::KeptTape;
+use crate::tape_settings::TcTapeSettings;
+use crate::tape_write::{TcTapeTaken, put_all, write_tape};
+use tape_reader::TapeReader;
+
+/// How many bytes a reader of a tape takes.
+#[unsafe(no_mangle)]
+pub extern "C" fn tc_tape_bytes() -> usize
+    ensures { result ≡ type_size the_row }
+{
+    std::mem::size_of::<KeptTape>()
+}
+
+/// On what boundary they begin.
+#[unsafe(no_mangle)]
+pub extern "C" fn tc_tape_boundary() -> usize
+    ensures { result ≡ type_align the_row }
+{
+    std::mem::align_of::<KeptTape>()
+}
+
+/// Begins anew with these settings, where they mean some, and tells whether they do.
+#[unsafe(no_mangle)]
+pub extern "C" fn tc_tape_start_(handle: &mut TcTape, settings: &TcTapeSettings) -> bool
+    ensures means { result ≡ true → MeansTape settings.now (settings_of handle.new.value) }
+    ensures stands { result ≡ true → StandsFor handle.new.value [] [] }
+    ensures ready { result ≡ true → is_full handle.new.value ≡ false }
+    ensures only { (s : TapeSettings) → MeansTape settings.now s → result ≡ true }
+    ensures refused { result ≡ false → handle.new.value ≡ handle.old.value }
+    ensures place { handle.new.at ≡ handle.old.at }
+{
+    match settings.meaning() {
+        Some(settings) => {
+            handle.reader().tape = TapeReader::new(settings);
+            true
+        }
+        None => false,
+    }
+}
+
+/// Takes intervals from the front, and writes the events that they bring, as long as there is room for three.
+#[unsafe(no_mangle)]
+pub extern "C" fn tc_tape_write_(
+    handle: &mut TcTape,
+    intervals: &[u32],
+    events: &mut [TcEvent],
+) -> TcTapeTaken
+    ensures used { result.used ≤ length intervals.now }
+    ensures made { result.made ≤ length events.old }
+    ensures settings { settings_of handle.new.value ≡ settings_of handle.old.value }
+    ensures goes { TapeGoes handle.old.value handle.new.value (take result.used intervals.now)
+        (take result.made events.new) }
+    ensures rest { drop result.made events.new ≡ drop result.made events.old }
+    ensures all { result.made + 3 ≤ length events.old → result.full ≡ false → result.refused ≡ false
+        → result.used ≡ length intervals.now }
+    ensures full { result.full ≡ is_full handle.new.value }
+    ensures refused { result.refused ≡ begins_with_none (drop result.used intervals.now) }
+    ensures place { handle.new.at ≡ handle.old.at }
+{
+    write_tape(&mut handle.reader().tape, intervals, events)
+}
+
+/// Writes what is told at the end of the tape, where no interval follows, and gives how many events these are.
+/// Nothing changes in the reader, which may go on. Room for fewer than three events takes none.
+#[unsafe(no_mangle)]
+pub extern "C" fn tc_tape_last_(handle: &mut TcTape, events: &mut [TcEvent]) -> usize
+    ensures made { result ≤ length events.old }
+    ensures all { 3 ≤ length events.old → (own : List FirmEvent)
+        × (take result events.new ≡ map c_told own)
+        × ((intervals : List ℕ) (told : List FirmEvent) → StandsFor handle.old.value intervals told
+        → AreTapeEvents (settings_of handle.old.value) intervals (told ++ own)) }
+    ensures none { length events.old < 3 → result ≡ 0 }
+    ensures rest { drop result events.new ≡ drop result events.old }
+    ensures same { handle.new ≡ handle.old }
+{
+    if events.len() < 3 {
+        return 0;
+    }
+    put_all(&handle.reader().tape.last(), events, 0)
+}
