@@ -85,6 +85,11 @@ pub enum Job {
     Labels { run: LabelRun },
     /// `help`: writes how each command is typed, and where the manual is.
     Help,
+    /// `help COMMAND`: writes of the command how it is typed, what it does, its values and examples. The page is that
+    /// of the row with this number in `USAGES`, from 0 on.
+    HelpOf { page: usize },
+    /// `help statuses`: writes what each exit number means, and what to do.
+    HelpStatuses,
     /// `version`: writes which version of the program this is.
     Version,
 }

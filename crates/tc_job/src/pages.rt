@@ -1,0 +1,677 @@
+//! What `help` tells of each command, and of the exit numbers, a row a line: the command, or `statuses`, and the line.
+//! Read next: `values`, the lines of values.
+use crate::page_line::PageLine;
+use crate::values::{
+    BOUND, CELL, CELL_OF_JAM, COMMAND_OF_CODE, COMMAND_OF_FILES, COMMAND_OF_LABELS,
+    COMMAND_OF_OTHERS, COUNT, COUNT_TO, COUNT_WITH_LINES, DEEP, DIRECTION, FINENESS, FIRM,
+    FIRM_ALONE, FIRM_OF_CHASE, FIRM_OF_JAM, FOLLOW_OR_DEEP, FRAMES, FRAMES_WITH_LINES,
+    LABEL_SECOND, LABEL_SINCE, LABEL_THIRD, LENGTH, LEVEL, LIMIT, LIMIT_OF_CHASE, LIVE,
+    LIVE_OF_TRACK, N, NTSC, NUMBER, PATH, PATH_OF_TRACK, RATE, SEED, SEED_OF_SLIPS, SMOOTH,
+    SMOOTH_OF_TRACK, STATUSES, STEP, SYSTEM, THRESHOLD, THRESHOLD_OF_TRACK, TICK_RATE,
+    TICK_RATE_OF_JAM, TO_CELL, TRACK, VERSION, WAY_ALONE, WAY_ALONG, WAY_SINCE, WAY_TO, WORDS,
+    WORN_OR_ROUGH, WORN_OR_ROUGH_OF_CHASE, WORN_OR_ROUGH_OF_JAM,
+};
+
+/// What each command does.
+pub const SAID: [(&str, PageLine); 23] = [
+    (
+        "ltc-read",
+        (
+            "Writes a line for each word of a recording, forward or backward, for each\n\
+            refused one and for each break of the code, and a last line that counts them.\n\
+            Standard input is an interval file; a sound file goes through wav-ltc first.",
+            "",
+            "",
+            0,
+            0,
+        ),
+    ),
+    (
+        "ltc-worn",
+        (
+            "The same as ltc-read with the wider tolerance of worn tapes: neighbouring cells\n\
+            may differ by a sixth.\n\
+            Standard input is an interval file; a sound file goes through wav-ltc first.",
+            "",
+            "",
+            0,
+            0,
+        ),
+    ),
+    (
+        "ltc-rough",
+        (
+            "The same as ltc-read with the tolerance of hissy and dull tapes: a cell may\n\
+            differ by a quarter from the mean of the latest four.\n\
+            Standard input is an interval file; a sound file goes through wav-ltc first.",
+            "",
+            "",
+            0,
+            0,
+        ),
+    ),
+    (
+        "ltc-fly",
+        (
+            "Writes a line for each frame of a recording. Missing frames are invented, and\n\
+            each of them is marked.\n\
+            Standard input is an interval file; a sound file goes through wav-ltc first.",
+            "",
+            "",
+            0,
+            0,
+        ),
+    ),
+    (
+        "ltc-spans",
+        (
+            "Writes what is on a tape: a line for each span of frames whose labels count on,\n\
+            and between two spans a line with the gap.\n\
+            Standard input is an interval file; a sound file goes through wav-ltc first.",
+            "",
+            "",
+            0,
+            0,
+        ),
+    ),
+    (
+        "ltc-mtc",
+        (
+            "Writes the frames of a recording as MIDI Time Code: a full message where they\n\
+            begin, and then four quarter frames a frame.\n\
+            Standard input is an interval file; a sound file goes through wav-ltc first.",
+            "",
+            "",
+            0,
+            0,
+        ),
+    ),
+    (
+        "ltc-jam",
+        (
+            "Writes the frames of a recording anew as an interval file, in cells of one\n\
+            length. User bits and flags are lost, and so are the gaps.\n\
+            Standard input is an interval file; a sound file goes through wav-ltc first.",
+            "",
+            "",
+            0,
+            0,
+        ),
+    ),
+    (
+        "ltc-convert",
+        (
+            "Writes an interval file in the version that is asked for, with the same system,\n\
+            tick rate and intervals. Standard input is an interval file.",
+            "",
+            "",
+            0,
+            0,
+        ),
+    ),
+    (
+        "pcm-ltc",
+        (
+            "Writes an interval file of the crossings of sound. Standard input is raw\n\
+            samples: 16 bits with a sign, the less significant byte first, one channel.\n\
+            A sound file goes to wav-ltc.",
+            "",
+            "",
+            0,
+            0,
+        ),
+    ),
+    (
+        "wav-ltc",
+        (
+            "Writes an interval file of a track of a sound file, with 16 ticks a sample.\n\
+            Standard input is a sound file: WAV, BWF, RF64 or BW64. An interval file goes\n\
+            to ltc-read.",
+            "",
+            "",
+            0,
+            0,
+        ),
+    ),
+    (
+        "ltc-pcm",
+        (
+            "Writes a recording as raw samples of one size, to be played at its tick rate.\n\
+            Standard input is an interval file; a sound file goes through wav-ltc first.",
+            "",
+            "",
+            0,
+            0,
+        ),
+    ),
+    (
+        "ltc-make",
+        (
+            "Writes an interval file of so many frames from a label on. Nothing is read.",
+            "",
+            "",
+            0,
+            0,
+        ),
+    ),
+    (
+        "ltc-load",
+        (
+            "Makes a recording of varying speed by chance, reads it, and writes one line on\n\
+            what was read. Nothing is read from standard input.",
+            "",
+            "",
+            0,
+            0,
+        ),
+    ),
+    (
+        "mtc-read",
+        (
+            "Writes a line for each address in MIDI bytes: of full messages, and of eight\n\
+            quarter frames. All else on the cable is skipped. Standard input is MIDI bytes.",
+            "",
+            "",
+            0,
+            0,
+        ),
+    ),
+    (
+        "chase",
+        (
+            "Writes the trace of a transport that begins at the label and follows the master\n\
+            of a script, a line a frame. Standard input is the script, a text.",
+            "",
+            "",
+            0,
+            0,
+        ),
+    ),
+    (
+        "ltc-chase",
+        (
+            "Writes the trace of a transport that begins at the label and follows the frames\n\
+            of a recording, as ltc-fly writes them. In each step it slips by chance.\n\
+            Standard input is an interval file; a sound file goes through wav-ltc first.",
+            "",
+            "",
+            0,
+            0,
+        ),
+    ),
+    (
+        "vitc-read",
+        (
+            "Writes a line for each field: the word on which its lines agree, two words in\n\
+            conflict, or why no line says one. Standard input is a line file.",
+            "",
+            "",
+            0,
+            0,
+        ),
+    ),
+    (
+        "vitc-make",
+        (
+            "Writes a line file of so many frames from a label on: two fields a frame, of\n\
+            two equal lines each. Nothing is read.",
+            "",
+            "",
+            0,
+            0,
+        ),
+    ),
+    (
+        "number",
+        (
+            "Writes how many labels of the count stand before the label in a day.",
+            "",
+            "",
+            0,
+            0,
+        ),
+    ),
+    (
+        "label",
+        (
+            "Writes the label of a number in the day of the count.",
+            "",
+            "",
+            0,
+            0,
+        ),
+    ),
+    (
+        "labels",
+        (
+            "Writes a line for each line of a text. A line says a label of the count, its\n\
+            number in the day, or seconds since midnight with three decimals: 3600.040.\n\
+            Standard input is the text. A way is one of these words with what follows it.",
+            "",
+            "",
+            0,
+            0,
+        ),
+    ),
+    (
+        "help",
+        (
+            "Writes how each command is typed, a line each. With a word more it writes of a\n\
+            command what it does, its values and examples, or what the exit numbers mean.",
+            "",
+            "",
+            0,
+            0,
+        ),
+    ),
+    (
+        "version",
+        ("Writes which version of tc this is.", "", "", 0, 0),
+    ),
+];
+
+/// The values of its words, in the order of its form: of the commands along a recording.
+pub const VALUES_OF_RECORDINGS: [(&str, PageLine); 23] = [
+    ("ltc-rough", FIRM_ALONE),
+    ("ltc-fly", LIMIT),
+    ("ltc-fly", WORN_OR_ROUGH),
+    ("ltc-fly", FIRM),
+    ("ltc-spans", LIMIT),
+    ("ltc-spans", WORN_OR_ROUGH),
+    ("ltc-spans", FIRM),
+    ("ltc-mtc", LIMIT),
+    ("ltc-mtc", WORN_OR_ROUGH),
+    ("ltc-mtc", FIRM),
+    ("ltc-jam", LIMIT),
+    ("ltc-jam", CELL_OF_JAM),
+    ("ltc-jam", TICK_RATE_OF_JAM),
+    ("ltc-jam", WORN_OR_ROUGH_OF_JAM),
+    ("ltc-jam", FIRM_OF_JAM),
+    ("ltc-convert", VERSION),
+    ("ltc-chase", COUNT),
+    ("ltc-chase", LABEL_SECOND),
+    ("ltc-chase", LIMIT_OF_CHASE),
+    ("ltc-chase", SEED_OF_SLIPS),
+    ("ltc-chase", BOUND),
+    ("ltc-chase", WORN_OR_ROUGH_OF_CHASE),
+    ("ltc-chase", FIRM_OF_CHASE),
+];
+
+/// The same of the commands of sound.
+pub const VALUES_OF_SOUND: [(&str, PageLine); 16] = [
+    ("pcm-ltc", SYSTEM),
+    ("pcm-ltc", RATE),
+    ("pcm-ltc", THRESHOLD),
+    ("pcm-ltc", FINENESS),
+    ("pcm-ltc", PATH),
+    ("pcm-ltc", FOLLOW_OR_DEEP),
+    ("pcm-ltc", SMOOTH),
+    ("pcm-ltc", LIVE),
+    ("wav-ltc", SYSTEM),
+    ("wav-ltc", TRACK),
+    ("wav-ltc", THRESHOLD_OF_TRACK),
+    ("wav-ltc", PATH_OF_TRACK),
+    ("wav-ltc", SMOOTH_OF_TRACK),
+    ("wav-ltc", DEEP),
+    ("wav-ltc", LIVE_OF_TRACK),
+    ("ltc-pcm", LEVEL),
+];
+
+/// The same of those that make or take labels, and of `help`.
+pub const VALUES_OF_LABELS: [(&str, PageLine); 34] = [
+    ("ltc-make", COUNT),
+    ("ltc-make", DIRECTION),
+    ("ltc-make", LABEL_THIRD),
+    ("ltc-make", FRAMES),
+    ("ltc-make", CELL),
+    ("ltc-make", TICK_RATE),
+    ("ltc-make", TO_CELL),
+    ("ltc-make", STEP),
+    ("ltc-load", SEED),
+    ("ltc-load", WORDS),
+    ("chase", COUNT),
+    ("chase", LABEL_SECOND),
+    ("vitc-make", COUNT_WITH_LINES),
+    ("vitc-make", LABEL_SECOND),
+    ("vitc-make", FRAMES_WITH_LINES),
+    ("vitc-make", LENGTH),
+    ("number", COUNT),
+    ("number", LABEL_SECOND),
+    ("label", COUNT),
+    ("label", NUMBER),
+    ("labels", COUNT),
+    ("labels", NTSC),
+    ("labels", WAY_ALONE),
+    ("labels", WAY_ALONG),
+    ("labels", N),
+    ("labels", WAY_SINCE),
+    ("labels", LABEL_SINCE),
+    ("labels", WAY_TO),
+    ("labels", COUNT_TO),
+    ("help", COMMAND_OF_CODE),
+    ("help", COMMAND_OF_FILES),
+    ("help", COMMAND_OF_OTHERS),
+    ("help", COMMAND_OF_LABELS),
+    ("help", STATUSES),
+];
+
+/// Its examples: the words are told, each behind a space.
+pub const EXAMPLES: [(&str, PageLine); 32] = [
+    (
+        "ltc-read",
+        ("Example: tc ltc-read", "", " < tape.ltci", 0, 0),
+    ),
+    (
+        "ltc-read",
+        (
+            "Example: tc wav-ltc 25 1 250 < tape.wav | tc ltc-read",
+            "",
+            "",
+            0,
+            0,
+        ),
+    ),
+    (
+        "ltc-worn",
+        ("Example: tc ltc-worn", "", " < tape.ltci", 0, 0),
+    ),
+    (
+        "ltc-rough",
+        ("Example: tc ltc-rough", "", " < tape.ltci", 0, 0),
+    ),
+    (
+        "ltc-rough",
+        (
+            "Example: tc wav-ltc 25 1 250 < tape.wav | tc ltc-rough",
+            " firm",
+            "",
+            0,
+            0,
+        ),
+    ),
+    (
+        "ltc-fly",
+        ("Example: tc ltc-fly", " 2 rough", " < tape.ltci", 0, 0),
+    ),
+    (
+        "ltc-spans",
+        (
+            "Example: tc wav-ltc 25 1 250 < tape.wav | tc ltc-spans",
+            " 2 rough",
+            "",
+            0,
+            0,
+        ),
+    ),
+    (
+        "ltc-mtc",
+        (
+            "Example: tc ltc-mtc",
+            " 2 rough",
+            " < tape.ltci > tape.mtc",
+            0,
+            0,
+        ),
+    ),
+    (
+        "ltc-jam",
+        (
+            "Example: tc ltc-jam",
+            " 2 24 48000 rough",
+            " < tape.ltci > clean.ltci",
+            0,
+            0,
+        ),
+    ),
+    (
+        "ltc-convert",
+        (
+            "Example: tc ltc-convert",
+            " 2",
+            " < tape.ltci > short.ltci",
+            0,
+            0,
+        ),
+    ),
+    (
+        "pcm-ltc",
+        (
+            "Example: tc pcm-ltc",
+            " 25 48000 250 16 follow 2",
+            " < tape.raw > tape.ltci",
+            0,
+            0,
+        ),
+    ),
+    (
+        "pcm-ltc",
+        (
+            "Example: tc pcm-ltc",
+            " 25 48000 250 16 path",
+            " < tape.raw > tape.ltci",
+            0,
+            0,
+        ),
+    ),
+    (
+        "wav-ltc",
+        (
+            "Example: tc wav-ltc",
+            " 25 1 250 2 deep",
+            " < tape.wav > tape.ltci",
+            0,
+            0,
+        ),
+    ),
+    (
+        "wav-ltc",
+        (
+            "Example: tc wav-ltc",
+            " 25 1 250",
+            " < tape.wav | tc ltc-rough",
+            0,
+            0,
+        ),
+    ),
+    (
+        "ltc-pcm",
+        (
+            "Example: tc ltc-pcm",
+            " 8192",
+            " < tape.ltci > tape.raw",
+            0,
+            0,
+        ),
+    ),
+    (
+        "ltc-make",
+        (
+            "Example: tc ltc-make",
+            " 25 forward 01:00:00:00 1500 24 48000",
+            " > tape.ltci",
+            0,
+            0,
+        ),
+    ),
+    (
+        "ltc-make",
+        (
+            "Example: tc ltc-make",
+            " 25 forward 01:00:00:00 1500 24 48000 48 1",
+            " > slower.ltci",
+            0,
+            0,
+        ),
+    ),
+    ("ltc-load", ("Example: tc ltc-load", " 53 100", "", 0, 0)),
+    (
+        "mtc-read",
+        ("Example: tc mtc-read", "", " < tape.mtc", 0, 0),
+    ),
+    (
+        "chase",
+        (
+            "Example: tc chase",
+            " 25 01:00:00:00",
+            " < script.csv",
+            0,
+            0,
+        ),
+    ),
+    (
+        "ltc-chase",
+        (
+            "Example: tc ltc-chase",
+            " 25 01:00:00:00 2 1 8 rough",
+            " < tape.ltci",
+            0,
+            0,
+        ),
+    ),
+    (
+        "vitc-read",
+        ("Example: tc vitc-read", "", " < tape.vitl", 0, 0),
+    ),
+    (
+        "vitc-make",
+        (
+            "Example: tc vitc-make",
+            " 25 01:00:00:00 100 1728",
+            " > tape.vitl",
+            0,
+            0,
+        ),
+    ),
+    (
+        "number",
+        ("Example: tc number", " 25 01:00:00:00", "", 0, 0),
+    ),
+    ("label", ("Example: tc label", " 25 90000", "", 0, 0)),
+    (
+        "labels",
+        ("Example: tc labels", " 25 number", " < labels.txt", 0, 0),
+    ),
+    (
+        "labels",
+        (
+            "Example: echo 10:00:00:00 | tc labels",
+            " 25 plus 250",
+            "",
+            0,
+            0,
+        ),
+    ),
+    (
+        "labels",
+        (
+            "Example: tc labels",
+            " 25 since 01:00:00:00",
+            " < labels.txt",
+            0,
+            0,
+        ),
+    ),
+    (
+        "labels",
+        (
+            "Example: tc labels",
+            " 30 ntsc to 24 ntsc",
+            " < labels.txt",
+            0,
+            0,
+        ),
+    ),
+    ("help", ("Example: tc help", " ltc-read", "", 0, 0)),
+    ("help", ("Example: tc help", " statuses", "", 0, 0)),
+    ("version", ("Example: tc version", "", "", 0, 0)),
+];
+
+/// Each exit number and what it means: it is told how its notes begin.
+pub const EXIT_NUMBERS: [(&str, PageLine); 8] = [
+    (
+        "statuses",
+        (
+            "0  ",
+            "",
+            "done: the input was read to its end, and the whole output was written.",
+            0,
+            0,
+        ),
+    ),
+    (
+        "statuses",
+        (
+            "2  ",
+            "tc: usage: ",
+            "..  The words name no job; nothing was read or written.\n\
+            \x20  Compare them with tc help COMMAND. Word 0 is the command. A file is no word:\n\
+            \x20  it stands behind <, as in tc ltc-read < tape.ltci.",
+            0,
+            0,
+        ),
+    ),
+    (
+        "statuses",
+        (
+            "3  ",
+            "tc: refused: ",
+            "..  The input is not in its grammar, from this place on.\n\
+            \x20  magic at byte 0: another kind of file; a sound file goes to wav-ltc, and an\n\
+            \x20  interval file to ltc-read. truncated: the end is cut off. What came before\n\
+            \x20  that byte was read and written; of a script nothing is written.",
+            0,
+            0,
+        ),
+    ),
+    (
+        "statuses",
+        (
+            "4  ",
+            "tc: read fault",
+            "  Standard input failed: look at its disk or device.",
+            0,
+            0,
+        ),
+    ),
+    (
+        "statuses",
+        (
+            "5  ",
+            "tc: write fault",
+            "  Standard output failed: a full disk, or a closed pipe.\n\
+            \x20  What was written is the beginning of the output.",
+            0,
+            0,
+        ),
+    ),
+    (
+        "statuses",
+        (
+            "6  ",
+            "tc: out of memory",
+            "  There was no memory: see ulimit -v.",
+            0,
+            0,
+        ),
+    ),
+    (
+        "statuses",
+        (
+            "7  ",
+            "tc: limit",
+            "  The input is longer than the command takes: cut it into files.",
+            0,
+            0,
+        ),
+    ),
+    (
+        "statuses",
+        (
+            "8  ",
+            "",
+            "no note: an argument is no text in UTF-8. Look for a byte above 7f.",
+            0,
+            0,
+        ),
+    ),
+];
