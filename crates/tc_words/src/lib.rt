@@ -6,11 +6,12 @@
 //! What this crate promises: `read_words` answers the task of the words, or else their first fault, in
 //! the order of `WordsFault`, and want of memory is an answer of its own (`specs/Words.antt`,
 //! `answer_to`). A task is a job that is streamed, or a chase. And the table of usages, which `help` prints, has a
-//! row for each command, whose form makes words that are taken (`specs/Usages.antt`, `Forms.antt`; `laws`).
+//! row for each command, whose form makes words that are taken (`specs/Usages.antt`, `Forms.antt`; `laws`). The pages
+//! of help name exactly what is read (`specs/Pages.antt`).
 //!
 //! Read `words` and `values`, with `specs/Words.antt` and `specs/Values.antt` beside them: `words` and
 //! `Words.antt` have the same rows. Behind them come the files of the commands of many words: `flight`,
-//! `label_run`, `ltc_chase`, `ltc_make`, `vitc_make`, `live`, `pcm_ltc`, `pcm_path`, `wav_ltc` and `wav_path`. The
+//! `help`, `label_run`, `ltc_chase`, `ltc_make`, `vitc_make`, `live`, `pcm_ltc`, `pcm_path`, `wav_ltc` and `wav_path`. The
 //! tasks themselves stand in `tc_job`.
 //!
 //! A later command joins in these places, once it stands in `tc_job`:
@@ -21,6 +22,7 @@
 #![tactic(auto)]
 
 mod flight;
+mod help;
 mod label_run;
 pub mod laws;
 mod live;

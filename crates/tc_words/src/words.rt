@@ -8,6 +8,7 @@ ghost use Rattle.std.specs.Prelude.{◌≡◌, ◌⊎◌, length, map, position,
 ghost use Rattle.command_words.specs.CommandLine.{begins_with_dash};
 ghost use Rattle.tc_job.specs.declared.job.Job.TheVariants as jobs;
 ghost use Rattle.tc_words.specs.Flight.{flight_in};
+ghost use Rattle.tc_words.specs.Help.{help};
 ghost use Rattle.tc_words.specs.LabelRun.{labels};
 ghost use Rattle.tc_words.specs.Values.{map_ok};
 ghost use Rattle.tc_words.specs.Words.{answer_to, without_dashes, IsRefusedAtOnce, job_of, no_values};
@@ -15,6 +16,7 @@ ghost use Rattle.tc_words.specs.Words.{ltc_rough, ltc_jam, ltc_chase, number, la
 ghost use Rattle.tc_words.specs.Words.{ltc_convert, pcm_ltc, wav_ltc, ltc_pcm, task_of, chase, ltc_load, vitc_make};
 
 use crate::flight::flight_in;
+use crate::help::help;
 use crate::label_run::labels;
 use crate::live::without_live;
 use crate::ltc_chase::chased;
@@ -128,7 +130,7 @@ fn job_of(command: &str, values: &[&str]) -> Result<Job, WordsFault>
         "number" => number(values),
         "label" => label_of(values),
         "labels" => labels(values),
-        "help" => no_values(values, Job::Help),
+        "help" => help(values),
         "version" => no_values(values, Job::Version),
         _ => Err(WordsFault::Command),
     }
