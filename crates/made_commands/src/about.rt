@@ -1,5 +1,5 @@
 //! The commands that tell of the program itself: `help` and `version`.
-//! Read next: `tc_command/src/making.rt`.
+//! Read next: `pages`, which tells of one command.
 ghost use Rattle.std.specs.Prelude.{◌≡◌, ◌+◌, ◌≤◌, ◌++◌, length, map};
 ghost use Rattle.arrayvec.specs.ArrayVec.{array_vec_len};
 ghost use Rattle.made_commands.specs.About.{help_text, usage_line, usage_lines, version_line};
@@ -35,11 +35,18 @@ pub fn tell_version<S: Source, K: Sink>(source: &mut S, out: &mut K) -> Result<(
 
 /// An output of one piece.
 #[derive(Drop)]
-struct Page {
+pub(crate) struct Page {
     text: Option<Piece>,
 }
 
 impl Page {
+    /// The output of these bytes.
+    pub(crate) fn of(text: Piece) -> Page
+        ensures { rest_of result.text ≡ text.items }
+    {
+        Page { text: Some(text) }
+    }
+
     /// A line a command, and the line of the manual.
     #[tactic(auto, unfolding(crate::specs::About::help_text))]
     fn help() -> Page
@@ -77,7 +84,7 @@ fn push_usages(usages: &[(&str, &str)], room: &mut Piece)
 }
 
 /// The line of a row.
-fn push_usage(command: &str, values: &str, room: &mut Piece)
+pub(crate) fn push_usage(command: &str, values: &str, room: &mut Piece)
     requires { array_vec_len room.old + length (usage_line (command.now, values.now)) ≤ PIECE }
     ensures items { room.new.items ≡ room.old.items ++ usage_line (command.now, values.now) }
     ensures len { array_vec_len room.new ≡ array_vec_len room.old + length (usage_line (command.now, values.now)) }
