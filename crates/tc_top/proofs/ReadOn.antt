@@ -10,7 +10,8 @@ use Rattle.interval_file.specs.declared.header.IntervalHeader.{IntervalHeader}
 use Rattle.interval_file.specs.Grammar.{IsFile}
 use Rattle.interval_file.specs.Recording.{Recording, recording_of}
 use Rattle.tc_job.specs.declared.job.Job.{Job}
-use Rattle.tc_job.specs.declared.job.Job.TheVariants.{LtcMtc, LtcJam, LtcPcm, Number, LabelOf, Help}
+use Rattle.tc_job.specs.declared.job.Job.TheVariants.{LtcMtc, LtcJam, LtcPcm, Number, LabelOf, Help, HelpOf}
+use Rattle.tc_job.specs.declared.job.Job.TheVariants.{HelpStatuses}
 use Rattle.tc_job.specs.Jam.{Jamming}
 use Rattle.interval_engine.specs.Along.{IsWholeOf}
 use Rattle.interval_commands.specs.LtcRead.{last_line, lines, report}
@@ -19,6 +20,7 @@ use Rattle.tc_top.specs.Promises.{IsReadOn}
 use Rattle.tc_top.proofs.FormsWritten.{FormsLaws, tells_the_forms}
 use Rattle.tc_top.proofs.LabelsHeard.{HaveLabels}
 use Rattle.tc_top.proofs.NamedAgain.{LabelsLaws, named_again, numbered_by_text}
+use Rattle.tc_top.proofs.PagesWritten.{PagesLaws, tells_of_the_command, tells_of_the_statuses}
 use Rattle.tc_top.proofs.SentIsRead.{AreReadBack, sends_the_frames}
 use Rattle.tc_top.proofs.SlicedAgain.{SoundLaws, sliced_again}
 
@@ -30,6 +32,7 @@ pub record ReadOnLaws : Type 1 where
   pub back : AreReadBack
   pub numbers : LabelsLaws
   pub forms : FormsLaws
+  pub pages : PagesLaws
   pub sound : SoundLaws
 
 -- the report of a file within the limit whose events are these
@@ -55,4 +58,7 @@ read_on laws (LtcPcm size) level = λ pulled written are input output.
 read_on laws (Number label) level = λ pulled written are input output. named_again laws.numbers label pulled written
 read_on laws (LabelOf label) level = λ pulled written are input output. numbered_by_text label pulled written
 read_on laws Help level = λ pulled written are input output. tells_the_forms laws.forms written output.1
+read_on laws (HelpOf page) level = λ pulled written are input output.
+    tells_of_the_command laws.pages page written output.1
+read_on laws HelpStatuses level = λ pulled written are input output. tells_of_the_statuses laws.pages written output.1
 read_on laws job level = λ pulled written are input output. tt

@@ -21,6 +21,7 @@ use Rattle.made_commands.specs.Labels.{told_label, told_number}
 use Rattle.made_commands.specs.Load.{told_ltc_load}
 use Rattle.made_commands.specs.Made.{told_ltc_make}
 use Rattle.made_commands.specs.MadeLines.{told_vitc_make}
+use Rattle.made_commands.specs.Pages.{told_page, told_statuses}
 use Rattle.signal_commands.specs.MtcRead.{told_mtc_read}
 use Rattle.signal_commands.specs.PcmLtc.{told_pcm_ltc}
 use Rattle.signal_commands.specs.PcmPath.{told_pcm_path}
@@ -53,6 +54,8 @@ told_of (jobs.Number label) = told_number label
 told_of (jobs.LabelOf label) = told_label label
 told_of (jobs.Labels run) = told_labels run
 told_of jobs.Help = told_help
+told_of (jobs.HelpOf page) = told_page page
+told_of jobs.HelpStatuses = told_statuses
 told_of jobs.Version = told_version
 
 -- what each command takes and writes

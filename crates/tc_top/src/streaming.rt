@@ -25,8 +25,8 @@ use interval_commands::{
 use label_command::{answer_labels, labels_are_lawful};
 use made_commands::{
     line_stripes_are_lawful, loads_are_lawful, make_lines, make_recording, names_are_lawful,
-    numbers_are_lawful, stripes_are_lawful, tell_help, tell_label, tell_load, tell_number,
-    tell_version,
+    numbers_are_lawful, stripes_are_lawful, tell_help, tell_label, tell_load, tell_number, tell_page,
+    tell_statuses, tell_version,
 };
 use signal_commands::laws::{
     each_signal_makes_a_command, paths_are_lawful, sliced_sound_is_lawful,
@@ -146,6 +146,8 @@ fn work_on<S: Source, K: Sink>(job: &Job, source: &mut S, out: &mut K) -> Result
         Job::LabelOf { label } => tell_label(label, source, out),
         Job::Labels { run } => answer_labels(run, source, out),
         Job::Help => tell_help(source, out),
+        Job::HelpOf { page } => tell_page(*page, source, out),
+        Job::HelpStatuses => tell_statuses(source, out),
         Job::Version => tell_version(source, out),
     }
 }

@@ -28,6 +28,7 @@ pub mod laws;
 mod live;
 mod ltc_chase;
 mod ltc_make;
+pub mod page_laws;
 mod pcm_ltc;
 mod pcm_path;
 mod values;
