@@ -6,8 +6,8 @@
 It makes the tapes in the temporary folder (a gigabyte for a thousand of ten seconds): code of each count from another
 minute on, at the head or behind silence, on one track or on the second of two; each tenth is silent, and each fiftieth
 is cut short. It prints a row a run: jobs, seconds, seconds of processors, tapes a second, and how many times faster
-than with the first number of jobs. Then a run with the most jobs is killed when half of the rows stand, and resumed. It
-ends with status 1 where two of the tables differ. How long a run takes depends on the machine, so the gate does not run
+than with the first number of jobs. Then a run with the most jobs is killed when half of the rows are there, and resumed.
+It ends with status 1 if two of the tables differ. How long a run takes depends on the machine, so the gate does not run
 this; GNU parallel has to be installed.
 """
 import argparse

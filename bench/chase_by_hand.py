@@ -3,11 +3,11 @@
 
     bench/chase_by_hand.py [SCRIPTS] [SEED]
 
-Ten thousand scripts where nothing is said.
+Ten thousand scripts without a number.
 
 Three scripts of four keep to the premises of the theorem on the lock: after some rows of anything a master moves steadily in
-one direction, no command comes, and the transport slips by at most 8 subframes. Of these it is checked, beside each
-line, that no row loses the lock from the first locked row on, and that the errors are within 40, 24 and then 8.
+one direction, no command comes, and the transport slips by at most 8 subframes. For these it is also checked that
+no row loses the lock from the first locked row on, and that the errors are within 40, 24 and then 8.
 """
 import os
 import random

@@ -1,6 +1,6 @@
 #!/usr/bin/env bash
 # How fast `tc ltc-chase` follows about one hour at 25 frames a second, as a multiple of `tc ltc-read` of the same file, and its greatest resident memory;
-# and where its own limit stands: 100,000,000 frames are followed, and one more is not.
+# and its own limit: 100,000,000 frames are followed, and one more is not.
 #
 #     bench/code_chase.sh [TC [RECORDING]]
 #

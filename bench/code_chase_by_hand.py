@@ -3,10 +3,10 @@
 
     bench/code_chase_by_hand.py [RECORDING..]
 
-The recordings of examples/ where none is named. The frames are those that `tc ltc-fly` prints; the draws, the chase and the
-transport are reckoned here. Each recording is followed with the limits 0, 2 and 255, the bounds 0, 8 and 1,000, from its own
-first label and from another one, in its own count and in another. Beside each line it is checked that each loss has one of
-its four causes, and that where no step has one, no step after the first locked one has an error above 40 subframes.
+The recordings of examples/ if none is named. The frames are those that `tc ltc-fly` prints; the draws, the chase and the
+transport are computed here. Each recording is followed with the limits 0, 2 and 255, the bounds 0, 8 and 1,000, from its own
+first label and from another one, in its own count and in another. It is also checked that each loss has one of
+its four causes, and that if no step has one, no step after the first locked one has an error above 40 subframes.
 """
 import glob
 import os

@@ -10,10 +10,10 @@ trap 'rm -rf "$room"' EXIT
 # The bytes of a header of an interval file.
 header=12
 
-# A file so many times.
+# A file, repeated.
 repeated() { for _ in $(seq "$2"); do cat "$1"; done; } # FILE TIMES
 
-# A recording whose intervals come so many times behind its header.
+# A recording whose intervals are repeated behind its header.
 repeated_recording() { # FILE TIMES
     tail -c "+$((header + 1))" "$1" > "$room/body"
     head -c "$header" "$1"

@@ -1,10 +1,10 @@
 #!/usr/bin/env python3
 """Writes an hour of recorded code with dropouts, for a picture of what they cost a transport that follows it.
 
-    bench/damaged_hour.py [PROGRAM] > hour.ltci      bin/tc where none is named
+    bench/damaged_hour.py [PROGRAM] > hour.ltci      bin/tc if none is named
 
 90,000 frames at 25 frames a second, from 01:00:00:00 on. Every five minutes the head hears nothing for a while, from one frame up to
-eleven: one long interval stands there, of the ticks that were not heard.
+eleven: one long interval is there, of the ticks that were not heard.
 """
 import array
 import itertools

@@ -1,7 +1,7 @@
 #!/usr/bin/env python3
-"""Runs the built program on damaged inputs for a while, and looks at what it answers. Run by hand, never in the gate.
+"""Runs the built program on damaged inputs for a while, and checks what it answers. Run by hand, never in the gate.
 
-    bench/fuzz.py SECONDS [PROGRAM [FOLDER]]       bin/tc and /tmp/tc-fuzz where none are named
+    bench/fuzz.py SECONDS [PROGRAM [FOLDER]]       bin/tc and /tmp/tc-fuzz if none are named
 
 An input is one of the examples, or a file that the program makes, with some bytes changed, dropped, doubled, or put
 elsewhere. A run has to end within ten seconds with a status that the command may have; its note has to be the line of

@@ -1,11 +1,11 @@
-/* How long the library takes for a sample, in blocks of 1,024, and beside it libltc where it was found:
+/* How long the library takes for a sample, in blocks of 1,024, and for comparison libltc if it was found:
  *
  *     cc -std=c11 -O2 -I include bench/library.c lib/libtc.a -o library
  *     cc -std=c11 -O2 -I include -DWITH_LIBLTC bench/library.c lib/libtc.a -lltc -o library
  *     ./library FILE SYSTEM [TIMES [READER]]
  *
- * FILE has 16-bit samples of one channel at 48,000 a second, as they lie in memory, and is read so many times over
- * (20), each time by a reader made anew: by each of normal, worn, rough and libltc, or by the one that is named. A line
+ * FILE has 16-bit samples of one channel at 48,000 a second, as they lie in memory, and is read TIMES times
+ * (20), each time by a new reader: by each of normal, worn, rough and libltc, or by the one that is named. A line
  * for each: processor time for a sample, samples a second, and words. Instructions are counted by
  * `valgrind --tool=callgrind ./library FILE SYSTEM 1 READER`. */
 #define _POSIX_C_SOURCE 199309L

@@ -1,12 +1,12 @@
 #!/usr/bin/env python3
-"""How long after its time a line or a quarter frame comes, where code is read as it is played.
+"""How late a line or a quarter frame comes if code is read as it is played.
 
-    bench/live.py [PROGRAM [LONGEST]]      bin/tc and 60 where none are named
+    bench/live.py [PROGRAM [LONGEST]]      bin/tc and 60 if none are named
     bench/live.py --station [PROGRAM]      what the station adds (`live_display.py`)
 
 Sound of code, a silence, and code again are written to `pcm-ltc` and to `wav-ltc` at the time at which a sound card
 would give them, in blocks of 64, 256, 1,024 and 4,096 samples, with `live` behind the words and without; `ltc-fly 10`
-and `ltc-mtc 2` read behind pipes. Each line and each quarter frame is timed as it comes. Told of each run, in
+and `ltc-mtc 2` read behind pipes. Each line and each quarter frame is timed as it comes. For each run it prints, in
 milliseconds:
 - words: the time from the block with the last sample of a word to its line, the median and the greatest;
 - invented, gone: the greatest time from when a frame was due to its line. A frame is due half a frame after it should
@@ -15,7 +15,7 @@ milliseconds:
 - bound: a quarter of a frame and a block, which `live` keeps for all that is invented, and 20 for the machine. The
   median of what is heard keeps these 20 alone.
 
-The silences have 80 ms, 1 s, and so many seconds as LONGEST says. The last one is tried with one size of blocks alone.
+The silences have 80 ms, 1 s, and LONGEST seconds. The last one is tried with one size of blocks alone.
 """
 import math
 import os

@@ -1,12 +1,12 @@
 #!/usr/bin/env python3
-"""Hours of code through the station of a dubbing suite: whether its memory, threads and descriptors stand still.
+"""Hours of code through the station of a dubbing suite: whether its memory, threads and descriptors stay the same.
 
-    bench/live_hours.py [HOURS [PACE [RATE]]]      8, 8 and 48000 where none are named
+    bench/live_hours.py [HOURS [PACE [RATE]]]      8, 8 and 48000 if none are named
 
 The code goes to `tools/live -` in blocks, PACE times as fast as it would be played, with a drop-out of three frames
 each 20 seconds, a silence of two each minute, and a jump each ten, when the same tape begins again. The station draws
 on a pseudo terminal, sends MIDI into a FIFO, writes a log, and serves its page: to three readers that stay, and to one
-that comes and goes. Each half minute a line tells of the station: the hours of code that it read, resident memory in
+that comes and goes. Each half minute it prints a line on the station: the hours of code that it read, resident memory in
 KiB, threads, descriptors, processes, and the resident memory of all that it started. At the end: how the second half of
 the lines differs from the first; the frames that were heard, invented and gone; the bytes of the log and of MIDI.
 """

@@ -1,7 +1,7 @@
 #!/usr/bin/env python3
-"""What the margin of a sound promises, beside what is read of it.
+"""What the margin of a sound promises, compared with what is read of it.
 
-    bench/margin.py [PROGRAM [FRAMES]]      bin/tc and 50 frames where none are named
+    bench/margin.py [PROGRAM [FRAMES]]      bin/tc and 50 frames if none are named
 
 Sound of code at 25 frames a second, 48,000 samples a second and 16 ticks a sample is made here, steady or with a wow
 of half a hundredth, through a low-pass of two poles, with white noise under it. Its transitions are known. A row has

@@ -4,7 +4,7 @@
     bench/midi_by_mido.py TC LIMIT RECORDING..
 
 TC is the built program, each RECORDING an interval file. Each message that mido finds (Debian's package python3-mido) is a full message or a
-quarter frame, all of them spell the bytes again, and the labels that are put together here are the lines of `tc mtc-read`. It stands outside
+quarter frame, all of them spell the bytes again, and the labels that are put together here are the lines of `tc mtc-read`. It is not in
 the gate, since mido is none of this repository's tools.
 """
 import subprocess

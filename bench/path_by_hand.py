@@ -4,7 +4,7 @@
     bench/path_by_hand.py SYSTEM RATE [THRESHOLD [FINENESS [so-far]]] < RAW > FILE
 
 RAW are 16-bit samples, and FILE is the interval file that `tc pcm-ltc SYSTEM RATE THRESHOLD FINENESS path` shall
-write; 250 and 16 without the last words. With `so-far` it is what stands while more samples may come. With pypy it
+write; 250 and 16 without the last words. With `so-far` it is what was written while more samples may come. With pypy it
 takes a third of a millisecond a step.
 """
 import array

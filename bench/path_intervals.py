@@ -3,11 +3,11 @@
 
     bench/path_intervals.py TC READER [COUNT [SEED]]
 
-`tc` is told SYSTEM RATE 250 16 path, and READER is a command that reads raw 16-bit samples (`READER SYSTEM RATE < RAW
-> FILE`) and writes an interval file of 16 ticks a sample. COUNT sounds (220) of 0.35 to 0.85 seconds are made by
-chance, each in one of 22 ways: code alone, under white or pink noise or hum, filtered, at other speeds, backward,
+`tc` gets the words SYSTEM RATE 250 16 path, and READER is a command that reads raw 16-bit samples (`READER SYSTEM RATE < RAW
+> FILE`) and writes an interval file of 16 ticks a sample. COUNT sounds (220) of 0.35 to 0.85 seconds are made at
+random, each in one of 22 ways: code alone, under white or pink noise or hum, filtered, at other speeds, backward,
 with dropouts, clicks and splices, behind a capacitor, in 8 bits, beside silence, and noise or a tone without code. It
-writes a line a sound, and fails where one differs.
+writes a line a sound, and fails if one differs.
 """
 import math
 import random

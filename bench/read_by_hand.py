@@ -1,7 +1,7 @@
 #!/usr/bin/env python3
 """Reads damaged recordings a second time, by docs/reference/formats.md alone, and compares the lines with the program's.
 
-    bench/read_by_hand.py [COUNT [PROGRAM]]      a thousand recordings and bin/tc where none are named
+    bench/read_by_hand.py [COUNT [PROGRAM]]      a thousand recordings and bin/tc if none are named
 
 A recording is made here: real words in cells whose length shakes, glides or jumps, with intervals dropped, doubled,
 cut or moved. Each is read under the three tolerances, and under the rough one with a witness asked for. The seed is printed, and a run is repeated by the environment's

@@ -1,8 +1,8 @@
 #!/usr/bin/env bash
-# Runs every command under shrinking limits of address space, and looks at what it answers: its usual answer, or status 6
+# Runs every command under shrinking limits of address space, and checks what it answers: its usual answer, or status 6
 # with nothing written. A signal, or any other status, is a fault. Run by hand, never in the gate.
 #
-#     bench/refused_memory.sh [PROGRAM]        bin/tc where none is named
+#     bench/refused_memory.sh [PROGRAM]        bin/tc if none is named
 set -u
 cd "$(dirname "$0")/.."
 program=${1:-bin/tc}

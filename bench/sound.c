@@ -2,9 +2,9 @@
  *
  *     sound make FPS RATE FRAMES [ADDRESS] > SAMPLES 2> ADDRESSES
  *                            frames from 01:00:00:00 or the address on, and the address of each, a line each
- *     sound fall DB < SAMPLES > SAMPLES                    a level that falls evenly by so many decibels, from the first sample to the last
+ *     sound fall DB < SAMPLES > SAMPLES                    a level that falls evenly by DB decibels, from the first sample to the last
  *     sound drop|click|cut PLACES < SAMPLES > SAMPLES
- *                            at so many places by chance: silence of 10 to 100 ms at 48,000 samples a second, one to six samples at full scale, or
+ *                            at PLACES random places: silence of 10 to 100 ms at 48,000 samples a second, one to six samples at full scale, or
  *                            1 to 800 samples left out
  *     sound read FPS RATE < SAMPLES > ADDRESSES            the addresses that libltc's decoder reads
  *

@@ -1,17 +1,17 @@
 #!/usr/bin/env bash
-# The table of docs/reference/sound.md: how many words of sound that libltc made and sox hurt are read, by `tc` and by libltc's own decoder. Behind a
-# plus sign stand the false ones: words with an address that was never encoded.
+# The table of docs/reference/sound.md: how many words of sound that libltc made and sox degraded are read, by `tc` and by libltc's own decoder. Behind a
+# plus sign are the false ones: words with an address that was never encoded.
 #
 #     bench/sound.sh [TC [FRAMES [live|path]]]
 #
-# TC is the built program (bin/tc), FRAMES how many frames of drop-frame code at 29.97 a second are made (1800). It wants a C compiler, Debian's libltc-dev and
+# TC is the built program (bin/tc), FRAMES how many frames of drop-frame code at 29.97 a second are made (1800). It needs a C compiler, Debian's libltc-dev and
 # sox. It builds nothing but its own small C program. The gate does not run it.
 #
 # With `live` the same sound, and more at other speeds and with silences in it, is sliced with `live` and without. A
-# cell has how many words are read both ways, to the tick, and behind it, where there are some, how many lines `live`
+# cell has how many words are read both ways, to the tick, and behind it, if there are some, how many lines `live`
 # adds (+) and takes (-): first of words, and then of the others; and how many of its words are false.
 #
-# With `path` the best path reads the same sound, and more that is hurt so that other ways fail (hard_rows.sh).
+# With `path` the best path reads the same sound, and more that is degraded so that other ways fail (hard_rows.sh).
 set -eu
 top=$(cd "$(dirname "$0")/.." && pwd)
 tc=${1:-$top/bin/tc}
@@ -35,7 +35,7 @@ hurt() { # RATE EFFECT..
     sox -R -D $(raw "$rate") - $(raw "$rate") - "$@"
 }
 
-# Noise under the sound, so many decibels below full scale: white, or what `synth` of sox makes of other words.
+# Noise under the sound, a number of decibels below full scale: white, or what `synth` of sox makes of other words.
 noisy() { # RATE DECIBELS [WORDS]
     local rate=$1 amplitude kind=${3:-whitenoise}
     amplitude=$(awk -v db="$2" 'BEGIN { print 10 ^ (-db / 20) }')

@@ -1,13 +1,13 @@
 #!/usr/bin/env python3
 """A second reading of `ltc-spans`: makes the spans from the lines of `ltc-fly`, and compares.
 
-    bench/spans_by_hand.py [PROGRAM [DAMAGED [FOLDER...]]]      bin/tc, 1000 and examples/ where none are named
+    bench/spans_by_hand.py [PROGRAM [DAMAGED [FOLDER...]]]      bin/tc, 1000 and examples/ if none are named
     bench/spans_by_hand.py --words FILE.ltci REPORT LIMIT       prints the lines wanted of the words in a report of `ltc-read`
 
-Each recording (.ltci) of the folders is read in both versions, with several limits and both tolerances; and so are so many
-damaged ones, made of them by chance: intervals are dropped, lengthened, shortened and put in, and pieces of one recording
+Each recording (.ltci) of the folders is read in both versions, with several limits and both tolerances; and so are DAMAGED
+others, made of them at random: intervals are dropped, lengthened, shortened and put in, and pieces of one recording
 are put behind those of another. It shares no code with the program but `ltc-fly`, whose lines it takes as they are; with
-`--words` it flies by itself, by the rule in docs/reference/formats.md. The seed is 1, or the environment's SEED.
+`--words` it makes the frames by itself, by the rule in docs/reference/formats.md. The seed is 1, or the environment's SEED.
 """
 import os
 import random

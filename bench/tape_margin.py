@@ -1,14 +1,14 @@
 #!/usr/bin/env python3
-"""How right the margin is that `tools/tape` tells, on sound whose noise is known.
+"""How right the margin is that `tools/tape` reports, on sound whose noise is known.
 
-    bench/tape_margin.py [PROGRAM [FRAMES]]     bin/tc and 60 frames where none are named
+    bench/tape_margin.py [PROGRAM [FRAMES]]     bin/tc and 60 frames if none are named
 
 Sound as in bench/margin.py, as a WAV file. A row has the wow, the low-pass in Hz, the way to read it and the noise in
 decibels below the sound; and then by how many decibels the same noise could be louder
-- as `tools/tape` tells it, which does not know the clean sound; - where it tells nothing;
-- for the premise of the law to hold, of the clean sound that was made; - where it does not hold as it is;
+- as `tools/tape` reports it, which does not know the clean sound; - if it reports nothing;
+- for the premise of the law to hold, of the clean sound that was made; - if it does not hold as it is;
 - for each word to be read by `wav-ltc` and `ltc-rough`.
-A word that is lost at a margin that was told is said, and the status is 1. The noise itself must not pass full scale.
+If a word is lost at a margin that was reported, the script says so, and the status is 1. The noise itself must not pass full scale.
 
 The seed is printed, and a run is repeated by the environment's SEED. Run by hand, never in the gate.
 """

@@ -1,7 +1,7 @@
 # bash completion of tc: commands, and the values that are one of a few words.
 _tc() {
     local word=${COMP_WORDS[COMP_CWORD]} command=${COMP_WORDS[1]} values=
-    local commands="ltc-read ltc-worn ltc-rough ltc-fly ltc-spans ltc-mtc ltc-jam ltc-make ltc-load ltc-convert pcm-ltc wav-ltc ltc-pcm mtc-read vitc-read vitc-make chase ltc-chase number label labels help version"
+    local commands="ltc-read ltc-worn ltc-rough ltc-fly ltc-spans ltc-mtc ltc-jam ltc-make ltc-load ltc-convert pcm-ltc wav-ltc ltc-pcm mtc-read vitc-read luma-vitc vitc-make chase ltc-chase number label labels help version"
     if [ "$COMP_CWORD" -eq 1 ]; then
         values=$commands
     else
@@ -14,6 +14,7 @@ _tc() {
                     ntsc) values="number label seconds plus minus since to" ;;
                     24 | 30) values="ntsc" ;;
                 esac ;;
+            luma-vitc:2) values="25 30" ;;
             vitc-make:2) values="25 30 30d" ;;
             ltc-make:3) values="forward backward" ;;
             ltc-convert:2) values="1 2" ;;

@@ -3,6 +3,7 @@ use crate::draws::Draws;
 use crate::frames::{played, word_bits};
 use crate::intervals::{MOST_TICKS, header, spell};
 use crate::labels::{COUNTS, Count, Label, Way};
+use crate::noisy;
 use crate::vitc::{file_header, line_bits, runs_of, spell_line};
 
 pub struct Case {
@@ -18,7 +19,14 @@ const COMMANDS: [&str; 19] = [
 /// The case with a number.
 pub fn case(seed: u64, number: u64) -> Case {
     let d = &mut Draws::of(seed, number);
-    let command = if d.one_in(40) { "number" } else { d.pick(&COMMANDS) };
+    // (by its number, so that each other case is the one that its seed and number were before)
+    if number % 20 == 9 {
+        let mut case = noisy::case(d);
+        spoil(&mut case.input, d);
+        return case;
+    }
+    let drawn = if d.one_in(40) { "number" } else { d.pick(&COMMANDS) };
+    let command = if number % 20 == 19 { "labels" } else { drawn };
     let mut words = vec![command.to_string()];
     words.extend(values(command, d));
     let mut input = match command {
@@ -28,6 +36,7 @@ pub fn case(seed: u64, number: u64) -> Case {
         "mtc-read" => midi(d),
         "vitc-read" => line_file(d),
         "chase" => script(&words[1], d),
+        "labels" => text_of_labels(&words[1], d),
         "ltc-make" | "ltc-load" | "vitc-make" | "label" | "number" => Vec::new(),
         _ => recording(d),
     };
@@ -142,6 +151,7 @@ fn values(command: &str, d: &mut Draws) -> Vec<String> {
         "chase" => words = vec![count.name().into(), label(count, d).text()],
         "label" => words = vec![count.name().into(), d.below(count.day() + 3).to_string()],
         "number" => words = vec![count.name().into(), label(count, d).text()],
+        "labels" => words = asked_of_labels(count, d),
         _ => {}
     }
     words.retain(|word| !word.is_empty());
@@ -151,7 +161,7 @@ fn values(command: &str, d: &mut Draws) -> Vec<String> {
     words
 }
 
-fn system(d: &mut Draws) -> &'static str {
+pub fn system(d: &mut Draws) -> &'static str {
     d.pick(&["24", "25", "30"])
 }
 
@@ -194,7 +204,7 @@ fn of_a_track(d: &mut Draws) -> Vec<String> {
 }
 
 /// The bits of a piece of tape: words that follow one another, now and then a spoilt one, a turn, a cut.
-fn tape_bits(count: Count, words: u64, d: &mut Draws) -> Vec<bool> {
+pub fn tape_bits(count: Count, words: u64, d: &mut Draws) -> Vec<bool> {
     let (mut bits, mut way, mut now) = (vec![false, true], way(d), label(count, d));
     for _ in 0..words {
         match d.below(15) {
@@ -347,10 +357,29 @@ fn chunk(letters: &[u8; 4], size: u64, body: &[u8], bytes: &mut Vec<u8>) {
 
 /// A sound file: each form, width and number of tracks, chunks before and behind, sizes that are not known.
 fn wave(d: &mut Draws) -> Vec<u8> {
-    let (tracks, width) = (d.pick(&[1u64, 1, 2, 3, 64]), d.pick(&[1u64, 2, 3, 4]));
-    let is_long = d.one_in(4);
+    let form = Form::drawn(d);
+    let samples: Vec<i64> = samples(d).into_iter().take(4_000).collect();
+    wave_of(&form, &samples, None, d)
+}
+
+/// The tracks of a sound file, the bytes of a sample, and whether its sizes have 64 bits.
+pub struct Form {
+    tracks: u64,
+    width: u64,
+    is_long: bool,
+}
+
+impl Form {
+    pub fn drawn(d: &mut Draws) -> Form {
+        Form { tracks: d.pick(&[1, 1, 2, 3, 64]), width: d.pick(&[1, 2, 3, 4]), is_long: d.one_in(4) }
+    }
+}
+
+/// A sound file of these samples on its first track, with this rate or one at random.
+pub fn wave_of(form: &Form, samples: &[i64], rate: Option<u32>, d: &mut Draws) -> Vec<u8> {
+    let Form { tracks, width, is_long } = *form;
     let mut sound: Vec<u8> = Vec::new();
-    for s in samples(d).iter().take(if tracks > 4 { 60 } else { 4_000 }) {
+    for s in samples.iter().take(if tracks > 4 { 60 } else { samples.len() }) {
         for track in 0..tracks {
             let value = if track == 0 { *s } else { d.below(900) as i64 - 450 };
             match width {
@@ -375,7 +404,7 @@ fn wave(d: &mut Draws) -> Vec<u8> {
         let junk: Vec<u8> = (0..d.below(60)).map(|_| d.next() as u8).collect();
         chunk(b"JUNK", junk.len() as u64, &junk, &mut bytes);
     }
-    let body = format(tracks, width, d);
+    let body = format(tracks, width, rate, d);
     chunk(b"fmt ", body.len() as u64, &body, &mut bytes);
     let known = sound.len() as u64;
     let announced = match (is_long, d.below(6)) {
@@ -392,11 +421,13 @@ fn wave(d: &mut Draws) -> Vec<u8> {
     bytes
 }
 
-fn format(tracks: u64, width: u64, d: &mut Draws) -> Vec<u8> {
+fn format(tracks: u64, width: u64, rate: Option<u32>, d: &mut Draws) -> Vec<u8> {
     let is_extended = d.one_in(3);
     let tag: u16 = if is_extended { 65_534 } else { 1 };
-    let rate = d.pick(&[48_000u32, 44_100, 8_000, 192_000, 0, 6_250_001]);
-    let rate = if d.one_in(4) { rate } else { 48_000 };
+    let rate = rate.unwrap_or_else(|| {
+        let odd = d.pick(&[48_000u32, 44_100, 8_000, 192_000, 0, 6_250_001]);
+        if d.one_in(4) { odd } else { 48_000 }
+    });
     let block = (tracks * width) as u16;
     let mut body = tag.to_le_bytes().to_vec();
     body.extend((tracks as u16).to_le_bytes());
@@ -521,4 +552,64 @@ fn script(count_name: &str, d: &mut Draws) -> Vec<u8> {
         text.insert(0, '\u{feff}');
     }
     text.into_bytes()
+}
+
+/// A count and what is printed of its labels.
+fn asked_of_labels(count: Count, d: &mut Draws) -> Vec<String> {
+    let mut words = pulled_at_times(count, d);
+    let way = d.pick(&["number", "label", "plus", "minus", "since", "seconds", "to", "seconds", "to"]);
+    words.push(way.into());
+    match way {
+        "plus" | "minus" => {
+            let steps = d.pick(&[0, 1, 30, 1_798, count.day(), 4_294_967_295, 4_294_967_296]);
+            words.push(steps.to_string());
+        }
+        "since" => words.push(label(count, d).text()),
+        "to" => {
+            let other = self::count(d);
+            words.extend(pulled_at_times(other, d));
+        }
+        _ => {}
+    }
+    words
+}
+
+/// A count, and `ntsc` behind it now and then, mostly where it may stand.
+fn pulled_at_times(count: Count, d: &mut Draws) -> Vec<String> {
+    let may_stand = count == Count::Of24 || count == Count::Of30;
+    let is_pulled = if may_stand { d.one_in(2) } else { d.one_in(40) };
+    let mut words = vec![count.name().to_string()];
+    if is_pulled {
+        words.push("ntsc".into());
+    }
+    words
+}
+
+/// A text of labels, in each form, nearly always of the count.
+fn text_of_labels(count_name: &str, d: &mut Draws) -> Vec<u8> {
+    let count = Count::named(count_name).unwrap_or(Count::Of25);
+    let mut text = String::new();
+    for _ in 0..d.below(40) {
+        text += &line_of(count, d);
+        text.push('\n');
+    }
+    if d.one_in(3) {
+        text.pop();
+    }
+    text.into_bytes()
+}
+
+/// A line that says a label by its text, its number or its seconds, and one time in thirty one that may say none.
+fn line_of(count: Count, d: &mut Draws) -> String {
+    let now = label(count, d);
+    match d.below(30) {
+        0 => now.text() + d.pick(&["", " ", "\r", "0", ":00"]),
+        1 => now.text().replace(d.pick(&[':', ';', '0', '5']), d.pick(&[":", ";", "9", ""])),
+        2 => d.pick(&["", "1.", "1.00", ".040", "123456.000", "12345678", "10:00:0", "-1", "x"]).into(),
+        3 => (count.day() - 2 + d.below(4)).to_string(),
+        4 => "0".repeat(d.from_to(1, 70) as usize),
+        5..=12 => format!("{:01$}", now.number(), d.from_to(0, 7) as usize),
+        13..=20 => format!("{}.{:03}", d.below(86_500), d.below(1_000)),
+        _ => now.text(),
+    }
 }

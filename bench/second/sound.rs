@@ -1,5 +1,6 @@
 //! Sound and intervals: `pcm-ltc`, `wav-ltc` and `ltc-pcm`.
 use crate::intervals::{File, MOST_TICKS, header, spell};
+use crate::path::{self, Grid};
 use crate::run::{End, Run};
 
 #[derive(Clone, Copy, PartialEq, Eq, Debug)]
@@ -18,6 +19,8 @@ pub struct Slicing {
     pub threshold: Threshold,
     pub smooth: usize,
     pub is_live: bool,
+    /// Whether the best path is written in place of crossings.
+    pub is_path: bool,
 }
 
 /// The threshold at each sample, by their sizes so far.
@@ -88,9 +91,14 @@ fn split(distance: u64, piece: u64, intervals: &mut Vec<u64>) {
     intervals.push(distance - whole * piece);
 }
 
-fn file(s: &Slicing, samples: &[i64], from_start: bool) -> Vec<u8> {
+fn file(s: &Slicing, samples: &[i64], from_start: bool, is_ended: bool) -> Vec<u8> {
     let mut bytes = header(1, s.system, s.rate * s.fineness);
-    for ticks in intervals(s, samples, from_start) {
+    let grid: Option<Grid> = s.is_path.then(|| path::grid(s.system, s.rate)).flatten();
+    let intervals = match grid {
+        Some(grid) => path::intervals(s, grid, samples, is_ended),
+        None => intervals(s, samples, from_start),
+    };
+    for ticks in intervals {
         spell(1, ticks, &mut bytes);
     }
     bytes
@@ -103,7 +111,7 @@ pub fn slice(s: &Slicing, bytes: &[u8]) -> Run {
         0 => End::Done,
         _ => End::at_byte("truncated", bytes.len() as u64),
     };
-    Run { output: file(s, &samples, false), end }
+    Run { output: file(s, &samples, false, end == End::Done), end }
 }
 
 fn little(bytes: &[u8]) -> u64 {
@@ -125,7 +133,7 @@ struct Front {
 }
 
 /// The format of a chunk `fmt ` that begins at a place, with its first 26 bytes or all.
-fn format(place: usize, body: &[u8], track: usize) -> Result<Format, End> {
+fn format(place: usize, body: &[u8], track: usize, least_rate: u64) -> Result<Format, End> {
     let field = |at: usize| End::at_byte("format", (place + 8 + at) as u64);
     let two = |at: usize| little(&body[at..at + 2]);
     let is_plain = two(0) == 1 || two(0) == 65_534 && body.len() >= 26 && two(24) == 1;
@@ -136,7 +144,7 @@ fn format(place: usize, body: &[u8], track: usize) -> Result<Format, End> {
     if tracks == 0 || tracks > 64 {
         return Err(field(2));
     }
-    if rate == 0 || rate > 6_250_000 {
+    if rate < least_rate || rate > 6_250_000 {
         return Err(field(4));
     }
     if ![8, 16, 24, 32].contains(&bits) {
@@ -152,7 +160,7 @@ fn format(place: usize, body: &[u8], track: usize) -> Result<Format, End> {
 }
 
 /// Reads a sound file up to its samples.
-fn front(bytes: &[u8], track: usize) -> Result<Front, End> {
+fn front(bytes: &[u8], track: usize, least_rate: u64) -> Result<Front, End> {
     let truncated = End::at_byte("truncated", bytes.len() as u64);
     if bytes.len() < 4 {
         return Err(truncated);
@@ -183,7 +191,7 @@ fn front(bytes: &[u8], track: usize) -> Result<Front, End> {
                 if rest.len() < looked {
                     return Err(truncated);
                 }
-                known = Some(format(at, &rest[..looked], track)?);
+                known = Some(format(at, &rest[..looked], track, least_rate)?);
             }
             b"ds64" if !is_riff => {
                 if size < 16 {
@@ -239,7 +247,8 @@ fn sample(bytes: &[u8]) -> i64 {
 
 /// `wav-ltc` of a sound file; the slicing's rate is the file's.
 pub fn slice_track(slicing: &Slicing, track: usize, bytes: &[u8]) -> Run {
-    let front = match front(bytes, track) {
+    let least_rate = if slicing.is_path { 140 * slicing.system } else { 1 };
+    let front = match front(bytes, track, least_rate) {
         Ok(front) => front,
         Err(end) => return Run { output: Vec::new(), end },
     };
@@ -260,7 +269,7 @@ pub fn slice_track(slicing: &Slicing, track: usize, bytes: &[u8]) -> Run {
         true => End::at_byte("truncated", bytes.len() as u64),
         false => End::Done,
     };
-    Run { output: file(&slicing, &samples, true), end }
+    Run { output: file(&slicing, &samples, true, end == End::Done), end }
 }
 
 /// The sound of `ltc-pcm`.

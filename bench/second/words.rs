@@ -3,10 +3,11 @@ use crate::cells::{Told, Tolerance, events, report};
 use crate::frames::{Frame, frames, jam, lines, midi, spans};
 use crate::intervals::{File, MOST_RATE, convert, read};
 use crate::labels::{Count, Label, Way};
+use crate::lines::{Base, Printed, along_text};
 use crate::made::{Striping, load, stripe};
 use crate::run::{End, Run};
 use crate::sound::{Slicing, Threshold, make, slice, slice_track};
-use crate::{chase, midi as mtc, vitc};
+use crate::{chase, midi as mtc, path, vitc};
 
 /// The words of a tolerance behind a command along frames.
 #[derive(Clone, Copy)]
@@ -116,6 +117,7 @@ pub fn run(words: &[String], input: &[u8]) -> Run {
         "chase" => script(words, input),
         "number" => numbered(words),
         "label" => labelled(words),
+        "labels" => answered(words, input),
         "version" => Words::of(words, 0, 0).map(|_| Run::text("tc 1.0.0\n".into(), End::Done)),
         // (what `help` prints is no rule of a format: its cases have words behind it)
         "help" => Words::of(words, 0, 0).map(|_| Run::text(String::new(), End::Done)),
@@ -241,6 +243,9 @@ fn without_live(words: &[String]) -> (&[String], bool) {
 fn sliced(words: &[String], input: &[u8]) -> Read<Run> {
     let (words, is_live) = without_live(words);
     let mut w = Words::of(words, 3, if is_live { 6 } else { 7 })?;
+    if words.get(5).is_some_and(|word| word == "path") {
+        return path_of_samples(w, is_live, input);
+    }
     let (system, rate, least) = (w.system()?, w.number(1, MOST_RATE)?, w.number(1, 32_767)?);
     let (mut fineness, mut threshold, mut smooth) = (1, Threshold::Fixed, 1);
     if w.next().is_some() {
@@ -257,13 +262,41 @@ fn sliced(words: &[String], input: &[u8]) -> Read<Run> {
         smooth = w.number(1, 16)? as usize;
     }
     w.none_left()?;
-    Ok(slice(&Slicing { system, rate, least, fineness, threshold, smooth, is_live }, input))
+    Ok(slice(&Slicing { system, rate, least, fineness, threshold, smooth, is_live, is_path: false }, input))
+}
+
+/// The best path through samples: behind `path` no word has a value, not `live` either.
+fn path_of_samples(mut w: Words, is_live: bool, input: &[u8]) -> Read<Run> {
+    let system = w.system()?;
+    let on_a_grid = |word: &str| number(word).filter(|rate| (1..=MOST_RATE).contains(rate) && path::grid(system, *rate).is_some());
+    let rate = w.value(on_a_grid)?;
+    let least = w.number(1, 32_767)?;
+    let grid = path::grid(system, rate).expect("the rate has one");
+    let most = 64.min(MOST_RATE / rate);
+    let fineness = w.value(|word| number(word).filter(|n| (1..=most).contains(n) && grid.ticks(*n).is_some()))?;
+    w.at += 1;
+    nothing_behind(w, is_live)?;
+    Ok(slice(&best_path(system, rate, least, fineness), input))
+}
+
+fn best_path(system: u64, rate: u64, least: u64, fineness: u64) -> Slicing {
+    Slicing { system, rate, least, fineness, threshold: Threshold::Follow, smooth: 1, is_live: false, is_path: true }
+}
+
+fn nothing_behind(mut w: Words, is_live: bool) -> Read<()> {
+    w.none_left()?;
+    if is_live { Err(format!("value of word {}", w.at + 1)) } else { Ok(()) }
 }
 
 fn track(words: &[String], input: &[u8]) -> Read<Run> {
     let (words, is_live) = without_live(words);
     let mut w = Words::of(words, 3, if is_live { 5 } else { 6 })?;
     let (system, track, least) = (w.system()?, w.number(1, 64)?, w.number(1, 32_767)?);
+    if w.next() == Some("path") {
+        w.at += 1;
+        nothing_behind(w, is_live)?;
+        return Ok(slice_track(&best_path(system, 1, least, 16), track as usize, input));
+    }
     let (mut threshold, mut smooth) = (Threshold::Follow, 1);
     if w.next().is_some() {
         smooth = w.number(1, 16)? as usize;
@@ -272,7 +305,7 @@ fn track(words: &[String], input: &[u8]) -> Read<Run> {
         threshold = w.value(|word| (word == "deep").then_some(Threshold::Deep))?;
     }
     w.none_left()?;
-    let slicing = Slicing { system, rate: 1, least, fineness: 16, threshold, smooth, is_live };
+    let slicing = Slicing { system, rate: 1, least, fineness: 16, threshold, smooth, is_live, is_path: false };
     Ok(slice_track(&slicing, track as usize, input))
 }
 
@@ -302,4 +335,50 @@ fn labelled(words: &[String]) -> Read<Run> {
     let count = w.count()?;
     let number = w.number(0, count.day() - 1)?;
     Ok(Run::text(format!("{}\n", Label::at(count, number).text()), End::Done))
+}
+
+/// `ntsc` behind a count of 24 or 30.
+fn may_be_pulled(count: Count) -> bool {
+    count == Count::Of24 || count == Count::Of30
+}
+
+fn answered(words: &[String], input: &[u8]) -> Read<Run> {
+    let is_pulled = words.get(2).is_some_and(|word| word == "ntsc");
+    let place = if is_pulled { 3 } else { 2 };
+    let way = words.get(place).ok_or("count of words")?;
+    let values = words.len() - place - 1;
+    let is_so_long = match &way[..] {
+        "number" | "label" | "seconds" => values == 0,
+        "plus" | "minus" | "since" => values == 1,
+        "to" => values == 1 || values == 2,
+        _ => true,
+    };
+    if !is_so_long {
+        return Err("count of words".into());
+    }
+    let mut w = Words { words, at: 0 };
+    let count = w.count()?;
+    if is_pulled {
+        w.value(|_| may_be_pulled(count).then_some(()))?;
+    }
+    let base = Base { count, is_pulled };
+    let way = w.value(|word| Some(word.to_string()))?;
+    let what = match &way[..] {
+        "number" => Printed::Number,
+        "label" => Printed::Text,
+        "seconds" => Printed::Seconds,
+        "plus" => Printed::Step(w.number(0, 4_294_967_295)? as i64),
+        "minus" => Printed::Step(-(w.number(0, 4_294_967_295)? as i64)),
+        "since" => Printed::Since(w.label(count)?),
+        "to" => {
+            let count = w.count()?;
+            let is_pulled = w.next().is_some();
+            if is_pulled {
+                w.value(|word| (word == "ntsc" && may_be_pulled(count)).then_some(()))?;
+            }
+            Printed::Under(Base { count, is_pulled })
+        }
+        _ => return Err(format!("value of word {place}")),
+    };
+    Ok(along_text(base, &what, input))
 }

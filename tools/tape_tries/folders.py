@@ -2,12 +2,16 @@
 import csv
 import os
 import random
+import shutil
 import signal
 import subprocess
 import time
 
+from . import running
 from .making import code, intervals, wav
 from .running import ARCHIVE, has, run, want
+
+KILLS, KILLS_LONG = 10, 200
 
 
 def archive_of(room):
@@ -214,21 +218,29 @@ def try_kills(room):
     want("parallel")
     folder, fresh = many_tapes(room, 40), os.path.join(room, "fresh")
     assert run(ARCHIVE, folder, fresh)[0] == 0
-    chance, out = random.Random(9), os.path.join(room, "out")
-    kills = 10
-    for number in range(kills):
-        words = [ARCHIVE, folder, out, *(["--resume"] if number else [])]
-        started = subprocess.Popen(
-            words, stdout=subprocess.DEVNULL, stderr=subprocess.DEVNULL, start_new_session=True
-        )
-        time.sleep(chance.uniform(0.1, 1.0))
-        killed = started.poll() is None
-        if killed:
-            os.killpg(started.pid, signal.SIGKILL)
-        started.wait()
-    ended, told, notes = run(ARCHIVE, folder, out, "--resume")
-    assert ended == 0, told + notes
-    assert table_of(out) == table_of(fresh), "the tables differ"
-    left = [name for _, _, files in os.walk(out) for name in files if name.startswith(".tc-part")]
-    assert not left, left
-    return f"{kills} kills"
+    chance, runs, killed, wanted = random.Random(9), 0, 0, KILLS_LONG if running.is_long else KILLS
+    while killed < wanted:
+        # one archive, killed until it is whole
+        out, runs = os.path.join(room, f"out{runs}"), runs + 1
+        while killed_in_time([ARCHIVE, folder, out, *(["--resume"] if os.path.exists(out) else [])], chance):
+            killed += 1
+            if killed == wanted:
+                break
+        ended, told, notes = run(ARCHIVE, folder, out, "--resume")
+        assert ended == 0, told + notes
+        assert table_of(out) == table_of(fresh), "the tables differ"
+        left = [name for _, _, files in os.walk(out) for name in files if name.startswith(".tc-part")]
+        assert not left, left
+        shutil.rmtree(out)
+    return f"{killed} kills in {runs} runs"
+
+
+def killed_in_time(words, chance):
+    """Starts a run, kills it at a moment by chance, and says whether it was still running."""
+    started = subprocess.Popen(words, stdout=subprocess.DEVNULL, stderr=subprocess.DEVNULL, start_new_session=True)
+    time.sleep(chance.uniform(0.1, 1.0))
+    is_running = started.poll() is None
+    if is_running:
+        os.killpg(started.pid, signal.SIGKILL)
+    started.wait()
+    return is_running

@@ -1,6 +1,7 @@
 """No traceback from any input: headers by chance, names of all kinds."""
 import os
 import random
+import shutil
 import subprocess
 
 from . import running
@@ -10,6 +11,9 @@ from .running import ARCHIVE, TAPE, forked, has, run
 # Bytes at the edges of what a field can hold.
 EDGES = (0, 1, 127, 128, 254, 255)
 FUZZED, FUZZED_LONG = 20, 2_000
+NAMES, NAMES_LONG = 20, 500
+# What shells, parallel, options and terminals make something of.
+ODD = [b" ", b"-", b"--", b"{}", b"{#}", b"$(x)", b"`", b"'", b'"', b"\\", b"\n", b"\r", b"\t", b"\x1b[2J", b"*", b"?", b"~", b"%s"]
 
 
 def header_by_chance(base, chance):
@@ -82,6 +86,46 @@ def try_names(room):
         ran = subprocess.run([TAPE, b"no" + name], capture_output=True, cwd=room, check=False)
         assert ran.returncode == 3 and b"Traceback" not in ran.stderr, ran.stderr
         has(ran.stderr.decode("utf-8"), shown)
+
+
+def name_by_chance(chance):
+    """The bytes of a name: letters, what programs make something of, any bytes, UTF-8 and what looks like it."""
+    parts = []
+    for _ in range(chance.randrange(1, 9)):
+        parts.append(
+            chance.choice(
+                [
+                    chance.choice(ODD),
+                    bytes(chance.choice([*range(1, 47), *range(48, 256)]) for _ in range(chance.randrange(1, 5))),
+                    chr(chance.choice([chance.randrange(0x80, 0x3000), 0x2028, 0x202E, 0x1F600])).encode(),
+                    b"tape",
+                ]
+            )
+        )
+    name = b"".join(parts)[: chance.randrange(1, 200)]
+    return b"x" + name if name in (b".", b"..") else name
+
+
+def try_names_by_chance(room):
+    """Names of any bytes: each tape is read by `tools/tape`, and has its row in the archive."""
+    chance, folder = random.Random(60), os.path.join(os.fsencode(room), b"folder")
+    os.mkdir(folder)
+    plain = os.fsencode(wav(os.path.join(room, "plain.wav"), 48_000, [code(48_000, intervals("25", "10:00:00:00", 60))]))
+    names = set()
+    while len(names) < (NAMES_LONG if running.is_long else NAMES):
+        names.add(name_by_chance(chance) + b".wav")
+    for name in sorted(names):
+        path = os.path.join(folder, name)
+        os.link(plain, path)
+        ended, notes = forked(os.fsdecode(path))
+        assert ended == 0 and "Traceback" not in notes, f"{name}: {ended} {notes}"
+    if not shutil.which("parallel"):
+        return f"{len(names)} names by the tape, none by the archive (no GNU parallel)"
+    out = os.path.join(room, "out")
+    ended, told, notes = run(ARCHIVE, os.fsdecode(folder), out, "-j", "2")
+    assert ended == 0 and "Traceback" not in notes, told + notes
+    has(told, f"{len(names)} tapes: {len(names)} with code, 0 without, 0 failed, 0 not read")
+    return f"{len(names)} names"
 
 
 def try_early_ends(room):

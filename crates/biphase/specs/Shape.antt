@@ -13,10 +13,11 @@ pub record Shape : Type 0 where
   pub to : ℕ
   pub step : ℕ
 
+-- a shape, by the length at which it begins, the length at which it ends, and the step
 abbrev pub shape_with : ℕ → ℕ → ℕ → Shape
 shape_with from to step = record { from = from; to = to; step = step }
 
--- `from` moved by so many ticks towards `to`, and not past it: of the lengths so near to `from` the nearest to `to`
+-- `from` moved by these ticks towards `to`, and not past it: of the lengths so near to `from` the nearest to `to`
 abbrev pub moved : ℕ → ℕ → ℕ → ℕ
 moved ticks from to = max (from - ticks) (min to (from + ticks))
 
@@ -24,7 +25,7 @@ moved ticks from to = max (from - ticks) (min to (from + ticks))
 abbrev pub length_at : Shape → ℕ → ℕ
 length_at shape k = moved (k * shape.step) shape.from shape.to
 
--- a cell of so many ticks: the halves of a one are as equal as can be, the shorter one first
+-- a cell of this many ticks: the halves of a one are as equal as can be, the shorter one first
 abbrev pub cell_with : ℕ → Bool → Cell
 cell_with c false = Zero c
 cell_with c true = One (c / 2) (c - c / 2)

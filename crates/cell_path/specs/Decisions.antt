@@ -7,6 +7,7 @@ use Rattle.cell_path.specs.Decided.{end_behind, jumps, latest_of, AreDecided, Ar
 use Rattle.cell_path.specs.Spaced.{AreSpaced}
 use Rattle.cell_path.specs.Paths.{PathsState, PathsStandFor}
 
+-- the paths, how many steps there were, where the decided cells end, those that wait, and the last one given
 pub record DecisionsState : Type 0 where
   pub paths : PathsState
   pub count : ℕ
@@ -43,6 +44,7 @@ pub record DecisionsEndFor (state : DecisionsState) (steps : List Step) (given :
   pub decided : AreDecidedInAll steps (state.waiting ++ given)
   pub last : state.last ≡ latest_of given
 
+-- the cell that is given, and where it ends, if one is given
 abbrev pub placed_of : Option Decided → Option Placed
 placed_of None = None
 placed_of (Some cell) = Some cell.placed

@@ -1,5 +1,5 @@
--- What is kept of the latest steps: the sums of the sound up to each, and the numbers of each. So many steps ago they
--- stand so many places back in a ring.
+-- What is kept of the latest steps: the sums of the sound up to each, and the numbers of each. Those of n steps ago
+-- are n places back in a ring.
 use Rattle.std.specs.Prelude.{◌≡◌, ℕ, ◌+◌, ◌-◌, ◌*◌, ◌%◌, ◌^◌, ◌<◌, ◌≤◌, ℤ, pos, ◌-ℤ◌}
 use Rattle.std.specs.Prelude.{List, [], length, get_or, replicate}
 use Rattle.cell_path.specs.declared.cell.Sign.{Sign}
@@ -20,10 +20,11 @@ AreWithin most numbers = (place : ℕ) (sign : Sign) → place < 45 → IsWithin
 abbrev pub same_numbers : ℤ → Numbers
 same_numbers number = record { plus = replicate 45 number; minus = replicate 45 number }
 
--- the place in a ring of 128, into which so many have come, of the one that came so long ago
+-- the place in a ring of 128, into which this many have come, of the one that came so long ago
 abbrev pub place_ago : ℕ → ℕ → ℕ
 place_ago count ago = (count + 128 - ago) % 128
 
+-- the sums of the sound up to each of the latest steps, in a ring, and how many steps there were
 pub record SumsState : Type 0 where
   pub ring : List ℤ
   pub count : ℕ
@@ -32,7 +33,7 @@ pub record SumsState : Type 0 where
 abbrev pub sum_ago : SumsState → ℕ → ℤ
 sum_ago sums ago = get_or sums.ring (place_ago sums.count ago) (pos 0)
 
--- the sums of so many steps, each of at most 2^16
+-- the sums of the steps so far, each of at most 2^16
 pub record AreSums (sums : SumsState) : Type 0 where
   pub long : length sums.ring ≡ 128
   pub count : sums.count ≤ 2 ^ 40
@@ -40,6 +41,7 @@ pub record AreSums (sums : SumsState) : Type 0 where
   pub spread : (later ago : ℕ) → later ≤ ago → ago ≤ 96
       → IsWithin ((ago - later) * 2 ^ 16) (sum_ago sums later -ℤ sum_ago sums ago)
 
+-- the numbers of each of the latest steps, in a ring, and how many steps there were
 pub record RowsState : Type 0 where
   pub ring : List Numbers
   pub count : ℕ
@@ -49,11 +51,11 @@ abbrev pub number_ago : RowsState → ℕ → ℕ → Sign → ℤ
 number_ago rows ago place sign =
     number_at (get_or rows.ring (place_ago rows.count ago) (record { plus = []; minus = [] })) place sign
 
--- no number of the step so long ago is greater, after so many steps: a step can add 2^22 in the mean
+-- no number of the step so long ago is greater, after this many steps: a step can add 2^22 in the mean
 abbrev pub limit : ℕ → ℕ → ℕ
 limit count ago = (count + 128 - ago) * 2 ^ 22 + 2 ^ 28
 
--- the numbers of so many steps
+-- the numbers of the steps so far
 pub record AreRows (rows : RowsState) : Type 0 where
   pub long : length rows.ring ≡ 128
   pub count : rows.count ≤ 2 ^ 40

@@ -14,10 +14,12 @@ use Rattle.cell_path.specs.declared.point.Point.{Point}
 use Rattle.cell_path.specs.Best.{IsBest}
 use Rattle.cell_path.specs.Marks.{IsMarked}
 
+-- the marks of the latest steps, in a ring, and how many steps there were
 pub record MarksState : Type 0 where
   pub ring : List StepMarks
   pub count : ℕ
 
+-- the marks of a step that is not there
 abbrev pub no_marks : StepMarks
 no_marks = record { marks = []; best_place = 0; best_sign = Plus }
 
@@ -25,6 +27,7 @@ no_marks = record { marks = []; best_place = 0; best_sign = Plus }
 abbrev pub marks_ago : MarksState → ℕ → StepMarks
 marks_ago marks ago = get_or marks.ring ((marks.count + 4_096 - ago) % 4_096) no_marks
 
+-- the ring has 4,096 marks, at most 2^40 steps have come, and each best place is one of the 45 lengths
 pub record AreMarks (marks : MarksState) : Type 0 where
   pub long : length marks.ring ≡ 4_096
   pub count : marks.count ≤ 2 ^ 40

@@ -5,7 +5,7 @@ use Rattle.std.specs.Prelude.{ℕ, zero, suc, ◌+◌, List, [], ◌∷◌, ◌+
 abbrev pub length_in : List ℕ → ℕ → ℕ
 length_in lengths place = get_or lengths place 0
 
--- so many numbers from one on, each by so much above the one before
+-- this many numbers from one on, each above the one before by the same step
 unfoldable pub rising : ℕ → ℕ → ℕ → List ℕ
 rising zero from by = []
 rising (suc n) from by = from ∷ rising n (from + by) by

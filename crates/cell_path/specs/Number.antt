@@ -9,7 +9,7 @@ use Rattle.cell_path.specs.declared.cell.Way.{Way}
 use Rattle.cell_path.specs.Best.{rank_of_way, IsBest, IsBestOfAll, StandsFirst, EndsIn}
 use Rattle.cell_path.specs.Path.{cost, score, Follows, IsPath}
 
--- the score of what stands before a cell that begins so many steps ago, less what it costs to begin it
+-- the score of what stands before a cell that begins this many steps ago, less what it costs to begin it
 abbrev pub score_before : List ℕ → List Step → ℕ → ℕ → Way → List Cell → ℤ
 score_before lengths steps ago place way before =
     score lengths (drop ago steps) before -ℤ cost lengths steps ago place way before
@@ -19,7 +19,7 @@ abbrev pub WinsBy : ℤ → ℕ → List Cell → ℤ → ℕ → List Cell → 
 WinsBy score rank before less other others =
     (less <ℤ score) ⊎ ((less ≡ score) × ((rank < other) ⊎ ((rank ≡ other) × StandsFirst before others)))
 
--- a cell with a length and the sign before it may begin so many steps ago, in this way behind these cells
+-- a cell with a length and the sign before it may begin this many steps ago, in this way behind these cells
 pub record Begins (lengths : List ℕ) (steps : List Step) (ago place : ℕ) (sign : Sign) (way : Way) (before : List Cell)
     : Type 0 where
   pub follows : Follows way place sign before

@@ -13,6 +13,7 @@ use Rattle.cell_path.specs.declared.cell.Way.TheVariants.{Same, Shorter, Longer,
 use Rattle.cell_path.specs.declared.lengths.TheConstants.{EARLY, JUMP}
 use Rattle.cell_path.specs.Lengths.{length_in}
 
+-- the other sign
 abbrev pub opposite : Sign → Sign
 opposite Plus = Minus
 opposite Minus = Plus
@@ -52,14 +53,14 @@ Follows Shorter place sign (before ∷ more) = (before.place + 1 ≡ place) × (
 Follows Longer place sign (before ∷ more) = (before.place ≡ place + 1) × (before.sign ≡ sign)
 Follows Jump place sign (before ∷ more) = Unit {0}
 
--- so many times the mean size it costs to follow a cell of another length, or in a jump
+-- what it costs to follow a cell of another length, or in a jump, as a multiple of the mean size
 abbrev pub times_for : List ℕ → Way → ℕ → ℕ → ℕ
 times_for lengths Same place before = 0
 times_for lengths Shorter place before = length_in lengths place - length_in lengths before
 times_for lengths Longer place before = length_in lengths before - length_in lengths place
 times_for lengths Jump place before = JUMP * length_in lengths place
 
--- what it costs to begin a cell so many steps ago: the first one begins with the sound for nothing
+-- what it costs to begin a cell this many steps ago: the first one begins with the sound for nothing
 abbrev pub cost : List ℕ → List Step → ℕ → ℕ → Way → List Cell → ℤ
 cost lengths steps ago place way [] = cond (length steps == ago) (pos 0) EARLY
 cost lengths steps ago place way (before ∷ more) =

@@ -4,6 +4,7 @@ use Rattle.cell_path.specs.declared.cell.Step.{Step}
 use Rattle.cell_path.specs.KeptMarks.{MarksState, MarksStandFor}
 use Rattle.cell_path.specs.Scores.{ScoresState, StandsFor}
 
+-- the scores, and the marks by which paths are followed back
 pub record PathsState : Type 0 where
   pub scores : ScoresState
   pub marks : MarksState

@@ -10,6 +10,7 @@ pub record IsStep (step : Step) : Type 0 where
   pub sound : IsWithin (2 ^ 16) step.sound
   pub level : step.level ≤ 2 ^ 15
 
+-- the sums of the sound, and the rows of scores
 pub record ScoresState : Type 0 where
   pub sums : SumsState
   pub rows : RowsState

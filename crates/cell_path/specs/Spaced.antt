@@ -3,7 +3,7 @@ use Rattle.std.specs.Prelude.{ℕ, ◌+◌, ◌≤◌, List, [], ◌∷◌}
 use Rattle.cell_path.specs.declared.placed.Placed.{Placed}
 use Rattle.cell_path.specs.Decided.{end_behind}
 
--- each ends two steps behind the one before it at least, and so many at most; the earliest does so behind what was
+-- each ends at least two steps behind the one before it, and at most this many; the earliest does so behind what was
 -- decided before
 abbrev pub AreSpaced : ℕ → ℕ → List Placed → Type 0
 AreSpaced most done [] = Unit {0}

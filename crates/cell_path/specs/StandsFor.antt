@@ -52,18 +52,18 @@ abbrev pub way_at : Ways → ℕ → Sign → Way
 way_at ways place Plus = get_or ways.plus place Same
 way_at ways place Minus = get_or ways.minus place Same
 
--- of the first so many lengths, each number is the score of the best path that ends so, and each bit its latest
+-- of the first `most` lengths, each number is the score of the best path that ends so, and each bit its latest
 abbrev pub AreEnds : ℕ → Ends → List Step → Type 0
 AreEnds most ends steps = (place : ℕ) (sign : Sign) → place < most
     → IsEnd LENGTHS steps place sign (number_at ends.numbers place sign) (bit_at ends.bits place sign)
 
--- of the first so many lengths, each number is the score of the best beginning behind the latest step, and each way
+-- of the first `most` lengths, each number is the score of the best beginning behind the latest step, and each way
 -- its own
 abbrev pub AreStarts : ℕ → Starts → List Step → Type 0
 AreStarts most starts steps = (place : ℕ) (sign : Sign) → place < most
     → IsBeginning LENGTHS steps 0 place sign (number_at starts.numbers place sign) (way_at starts.ways place sign)
 
--- of the first so many lengths, each number is between this one and its opposite
+-- of the first `most` lengths, each number is between this one and its opposite
 abbrev pub AreWithinTo : ℕ → ℕ → Numbers → Type 0
 AreWithinTo most bound numbers = (place : ℕ) (sign : Sign) → place < most
     → IsWithin bound (number_at numbers place sign)

@@ -12,12 +12,12 @@ use Rattle.cell_path.specs.Path.{score, IsPath}
 abbrev pub end_number : ℕ → Sign → ℕ
 end_number place sign = 2 * place + rank_of_sign sign
 
--- the path ends in one of the first so many
+-- the path has one of the first `most` ends
 abbrev pub EndsBelow : ℕ → List Cell → Type 0
 EndsBelow most [] = ⊥
 EndsBelow most (cell ∷ before) = end_number cell.place cell.sign < most
 
--- the best of those that end in the first so many
+-- the best of those that have one of the first `most` ends
 pub record IsBestBelow (lengths : List ℕ) (steps : List Step) (most place : ℕ) (sign : Sign) (number : ℤ) : Type 0 where
   pub path : List Cell
   pub is_path : IsPath lengths steps path
@@ -27,7 +27,7 @@ pub record IsBestBelow (lengths : List ℕ) (steps : List Step) (most place : �
   pub wins : (other : List Cell) → IsPath lengths steps other → EndsBelow most other
       → Wins (score lengths steps path) path (score lengths steps other) other
 
--- the best of the first so many ways to begin at the latest step
+-- the best of the first `most` ways to begin at the latest step
 pub record IsBestBefore (lengths : List ℕ) (steps : List Step) (most place : ℕ) (sign : Sign) (number : ℤ) (way : Way)
     : Type 0 where
   pub before : List Cell

@@ -5,11 +5,12 @@ use Rattle.biphase.specs.declared.cell.Cell.TheVariants.{Zero, One}
 use Rattle.biphase.specs.Chain.{flat}
 use Rattle.cell_tracker.specs.Stretch.{Stretch}
 
+-- the cell of a bit: a zero of 24 ticks, or a one of two halves of 12
 abbrev pub cell_of : Bool → Cell
 cell_of false = Zero 24
 cell_of true = One 12 12
 
--- the cells of so many bits of a number, the least significant bit first
+-- the cells of this many bits of a number, the least significant bit first
 unfoldable pub cells_of : ℕ → ℕ → List Cell
 cells_of zero number = []
 cells_of (suc count) number = cell_of (number % 2 == 1) ∷ cells_of count (number / 2)

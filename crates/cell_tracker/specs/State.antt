@@ -39,6 +39,7 @@ pub record MidCellHeld : Type 0 where
 abbrev pub at_cell_with : AtCellHeld → Latest → AtCellState
 at_cell_with held four = record { profile = held.profile; latest = kept_by held.profile held.reference four }
 
+-- the state inside a cell, with the latest cells that are kept beside it
 abbrev pub mid_cell_with : MidCellHeld → Latest → MidCellState
 mid_cell_with held four =
     record { profile = held.profile; latest = kept_by held.profile held.reference four; half = held.half }
@@ -47,6 +48,7 @@ mid_cell_with held four =
 abbrev pub held_at_cell : Profile → Latest → AtCellHeld
 held_at_cell profile latest = record { profile = profile; reference = reference_of profile latest }
 
+-- what the state inside a cell holds itself, beside the latest cells
 abbrev pub held_mid_cell : Profile → Latest → ℕ → MidCellHeld
 held_mid_cell profile latest half = record { profile = profile; reference = reference_of profile latest; half = half }
 

@@ -33,7 +33,7 @@ pub record IsScript (label : Address) (left : Option (List ℕ)) (pulled : List 
 
 -- ---- the end of the input
 
--- so many pulls of a chase stood at the end of its input or behind it: no row is judged before the end, and nothing is
+-- how many pulls of a chase were at the end of its input or behind it: no row is judged before the end, and nothing is
 -- pulled behind it. Memory may be wanted before it or at it
 abbrev pub ChaseEndsSeen : Status → ℕ → Type 0
 ChaseEndsSeen status.Done ends = ends ≡ 1

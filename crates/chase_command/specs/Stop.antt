@@ -15,6 +15,7 @@ note_of WriteFault = codes "tc: write fault\n"
 note_of Memory = codes "tc: out of memory\n"
 note_of Limit = codes "tc: limit\n"
 
+-- the status of each reason to stop
 abbrev pub status_of : ChaseStop → Status
 status_of (Refused fault) = status.Refused
 status_of ReadFault = status.ReadFault

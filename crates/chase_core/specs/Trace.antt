@@ -22,6 +22,7 @@ pub record Row : Type 0 where
   pub master : Option Master
   pub slip : ℤ
 
+-- a row, by its parts
 abbrev pub row_with : Option Command → Option Master → ℤ → Row
 row_with command master slip = record { command = command; master = master; slip = slip }
 
@@ -110,7 +111,7 @@ AreRowsOf count rows = (i : ℕ) (row : Row) → slice_get rows i ≡ Some row �
 abbrev pub loop_at : Loop → List Row → ℕ → Loop
 loop_at loop rows i = after_rows loop (take i rows)
 
--- how far a locked transport is from its master, so many rows after the first: the lock takes hold in the first row,
+-- how far a locked transport is from its master, this many rows after the first: the lock takes hold in the first row,
 -- the order takes what is left of half a frame in two, and from then on the slip alone is left
 abbrev pub lock_bound : ℕ → ℕ
 lock_bound zero = 40

@@ -18,6 +18,7 @@ abbrev pub text_before_end : Bool → List ℕ → List ℕ
 text_before_end true text = []
 text_before_end false text = text
 
+-- the bytes of the lines that have not been given yet
 abbrev pub text_left : TraceLeft → List ℕ
 text_left t = text_before_end t.is_ended
     (step_lines t.place.chase.count (t.steps + 1) (trace t.place (map row_of t.rows))
@@ -28,6 +29,7 @@ abbrev pub line_before : TraceLeft → List ScriptRow → List ℕ
 line_before t [] = step_end_line t.steps t.losses
 line_before t (row ∷ rows) = step_line t.place.chase.count (t.steps + 1) (traced t.place (row_of row))
 
+-- the line that comes next
 abbrev pub first_line : TraceLeft → List ℕ
 first_line t = line_before t t.rows
 
@@ -36,5 +38,6 @@ abbrev pub last_lines : Bool → ℕ
 last_lines true = 0
 last_lines false = 1
 
+-- how many lines have not been given yet
 abbrev pub lines_left : TraceLeft → ℕ
 lines_left t = length t.rows + last_lines t.is_ended

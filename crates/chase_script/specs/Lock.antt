@@ -26,6 +26,7 @@ abbrev pub error_at : Address → List ScriptRow → ℕ → Master → ℕ
 error_at label rows i master =
     unsigned_abs (error_to label.count (loop_at (starts_at label) (map row_of rows) i).position master.number)
 
+-- the trace of a script from a label keeps its lock
 pub record KeepsItsLock (label : Address) (rows : List ScriptRow) : Type 0 where
   -- where a row of a steady run leaves the chase Locked, each row of the run does that follows, without a loss, and its
   -- error is at most 40 subframes in the first of them, 24 in the next, and 8 in each later one

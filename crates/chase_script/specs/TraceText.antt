@@ -15,12 +15,14 @@ use Rattle.chase_script.specs.declared.row.ScriptRow.{ScriptRow}
 
 -- ---- the lines
 
+-- the word for each state
 abbrev pub state_name : State → List ℕ
 state_name Waiting = codes "waiting"
 state_name Locating = codes "locating"
 state_name Pulling = codes "pulling"
 state_name Locked = codes "locked"
 
+-- the word for a loss, or for none
 abbrev pub loss_name : Option Loss → List ℕ
 loss_name None = codes "none"
 loss_name (Some NoCode) = codes "no-code"

@@ -58,6 +58,7 @@ pub record HasCauseOfLoss (label : Address) (seed bound : ℕ) (frames : List Fr
 abbrev pub HasLabel : Frame → Type 0
 HasLabel frame = IfSome (position_of frame) (λ place. IsLabel place.label)
 
+-- each of these frames has such a label
 abbrev pub HaveLabels : List Frame → Type 0
 HaveLabels frames = (i : ℕ) (frame : Frame) → slice_get frames i ≡ Some frame → HasLabel frame
 

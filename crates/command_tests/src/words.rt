@@ -2,14 +2,14 @@
 use biphase::Profile;
 use interval_file::FileVersion;
 use label_lines::{Timebase, Way};
-use path_front::Grid;
 use pcm_front::{Pace, Threshold};
 use std::alloc::{AllocError, Global};
 use std::test::Fail;
-use tc_address::text;
+use step_grid::Grid;
+use tc_address::{rate, text};
 use tc_job::{
-    ChaseRun, Jam, Job, LabelRun, LineStripe, PathSlicing, Slicing, SoundLevel, Task, TrackPath,
-    WaveSlicing, Witness, WordsFault,
+    ChaseRun, Jam, Job, LabelRun, LineStripe, LumaRun, PathSlicing, Slicing, SoundLevel, Task,
+    TrackPath, WaveSlicing, Witness, WordsFault,
 };
 use tc_words::read_words;
 
@@ -116,6 +116,13 @@ fn level_of(job: &Job) -> Option<SoundLevel> {
     }
 }
 
+fn pixels_of(job: &Job) -> Option<LumaRun> {
+    match job {
+        Job::LumaVitc { run } => Some(*run),
+        _ => None,
+    }
+}
+
 fn lines_of(job: &Job) -> Option<LineStripe> {
     match job {
         Job::VitcMake { stripe } => Some(*stripe),
@@ -153,7 +160,7 @@ fn other_jobs_without_values_are_read(rt: HostRuntime) -> Result<(), Fail> {
     assert!(rt; matches!(job_in(alloc, "mtc-read")?, Job::MtcRead));
     assert!(rt; matches!(job_in(alloc, "help")?, Job::Help));
     assert!(rt; matches!(job_in(alloc, "help ltc-read")?, Job::HelpOf { page: 0 }));
-    assert!(rt; matches!(job_in(alloc, "help version")?, Job::HelpOf { page: 22 }));
+    assert!(rt; matches!(job_in(alloc, "help version")?, Job::HelpOf { page: 23 }));
     assert!(rt; matches!(job_in(alloc, "help statuses")?, Job::HelpStatuses));
     assert!(rt; matches!(job_in(alloc, "version")?, Job::Version));
     Ok(())
@@ -458,6 +465,27 @@ fn lines_to_be_made_are_read(rt: HostRuntime) -> Result<(), Fail> {
         };
         assert_eq!(rt; stripe.length(), length, "at {line}");
         assert_eq!(rt; stripe.frames(), frames, "at {line}");
+    }
+    Ok(())
+}
+
+#[test]
+fn fields_of_pixels_are_read(rt: HostRuntime) -> Result<(), Fail> {
+    let alloc = rt.alloc();
+    for (line, system, width, height, first, rows) in [
+        ("luma-vitc 25 720 288 0 40", 25, 720, 288, 0, 40),
+        ("luma-vitc 30 4096 4096 4056 40", 30, 4096, 4096, 4056, 40),
+        ("luma-vitc 30 360 1 0 1", 30, 360, 1, 0, 1),
+    ] {
+        let Some(run) = pixels_of(&job_in(alloc, line)?) else {
+            return Err("no fields".into());
+        };
+        let raster = run.raster();
+        assert_eq!(rt; rate(run.system()), system, "at {line}");
+        assert_eq!(rt; raster.width(), width, "at {line}");
+        assert_eq!(rt; raster.height(), height, "at {line}");
+        assert_eq!(rt; raster.first(), first, "at {line}");
+        assert_eq!(rt; raster.rows(), rows, "at {line}");
     }
     Ok(())
 }

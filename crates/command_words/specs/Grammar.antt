@@ -21,5 +21,6 @@ bare = record (new_app (codes "tc")) {
   top = record (new_app (codes "tc")).top { no_binary_name = true; disable_help_flag = true };
 }
 
+-- the command line: a command, and its values
 abbrev pub command_app : App
 command_app = with_rule (with_rule bare command_rule) values_rule

@@ -4,9 +4,11 @@ use Rattle.direction_reader.specs.declared.event.Event.{Event}
 use Rattle.direction_reader.specs.declared.event.Event.TheVariants.{Word, Refused, Lost}
 use Rattle.direction_reader.specs.declared.event.Events.{Events}
 
+-- an interval brought nothing
 abbrev pub no_events : Events
 no_events = record { first = None; second = None }
 
+-- it brought one event
 abbrev pub one_event : Event → Events
 one_event event = record { first = Some event; second = None }
 

@@ -41,7 +41,7 @@ pub record IsFirmReading (r : FirmState) : Type 0 where
   pub reading : IsReading r.intervals r.tick r.tracker r.cells.cells
   pub waits : WaitsWithin r.tick r.cells.waits
 
--- an event that is told with the latest of so many intervals, whose sum is a tick: a word may have waited, a break not
+-- an event told with the latest of this many intervals, whose sum is a tick: a word may have waited, a break not
 abbrev pub IsToldBy : ℕ → ℕ → FirmEvent → Type 0
 IsToldBy intervals sum (Told (Word direction word tick length)) =
     (tick ≤ sum) × (80 ≤ length) × (length ≤ 80 * greatest_cell)
@@ -53,7 +53,7 @@ IsToldBy intervals sum (Alone direction tick) = tick ≤ sum
 abbrev pub told_until : FirmState → ℕ
 told_until r = until_of r.tick r.cells.waits
 
--- what the latest of so many intervals brings, at most two words
+-- what the latest of this many intervals brings, at most two words
 pub record FirmBrings (intervals sum : ℕ) (events : FirmEvents) : Type 0 where
   pub first : IfSome events.first (IsToldBy intervals sum)
   pub second : IfSome events.second (IsToldBy intervals sum)

@@ -32,7 +32,7 @@ abbrev pub beside_of : BesideBits → List Bool → BesideBits
 beside_of b [] = b
 beside_of b (bit ∷ more) = beside_of (beside_with b bit) more
 
--- the events of so many windows from one place on
+-- the events of this many windows from one place on
 abbrev pub spans : System → ℕ → List Cell → ℕ → ℕ → List FirmEvent
 spans system tick cells place count = flat_map (firm_events_at system tick cells) (range_with_len place count)
 
@@ -59,6 +59,7 @@ pub record OneWaits (w : Waiting) (system : System) (tick : ℕ) (cells : List C
   pub before : told ≡ spans system tick cells 0 place ++ firm_candidate_at system tick cells place Forward
   pub behind : firm_listed w.behind ≡ spans system tick cells (place + 1) w.age
 
+-- what waits, if a word waits, and what has been told are the events of these cells
 abbrev pub WaitsFor : Option Waiting → System → ℕ → List Cell → List FirmEvent → Type 0
 WaitsFor None system tick cells told = NoneWaits system tick cells told
 WaitsFor (Some w) system tick cells told = OneWaits w system tick cells told

@@ -102,6 +102,7 @@ pub record IsWaitingWithin (tick : ℕ) (w : Waiting) : Type 0 where
   pub behind : IfSome w.behind (IsToldWithin tick)
   pub later : IfSome w.behind (λ event. tick_of w.word ≤ told_tick event)
 
+-- what waits, if a word waits, lies within this tick
 abbrev pub WaitsWithin : ℕ → Option Waiting → Type 0
 WaitsWithin tick waits = IfSome waits (IsWaitingWithin tick)
 

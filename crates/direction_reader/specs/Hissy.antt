@@ -4,7 +4,7 @@ use Rattle.std.specs.Prelude.{ℕ, zero, suc, ◌/◌, ◌%◌, ◌==◌, List, 
 use Rattle.biphase.specs.declared.cell.Cell.{Cell}
 use Rattle.biphase.specs.Shape.{cell_with}
 
--- so many bits of a number, the least significant bit first, in cells of two lengths that take turns
+-- this many bits of a number, the least significant bit first, in cells of two lengths that take turns
 unfoldable pub taking_turns : ℕ → ℕ → ℕ → ℕ → List Cell
 taking_turns this next zero number = []
 taking_turns this next (suc count) number = cell_with this (number % 2 == 1) ∷ taking_turns next this count (number / 2)

@@ -13,7 +13,7 @@ abbrev pub cell_count : LatestBits → ℕ
 cell_count (latest.Full _) = 80
 cell_count (latest.Filling f) = f.count
 
--- of a ring of 81 ticks, those at the boundaries of so many cells
+-- of a ring of 81 ticks, those at the boundaries of the cells that it has
 abbrev pub latest_ticks : LatestBits → List ℕ → List ℕ
 latest_ticks bits ticks = drop (80 - cell_count bits) ticks
 

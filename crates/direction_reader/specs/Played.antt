@@ -13,7 +13,7 @@ use Rattle.direction_reader.specs.declared.event.Event.{Event}
 use Rattle.direction_reader.specs.declared.event.Event.TheVariants.{Word}
 use Rattle.direction_reader.specs.ListEvents.{duration}
 
--- so many bits of a number, bit 0 first
+-- this many bits of a number, bit 0 first
 unfoldable pub low_bits : ℕ → ℕ → List Bool
 low_bits zero number = []
 low_bits (suc count) number = (number % 2 == 1) ∷ low_bits count (number / 2)

@@ -105,7 +105,7 @@ abbrev pub LatestStandsFor : ReaderState → List ℕ → Option Stretch → Lis
 LatestStandsFor reader intervals None events = events ≡ []
 LatestStandsFor reader intervals (Some stretch) events = OpenStandsFor reader intervals stretch events
 
--- a stretch begins and breaks within so many intervals
+-- a stretch begins and breaks within this many intervals
 pub record IsInside (count : ℕ) (stretch : Stretch) : Type 0 where
   pub lock : stretch.lock ≤ count
   pub broken : IfSome stretch.broken_at (λ place. place < count)

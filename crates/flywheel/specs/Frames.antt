@@ -14,7 +14,7 @@ use Rattle.flywheel.specs.declared.heard.HeardWord.{HeardWord}
 use Rattle.flywheel.specs.declared.frame.Frame.{Frame}
 use Rattle.flywheel.specs.declared.frame.Frame.TheVariants.{Heard, Invented, Gone}
 
--- so many labels ahead, or back
+-- this many labels ahead, or back
 abbrev pub steps_in : Direction → ℕ → ℤ
 steps_in Forward k = pos k
 steps_in Backward k = neg_ℤ (pos k)
@@ -50,12 +50,14 @@ frames_between limit word tick =
     map (invented_after word) (due_steps limit word tick)
     ++ cond (is_gone limit word tick) (Gone (tick_after word (limit + 1)) ∷ []) []
 
+-- two directions are the same
 abbrev pub is_same_direction : Direction → Direction → Bool
 is_same_direction Forward Forward = true
 is_same_direction Forward Backward = false
 is_same_direction Backward Forward = false
 is_same_direction Backward Backward = true
 
+-- two counts are the same
 abbrev pub is_same_count : Count → Count → Bool
 is_same_count C24 C24 = true
 is_same_count C25 C25 = true
@@ -63,6 +65,7 @@ is_same_count C30 C30 = true
 is_same_count Drop30 Drop30 = true
 is_same_count a b = false
 
+-- two labels are the same
 abbrev pub is_same_label : Address → Address → Bool
 is_same_label a b = is_same_count a.count b.count && is_same_time a b
 

@@ -7,7 +7,7 @@ use Rattle.flywheel.specs.declared.heard.HeardWord.{HeardWord}
 use Rattle.flywheel.specs.declared.frame.Frame.{Frame}
 use Rattle.flywheel.specs.declared.frame.Frame.TheVariants.{Heard, Invented, Gone}
 
--- frames that follow a word and so many invented frames, or no word (at the beginning and after the end of invention):
+-- frames that follow a word and n invented frames, or no word (at the beginning and after the end of invention):
 -- only a word begins, an invented frame has the next step, at most the limit, and invention ends only at the limit
 abbrev pub AreMarked : ℕ → Option ℕ → List Frame → Type 0
 AreMarked limit since [] = Unit {0}
@@ -28,5 +28,6 @@ told (Gone tick) = []
 abbrev pub words_in : List Frame → List (Address × Direction × ℕ)
 words_in frames = flat_map told frames
 
+-- the label, the direction and the tick of a word
 abbrev pub word_of : HeardWord → Address × Direction × ℕ
 word_of word = (word.label, word.direction, word.tick)

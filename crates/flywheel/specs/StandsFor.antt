@@ -11,7 +11,7 @@ use Rattle.flywheel.specs.Wheel.{Wheel}
 abbrev pub first_invented : HeardWord → ℕ → List Frame
 first_invented word n = map (invented_after word) (range_with_len 1 n)
 
--- the last word is the reference: the frames up to it were given, and so many of those after it, which were due
+-- the last word is the reference: the frames up to it were given, and this many of those after it, which were due
 pub record HasGivenAfter (limit : ℕ) (word : HeardWord) (invented : ℕ) (words : List HeardWord) (tick : ℕ)
     (given : List Frame) : Type 0 where
   pub earlier : List HeardWord
@@ -32,6 +32,7 @@ pub record HasGivenUp (limit : ℕ) (words : List HeardWord) (tick : ℕ) (given
   pub least : 1 ≤ word.length
   pub due : is_due word (limit + 1) tick ≡ true
 
+-- a flywheel with this reference, or with none, has given these frames of these words, up to a tick
 abbrev pub HasGiven : ℕ → Option HeardWord → ℕ → List HeardWord → ℕ → List Frame → Type 0
 HasGiven limit (Some word) invented words tick given = HasGivenAfter limit word invented words tick given
 HasGiven limit None invented words tick given = ((words ≡ []) × (given ≡ [])) ⊎ HasGivenUp limit words tick given

@@ -11,6 +11,7 @@ pub record Wheel : Type 0 where
   pub reference : Option HeardWord
   pub invented : ℕ
 
+-- a flywheel, by its parts
 abbrev pub wheel_of : ℕ → Option HeardWord → ℕ → Wheel
 wheel_of limit reference invented = record { limit = limit; reference = reference; invented = invented }
 
@@ -18,7 +19,7 @@ wheel_of limit reference invented = record { limit = limit; reference = referenc
 abbrev pub still : ℕ → Wheel
 still limit = wheel_of limit None 0
 
--- it has invented so many frames since the word
+-- it has invented this many frames since the word
 abbrev pub running : ℕ → HeardWord → ℕ → Wheel
 running limit word invented = wheel_of limit (Some word) invented
 
@@ -27,6 +28,7 @@ abbrev pub left_after : ℕ → Option HeardWord → ℕ → ℕ
 left_after limit None invented = 0
 left_after limit (Some word) invented = limit + 1 - invented
 
+-- how many frames a flywheel may still give before the next word
 abbrev pub frames_left : Wheel → ℕ
 frames_left wheel = left_after wheel.limit wheel.reference wheel.invented
 

@@ -34,7 +34,7 @@ pub record Counts (before after : Frames) (more : List Frame) : Type 0 where
   pub invented : after.invented ≡ before.invented + count_by is_invented more
   pub gone : after.gone ≡ before.gone + count_by is_gone more
 
--- a word brings so many frames after it at most
+-- each word brings at most 256 frames after it
 abbrev pub FitsFrames : Frames → Type 0
 FitsFrames f = f.invented + f.gone + frames_left f.wheel ≤ 256 * f.heard
 
@@ -42,7 +42,7 @@ FitsFrames f = f.invented + f.gone + frames_left f.wheel ≤ 256 * f.heard
 abbrev pub HeardBy : ℕ → Wheel → Type 0
 HeardBy tick wheel = IfSome wheel.reference (λ (word : HeardWord). word.tick ≤ tick)
 
--- the counts fit so many words
+-- the counts fit this many words
 pub record FitsFlight (f : Frames) (most : ℕ) : Type 0 where
   pub within : most ≤ 2 * MAX_INTERVALS + 2
   pub words : f.heard ≤ most
@@ -81,7 +81,7 @@ pub record IsGiving (f : Frames) (most until : ℕ) : Type 0 where
   pub waiting : All IsInRange f.words
   pub turns : TakesTurns f until
 
--- so many frames may still be given of that interval
+-- how many frames may still be given of that interval
 abbrev pub frames_to_come : Frames → ℕ
 frames_to_come f = 257 * length f.words + frames_left f.wheel
 
@@ -182,7 +182,7 @@ pub record Stands {S C : Type 0} (witness : Witness) (flight : C → Flight) (ma
   pub invented : f.invented ≡ count_by is_invented given
   pub gone : f.gone ≡ count_by is_gone given
 
--- what it keeps fits so many intervals
+-- what it keeps fits this many intervals
 pub record FitsHearing (h : Hearer) (f : Frames) (own count : ℕ) : Type 0 where
   pub within : count ≤ MAX_INTERVALS
   pub counts : h.count ≡ count

@@ -9,6 +9,7 @@ abbrev pub IsAddedTo : FrameText → Type 0
 IsAddedTo made = (header : IntervalHeader) (fs more : List Frame)
     → (rest : List ℕ) × (made.text header (fs ++ more) ≡ made.text header fs ++ rest)
 
+-- what a sink makes of some frames comes first in what it makes of more
 pub record AddsInOrder (made : FrameText) : Type 0 where
   -- what it makes of frames comes first
   pub added : IsAddedTo made

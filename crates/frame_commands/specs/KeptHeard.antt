@@ -14,6 +14,7 @@ pub record GoOnBehind (events : List Event) (until : ℕ) (all : List Event) (no
   pub later : All (λ event. until ≤ tick_of event) rest
   pub before : until ≤ now
 
+-- the events that are heard of some intervals are one list, which comes first in that of more
 pub record HeardInOrder (witness : Witness) : Type 0 where
   -- there are such events
   pub some_yet : (system : System) (profile : Profile) (intervals : List ℕ)

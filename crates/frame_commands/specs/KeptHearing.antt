@@ -26,6 +26,7 @@ hearer_of_all r = record {
   stands = λ intervals events. StandsFor r intervals events;
 }
 
+-- what an interval brought to a reader are these events
 abbrev pub tells_all : ReaderState → Brought → List Event → Type 0
 tells_all r brought own = (events : Events) × Tells r brought events × (own ≡ event_list events)
 
@@ -47,6 +48,7 @@ hearer_of_firm r = record {
   stands = λ intervals events. (told : List FirmEvent) × FirmStandsFor r intervals told × (events ≡ told_events told);
 }
 
+-- what an interval brought to a firm reader are these events
 abbrev pub tells_firm : FirmEvents → List Event → Type 0
 tells_firm told own = own ≡ told_events (firm_list told)
 

@@ -33,7 +33,7 @@ stepped s frame = record {
   is_spent = s.is_spent;
 }
 
--- it was begun with these choices, and was given these frames, of which it follows so many at most
+-- it was begun with these choices, and was given these frames, of which it follows at most this many
 pub record HasFollowed (most : ℕ) (c : Chasing) (s : Stepping) (frames : List Frame) : Type 0 where
   pub chase : s.chase ≡ after_frames (begun_at c.label c.seed c.bound) (take most frames)
   pub count : s.count ≡ c.label.count

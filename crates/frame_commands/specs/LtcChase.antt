@@ -25,7 +25,7 @@ use Rattle.tc_command.specs.Told.{Told}
 abbrev pub steps_over : Chasing → List Frame → List Traced
 steps_over c frames = code_trace c.label c.seed c.bound frames
 
--- those of the first frames, so many at most
+-- those of the first frames, at most this many
 abbrev pub first_steps : ℕ → Chasing → List Frame → List Traced
 first_steps most c frames = steps_over c (take most frames)
 

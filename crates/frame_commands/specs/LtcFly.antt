@@ -35,7 +35,7 @@ flown_recording flight = along_frames flight lines_of_frames
 
 -- what was written are the lines of the frames of the recording, and the line that counts them. The heard frames are
 -- its words under the tolerance of the flight, one after another, each with its label, its direction and its tick;
--- between two of them, and after the last, at most so many frames are invented, and each has its step in its line. And
+-- between two of them, and after the last, no more than the limit is invented, and each has its step in its line. And
 -- these words tell the tape
 pub record ShowsTheFrames (flight : Flight) (bytes written : List ℕ) : Type 0 where
   pub header : IntervalHeader

@@ -79,5 +79,6 @@ along_frames_with witness flight made = record {
   whole = IsFlightWhole witness flight made;
 }
 
+-- what a command writes of the frames of a flight, with its tolerance and witness
 abbrev pub along_frames : Flight → FrameText → Printing
 along_frames flight made = along_frames_with flight.witness flight made

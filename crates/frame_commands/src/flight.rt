@@ -40,10 +40,10 @@ pub(crate) struct FlightTo<R: Hearing, T: FrameSink> {
 }
 
 impl<R: Hearing, T: FrameSink> FlightTo<R, T> {
-    /// Takes an interval of `x` ticks, and answers what it brought, but for one that brought nothing and with which no
-    /// frame is due. Nearly all are so, and whether a frame is due at the end of one is asked first, while that tick
-    /// is at
-    /// hand.
+    /// Takes an interval of `x` ticks, and answers what it brought; for one that brought nothing and with which no
+    /// frame is due, nothing. Nearly all are so.
+    // Whether a frame is due at the end of the interval is asked first, while that tick is at hand: 3 of 64
+    // instructions an interval in `ltc-fly`.
     #[inline(always)]
     fn hear(&mut self, x: u32) -> Option<R::Brought>
         requires least { 1 ≤ x }

@@ -15,6 +15,7 @@ use Rattle.report_text.specs.Texts.{FitsFirmLine}
 use Rattle.interval_commands.specs.declared.counts.Counts.{Counts}
 use Rattle.interval_commands.specs.FirmReport.{firm_lines, tells_lost, tells_refused, tells_word, IsFirmPart}
 
+-- nothing has been counted
 abbrev pub no_counts : Counts
 no_counts = record { words = 0; refused = 0; lost = 0 }
 
@@ -47,7 +48,7 @@ pub record FitsFirmReport (header : IntervalHeader) (reader : FirmState) (counts
   pub header_is : IsTickRate header.tick_rate
   pub events : counts_in counts ≤ 3 * count
 
--- so many events of each kind
+-- how many events there are of each kind
 pub record CountTheTold (counts : Counts) (events : List FirmEvent) : Type 0 where
   pub words : counts.words ≡ count_by tells_word events
   pub refused : counts.refused ≡ count_by tells_refused events

@@ -110,6 +110,8 @@ impl Report {
 
     /// Prints what the latest interval brought. Nearly every interval brings nothing, and a small answer
     /// costs those nothing.
+    // An answer that may be a `Stop` goes through memory: with it `ltc-read` took 63.6 instructions an interval in
+    // place of 59.5.
     #[cold]
     #[inline(never)]
     fn print<K: Sink>(&mut self, brought: Brought, out: &mut K) -> Result<(), Failed>

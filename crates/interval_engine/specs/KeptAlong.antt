@@ -25,7 +25,7 @@ abbrev pub HasHeader : {B : Type 0} → Option B → ℕ → Type 0
 HasHeader None taken = taken < HEADER_LENGTH
 HasHeader (Some behind) taken = HEADER_LENGTH ≤ taken
 
--- what is kept behind the header fits so many intervals
+-- what is kept behind the header fits this many intervals
 abbrev pub FitsBehind : {B : Type 0} → (B → ℕ → Type 0) → Option B → ℕ → Type 0
 FitsBehind fits None count = count ≡ 0
 FitsBehind fits (Some behind) count = (count ≤ MAX_INTERVALS) × fits behind count

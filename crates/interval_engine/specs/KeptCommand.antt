@@ -33,6 +33,7 @@ pub record RecordingsGrow : Type 0 where
 
 -- ---- what a command along intervals brings
 
+-- what is printed of some intervals is one text, which comes first in what is printed of more
 pub record PrintsInOrder (p : Printing) : Type 0 where
   -- what it writes behind some intervals comes first
   pub part : (header : IntervalHeader) (front more a b : List ℕ) → p.part header front a
@@ -114,6 +115,7 @@ one_whole : (p : Printing) → PrintsInOrder p → (header : Option IntervalHead
 one_whole p prints None intervals a b one all = absurd one
 one_whole p prints (Some header) intervals a b one all = prints.one_whole header intervals a b one all
 
+-- what prints in order along an interval file is a command as any other
 pub along_is_command : RecordingsGrow → (p : Printing) → PrintsInOrder p → IsCommand (along_intervals p)
 along_is_command r p prints = record {
   first = record {
@@ -163,6 +165,7 @@ none_passes : (p : Printing) → ((header : IntervalHeader) (intervals : List �
 none_passes p never None intervals = λ spent. spent
 none_passes p never (Some header) intervals = never header intervals
 
+-- a printing without a limit of its own passes none
 pub never_spent : (p : Printing) → ((header : IntervalHeader) (intervals : List ℕ) → ¬ p.spent header intervals)
     → (r : Recording) → ¬ IsSpentOf p r
 never_spent p never r = none_passes p never r.header r.intervals

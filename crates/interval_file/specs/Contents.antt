@@ -38,7 +38,7 @@ header_of bytes =
 
 -- ---- the intervals
 
--- what bytes say behind a header and these intervals, where they begin at a place: of so many intervals more at most
+-- what bytes say behind a header and these intervals, where they begin at a place: of at most this many intervals more
 abbrev pub contents_behind : ℕ → IntervalHeader → List ℕ → ℕ → List ℕ → Contents
 contents_behind zero header intervals place bytes = file header intervals
 contents_behind (suc more) header intervals place bytes =

@@ -45,6 +45,7 @@ pub record Decoding : Type 0 where
   pub progress : Progress
   pub recording : Recording
 
+-- before the first byte
 abbrev pub no_decoding : Decoding
 no_decoding = record { progress = no_progress; recording = no_recording }
 
@@ -53,6 +54,7 @@ abbrev pub with_byte : Decoding → ℕ → Decoding
 with_byte d byte =
     record { progress = after d.progress byte; recording = with_taken d.recording (answer d.progress byte) }
 
+-- after these bytes, one after another
 abbrev pub decoding_of : List ℕ → Decoding
 decoding_of bytes = fold with_byte no_decoding bytes
 
@@ -80,7 +82,7 @@ pub record ReadsWhatIsSaid : Type 0 where
 abbrev pub too_many_bytes : ℕ
 too_many_bytes = HEADER_LENGTH + 6 * MAX_INTERVALS + 6
 
--- so many intervals account for the bytes that were taken
+-- this many intervals account for the bytes that were taken
 abbrev pub FitsBytes : Progress → ℕ → Type 0
 FitsBytes p count = p.taken ≤ HEADER_LENGTH + 6 * count + length p.part
 
@@ -99,7 +101,7 @@ pub record IsBetween (p : Progress) : Type 0 where
   pub header : HEADER_LENGTH ≤ p.taken
   pub no_part : p.part ≡ []
 
--- with the bytes of an interval more, so many
+-- with one interval more, of this many bytes
 abbrev pub with_number : Decoding → ℕ → Result ℕ IntervalFileFault → Decoding
 with_number d width (Ok x) = record {
   progress = record d.progress { taken = d.progress.taken + width };

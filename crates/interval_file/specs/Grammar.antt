@@ -122,6 +122,7 @@ pub data Contents : Type 0 where
   no_header : IntervalFileFault → Contents
   faulty : IntervalHeader → List ℕ → IntervalFileFault → Contents
 
+-- bytes say this: they are such a file, or have such a fault
 abbrev pub Says : Contents → List ℕ → Type 0
 Says (file header intervals) bytes = IsFile bytes header intervals
 Says (no_header fault) bytes = IsHeaderFault fault bytes

@@ -113,12 +113,12 @@ FoundAt version (fault.TickRate place) taken = (place ≡ HEAD_LENGTH) × (taken
 FoundAt version (fault.Interval place) taken = IsBoundary version place × (taken ≡ place + most_width version)
 FoundAt version first taken = ⊥
 
--- so many bytes may end inside an interval: in version 1 not at a multiple of four
+-- this many bytes may end inside an interval: in version 1 not at a multiple of four
 abbrev pub MayBeInside : FileVersion → ℕ → Type 0
 MayBeInside One taken = taken % 4 ≢ 0
 MayBeInside Two taken = ⊤
 
--- what so many bytes may complete: the header is whole with twelve, and behind it each interval where one may end
+-- what this many bytes may complete: the header is whole with twelve, and behind it each interval where one may end
 abbrev pub CompletesAt : FileVersion → Taken → ℕ → Type 0
 CompletesAt version Nothing taken = (taken ≢ HEADER_LENGTH) × (HEADER_LENGTH < taken → MayBeInside version taken)
 CompletesAt version (Header header) taken = (taken ≡ HEADER_LENGTH) × IsTickRate header.tick_rate

@@ -8,7 +8,7 @@ use Rattle.interval_file.specs.declared.piece.Next.TheVariants.{Short, Interval,
 use Rattle.interval_file.specs.Piece.{MayBeWhole, interval_in, piece_width}
 use Rattle.interval_file.specs.Decoding.{Decoding, IsBetween, with_byte, with_number}
 
--- an interval of so many bytes, or its fault
+-- an interval of this many bytes, or its fault
 abbrev pub next_with : ℕ → Result ℕ IntervalFileFault → Next
 next_with width (Ok x) = Interval x width
 next_with width (Err first) = Fault first
@@ -20,7 +20,7 @@ next_of version place bytes =
     then next_with (piece_width version bytes) (interval_in version place bytes)
     else Short
 
--- a decoder that stands at the place between two intervals makes this of so many bytes
+-- a decoder that stands at the place between two intervals makes this of a number of bytes
 abbrev pub Makes : FileVersion → ℕ → List ℕ → ℕ → Result ℕ IntervalFileFault → Type 0
 Makes version place bytes width result =
     (d : Decoding) → IsBetween d.progress → d.progress.version ≡ version → d.progress.taken ≡ place

@@ -47,7 +47,7 @@ Brings (Interval x) before now =
 Brings (Fault first) before now = piece_fault_in now ≡ Some first
 
 -- what more bytes bring that stand behind the file of this header and these intervals: no whole interval, as they are
--- none or end inside one; an interval of so many bytes; or one that is out of range
+-- none or end inside one; an interval and its number of bytes; or one that is out of range
 abbrev pub BringNext : List ℕ → IntervalHeader → List ℕ → List ℕ → Next → Type 0
 BringNext front header intervals bytes Short =
     (bytes ≡ []) ⊎ IsFaulty (front ++ bytes) header intervals (Truncated (length front + length bytes))

@@ -20,7 +20,7 @@ abbrev pub most_width : FileVersion → ℕ
 most_width One = 4
 most_width Two = 6
 
--- so many bytes may be whole intervals: in version 1 a multiple of four, in version 2 an even number
+-- this many bytes may be whole intervals: in version 1 a multiple of four, in version 2 an even number
 abbrev pub MayBeWhole : FileVersion → ℕ → Type 0
 MayBeWhole One count = count % 4 ≡ 0
 MayBeWhole Two count = count % 2 ≡ 0

@@ -20,7 +20,7 @@ pub record Progress : Type 0 where
 abbrev pub IsBoundary : FileVersion → ℕ → Type 0
 IsBoundary version place = (HEADER_LENGTH ≤ place) × MayBeWhole version place
 
--- the bytes are one interval, which begins where one may and ends with so many bytes
+-- the bytes are one interval, which begins where one may and ends with this many bytes
 pub record IsWholeAt (version : FileVersion) (taken : ℕ) (piece : List ℕ) : Type 0 where
   pub width : length piece ≡ piece_width version piece
   pub within : length piece ≤ taken

@@ -1,4 +1,4 @@
--- What bytes say of a recording, as far as they go, to a command that takes so many intervals at most: the limit is the
+-- What bytes say of a recording, as far as they go, to a command with a limit of intervals: the limit is the
 -- command's, and no matter of the grammar.
 use Rattle.std.specs.Prelude.{ℕ, ◌+◌, List, [], length, take, Option, Some, None, nat_le, if◌then◌else◌}
 use Rattle.limits.specs.declared.recording.TheConstants.{MAX_INTERVALS}
@@ -27,7 +27,7 @@ abbrev pub whole_in : IntervalFileFault → ℕ
 whole_in (Interval first) = 1
 whole_in fault = 0
 
--- what is read behind a header, where so many intervals are whole, also one at the end that is out of range: of these
+-- what is read behind a header, where this many intervals are whole, also one at the end that is out of range: of these
 -- in range those within the limit, and where one more is whole the bytes are past it
 abbrev pub within_limit : IntervalHeader → List ℕ → ℕ → Verdict IntervalFileFault → Recording
 within_limit header intervals whole verdict = record {

@@ -17,12 +17,13 @@ use Rattle.label_text.specs.declared.reader.LineRead.TheVariants.{Nothing, Label
 use Rattle.label_text.specs.LabelText.{IsPlace, Place, Reading, after, at_end, ended_at, fault_said, label_said}
 use Rattle.label_text.specs.LabelText.{labels_of, reading_from, reading_of, said_by, then_read, with_labels}
 use Rattle.tc_address.specs.Label.{Address}
+use Rattle.tc_command.specs.declared.gathered.Gathered.{Gathered}
 use Rattle.tc_command.specs.declared.input_fault.InputFault.TheVariants.{Labels}
 use Rattle.tc_command.specs.declared.stop.Stop.TheVariants as stops
 use Rattle.tc_command.specs.Meaning.{IsInput, Shows}
 use Rattle.tc_command.specs.Stops.{IsStop, Stops}
 use Rattle.tc_io.specs.Sink.{AppendsFront}
-use Rattle.tc_io.specs.Verdict.{Verdict, good, past_limit, refused, verdict_as}
+use Rattle.tc_io.specs.Verdict.{good, past_limit, verdict_as}
 use Rattle.tc_io.specs.VerdictLemmas.{good_too}
 use Rattle.tc_job.specs.LabelRun.{LabelRunning}
 
@@ -35,7 +36,7 @@ GoesOn = (base : Timebase) (front more : List ℕ) → (reading_of base front).v
 -- ---- bytes behind those that it was given
 
 -- what a byte says that says this
-said_so : (p : Place) (byte : ℕ) (more : List ℕ) (said : LineRead) → said_by p byte ≡ said
+pub said_so : (p : Place) (byte : ℕ) (more : List ℕ) (said : LineRead) → said_by p byte ≡ said
     → reading_from p (byte ∷ more) ≡ then_read p said (reading_from (after said byte p) more)
 unfolding reading_from
 said_so p byte more said is = ap (λ (s : LineRead). then_read p s (reading_from (after s byte p) more)) is
@@ -52,7 +53,7 @@ read_on law s front written stands byte more said is =
     ∙ ap (λ (p : Place). with_labels labels (reading_from p (byte ∷ more))) stands.place
     ∙ ap (with_labels labels) (said_so s.reader byte more said is)
 
-nothing_behind : (p : Place) → reading_from p [] ≡ ended_at good p
+pub nothing_behind : (p : Place) → reading_from p [] ≡ ended_at good p
 unfolding reading_from
 nothing_behind p = refl
 
@@ -64,9 +65,8 @@ answers_last run labels label =
     ∙ ap (λ (l : List ℕ). answers run labels ++ l) (append-nil (answer_line run.base run.way label))
 
 same_answers : (run : LabelRunning) (written : List ℕ) (labels : List Address) (r : Reading)
-    → written ≡ answers run labels → r.labels ≡ labels ++ [] → written ++ [] ≡ answers run r.labels
-same_answers run written labels r are is =
-    append-nil written ∙ are ∙ ap (answers run) (sym (append-nil labels) ∙ sym is)
+    → written ≡ answers run labels → r.labels ≡ labels ++ [] → written ≡ answers run r.labels
+same_answers run written labels r are is = are ∙ ap (answers run) (sym (append-nil labels) ∙ sym is)
 
 -- ---- no label
 
@@ -80,8 +80,9 @@ none_more law s q front written stands byte is next =
     record {
       is_good = ap (λ (r : Reading). r.verdict) all;
       place = ap (λ (r : Reading). r.place) all ∙ sym next;
-      are = same_answers s.run written labels (reading_of s.run.base (front ++ byte ∷ [])) stands.are
-          (ap (λ (r : Reading). r.labels) all);
+      are = ap (λ (l : List ℕ). l ++ s.gathered.room.items) (append-nil written)
+          ∙ same_answers s.run (written ++ s.gathered.room.items) labels (reading_of s.run.base (front ++ byte ∷ []))
+          stands.are (ap (λ (r : Reading). r.labels) all);
     }
 
 -- ---- a label
@@ -99,7 +100,7 @@ labels_more law s front written stands byte label is =
 
 answered_more : GoesOn → (s : LabelAnswers) (front written : List ℕ) → Stands s front written
     → (byte : ℕ) (label : Address) → said_by s.reader byte ≡ Label label
-    → written ++ answer_line s.run.base s.run.way label
+    → (written ++ s.gathered.room.items) ++ answer_line s.run.base s.run.way label
     ≡ answers s.run (reading_of s.run.base (front ++ byte ∷ [])).labels
 answered_more law s front written stands byte label is =
     let labels = (reading_of s.run.base front).labels in
@@ -107,35 +108,38 @@ answered_more law s front written stands byte label is =
     ap (λ (l : List ℕ). l ++ line) stands.are ∙ sym (answers_last s.run labels label)
     ∙ ap (answers s.run) (sym (ap (λ (r : Reading). r.labels) (labels_more law s front written stands byte label is)))
 
-pub one_more : GoesOn → (s : LabelAnswers) (q : Place) (front written : List ℕ) → Stands s front written
-    → (byte : ℕ) (label : Address) → said_by s.reader byte ≡ Label label → q ≡ after (Label label) byte s.reader
-    → Stands (record s { reader = q }) (front ++ byte ∷ []) (written ++ answer_line s.run.base s.run.way label)
-one_more law s q front written stands byte label is next =
+-- its line was gathered, and what did not fit before it was pushed
+pub one_more : GoesOn → (s : LabelAnswers) (q : Place) (room : Gathered) (front written : List ℕ)
+    → Stands s front written → (byte : ℕ) (label : Address) → said_by s.reader byte ≡ Label label
+    → q ≡ after (Label label) byte s.reader → (more : List ℕ)
+    → s.gathered.room.items ++ answer_line s.run.base s.run.way label ≡ more ++ room.room.items
+    → Stands (record s { reader = q; gathered = room }) (front ++ byte ∷ []) (written ++ more)
+one_more law s q room front written stands byte label is next more put =
     let all = labels_more law s front written stands byte label is in
+    let line = answer_line s.run.base s.run.way label in
     record {
       is_good = ap (λ (r : Reading). r.verdict) all;
       place = ap (λ (r : Reading). r.place) all ∙ sym next;
-      are = answered_more law s front written stands byte label is;
+      are = append_assoc written more room.room.items ∙ ap (λ (l : List ℕ). written ++ l) (sym put)
+          ∙ sym (append_assoc written s.gathered.room.items line)
+          ∙ answered_more law s front written stands byte label is;
     }
 
--- a front of its line was written
-pub one_more_part : GoesOn → (s : LabelAnswers) (front written : List ℕ) → Stands s front written
-    → (byte : ℕ) (rest bytes : List ℕ) (label : Address) (old new : Option (List ℕ))
-    → said_by s.reader byte ≡ Label label → byte ∷ rest ≡ bytes
-    → AppendsFront old new (answer_line s.run.base s.run.way label)
-    → Stops (along_labels s.run) stops.WriteFault old new (front ++ bytes) written
-one_more_part law s front written stands byte rest bytes label old new is all f = (
+-- a front of what was gathered was pushed
+pub gathered_part : (s : LabelAnswers) (front written rest : List ℕ) (old new : Option (List ℕ))
+    → Stands s front written → AppendsFront old new s.gathered.room.items
+    → Stops (along_labels s.run) stops.WriteFault old new (front ++ rest) written
+gathered_part s front written rest old new stands f = (
   f.0,
   f.2,
   (
-    front ++ byte ∷ [],
-    answers s.run (reading_of s.run.base (front ++ byte ∷ [])).labels,
-    (rest, ap (λ (l : List ℕ). front ++ l) (sym all) ∙ sym (append_assoc front (byte ∷ []) rest)),
+    front,
+    answers s.run (reading_of s.run.base front).labels,
+    (rest, refl),
     refl,
     (
       f.1.0,
-      sym (answered_more law s front written stands byte label is)
-          ∙ ap (λ (l : List ℕ). written ++ l) f.1.1 ∙ sym (append_assoc written f.0 f.1.0),
+      sym stands.are ∙ ap (λ (l : List ℕ). written ++ l) f.1.1 ∙ sym (append_assoc written f.0 f.1.0),
     ),
   ),
 )
@@ -144,25 +148,26 @@ one_more_part law s front written stands byte rest bytes label old new is all f 
 
 pub a_fault : GoesOn → (s : LabelAnswers) (front written : List ℕ) → Stands s front written
     → (byte : ℕ) (rest : List ℕ) (fault : LineFault) → said_by s.reader byte ≡ Fault fault
-    → IsStop (along_labels s.run) (stops.Refused (Labels fault)) (front ++ byte ∷ rest) (written ++ [])
+    → IsStop (along_labels s.run) (stops.Refused (Labels fault)) (front ++ byte ∷ rest)
+    (written ++ s.gathered.room.items)
 a_fault law s front written stands byte rest fault is =
     let labels = (reading_of s.run.base front).labels in
     let all = read_on law s front written stands byte rest (Fault fault) is in (
       record { is = ap (λ (r : Reading). verdict_as Labels r.verdict) all; unspent = λ spent. spent },
-      same_answers s.run written labels (reading_of s.run.base (front ++ byte ∷ rest)) stands.are
-          (ap (λ (r : Reading). r.labels) all),
+      same_answers s.run (written ++ s.gathered.room.items) labels (reading_of s.run.base (front ++ byte ∷ rest))
+          stands.are (ap (λ (r : Reading). r.labels) all),
     )
 
 pub the_limit : GoesOn → (s : LabelAnswers) (front written : List ℕ) → Stands s front written
     → (byte : ℕ) (rest : List ℕ) → said_by s.reader byte ≡ Limit
     → Shows (along_labels s.run) past_limit (front ++ byte ∷ rest)
-    × (written ++ [] ≡ answers s.run (reading_of s.run.base (front ++ byte ∷ rest)).labels)
+    × (written ++ s.gathered.room.items ≡ answers s.run (reading_of s.run.base (front ++ byte ∷ rest)).labels)
 the_limit law s front written stands byte rest is =
     let labels = (reading_of s.run.base front).labels in
     let all = read_on law s front written stands byte rest Limit is in (
       record { is = ap (λ (r : Reading). verdict_as Labels r.verdict) all; unspent = λ spent. spent },
-      same_answers s.run written labels (reading_of s.run.base (front ++ byte ∷ rest)) stands.are
-          (ap (λ (r : Reading). r.labels) all),
+      same_answers s.run (written ++ s.gathered.room.items) labels (reading_of s.run.base (front ++ byte ∷ rest))
+          stands.are (ap (λ (r : Reading). r.labels) all),
     )
 
 -- ---- the end

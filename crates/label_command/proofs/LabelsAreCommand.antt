@@ -7,7 +7,7 @@ use Rattle.label_command.proofs.AnswersGrow.{GoesOn}
 use Rattle.label_lines.specs.Answer.{answer_line}
 use Rattle.label_lines.specs.declared.timebase.Timebase.{Timebase}
 use Rattle.label_text.specs.declared.fault.LineFault.{LineFault}
-use Rattle.label_text.specs.LabelText.{Reading, at_end, label_said, labels_of, reading_from, reading_of}
+use Rattle.label_text.specs.LabelText.{Reading, at_end, label_said, reading_from, reading_of}
 use Rattle.tc_address.specs.Label.{Address}
 use Rattle.tc_command.specs.Command.{IsCommand}
 use Rattle.tc_command.specs.declared.input_fault.InputFault.TheVariants.{Labels}

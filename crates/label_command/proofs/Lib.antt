@@ -1,2 +1,9 @@
+mod Examples
 pub mod AnswersGrow
+pub mod AnswersRead
+pub mod BackFromAFaster
 pub mod LabelsAreCommand
+pub mod LinesRead
+pub mod LinesTold
+pub mod ShortLines
+pub mod TextSplit

@@ -24,7 +24,7 @@ abbrev pub seconds_text : ℕ → List ℕ
 seconds_text milliseconds =
     decimal (milliseconds / 1000) ++ codes "." ++ (48 + milliseconds % 1000 / 100) ∷ two_digits (milliseconds % 100)
 
--- the label so many frames after midnight, around the day
+-- the label this many frames after midnight, around the day
 abbrev pub label_from_midnight : Count → ℕ → Address
 label_from_midnight count frames = step (address count 0 0 0 0) (pos frames)
 

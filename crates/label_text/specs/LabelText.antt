@@ -19,6 +19,7 @@ pub record Place : Type 0 where
   pub number : ℕ
   pub line : List ℕ
 
+-- a place, by its parts
 abbrev pub place_at : Timebase → ℕ → List ℕ → Place
 place_at base number line = record { base = base; number = number; line = line }
 
@@ -100,10 +101,12 @@ reading_of base bytes = reading_from (start base) bytes
 abbrev pub at_end : Place → LineRead
 at_end p = if length p.line == 0 then Nothing else line_said p
 
+-- the label that a byte completes, if it completes one
 abbrev pub label_said : LineRead → List Address
 label_said (Label label) = label ∷ []
 label_said _ = []
 
+-- the fault that a byte shows, if it shows one
 abbrev pub fault_said : LineRead → Option LineFault
 fault_said (Fault fault) = Some fault
 fault_said _ = None

@@ -25,7 +25,7 @@ first_only (x ∷ xs) some = refl
 
 -- ---- fronts
 
--- of a longer list so many items begin with those of the shorter one
+-- the first n items of a longer list begin with those of the shorter one
 pub first_items : {A : Type 0} (n : ℕ) (xs ys : List A) → (rest : List A) × (take n (xs ++ ys) ≡ take n xs ++ rest)
 first_items n [] ys = (take n ys, ap (λ l. l ++ take n ys) (sym (take_all n [] (omega arith))))
 first_items zero (x ∷ xs) ys = ([], refl)

@@ -21,12 +21,13 @@ front_of things.Whole says = whole says
 front_of things.Short says = short
 front_of (things.Fault f) says = bad f
 
+-- a header at the front, as the code finds it and as the definitions say it
 abbrev pub header_front : FoundHeader → Front LineHeader
 header_front (headers.Whole header) = whole header
 header_front headers.Short = short
 header_front (headers.Fault f) = bad f
 
--- so many runs that stand behind the first byte
+-- this many runs that come behind the first byte
 abbrev pub runs_behind : ℕ → List ℕ → List ℕ
 runs_behind count bytes = runs_of_bytes (take (2 * count) (drop 1 bytes))
 

@@ -19,6 +19,7 @@ with_first first rest = and_then rest (λ others. whole (first ∷ others))
 abbrev pub is_line_length : ℕ → Bool
 is_line_length n = nat_le MIN_LINE_LENGTH n && nat_le n MAX_LINE_LENGTH
 
+-- the header behind the bytes of the head: its system, and the length of a line
 abbrev pub behind_head : Front (Unit {0}) → List ℕ → Front LineHeader
 behind_head head bytes = and_then head (λ _. length_at (system_at (slice_index bytes 5)) (drop HEAD_LENGTH bytes))
 
@@ -42,6 +43,7 @@ no_field verdict is_whole = record { fields = []; verdict = verdict; is_whole = 
 abbrev pub with_field : List (List ℕ) → Fields → Fields
 with_field lines f = record f { fields = lines ∷ f.fields }
 
+-- bytes that have no whole header
 abbrev pub no_header : Verdict LineFileFault → Reading
 no_header verdict = record { header = None; fields = []; verdict = verdict; is_whole = false }
 

@@ -46,7 +46,7 @@ head_fault place =
     else if place == 5 then fault.System place
     else fault.Reserved place
 
--- so many bytes of the head from a place on, each judged by itself
+-- this many bytes of the head from a place on, each judged by itself
 abbrev pub head_at : ℕ → ℕ → List ℕ → Front (Unit {0})
 head_at zero place bytes = whole tt
 head_at (suc count) place [] = short
@@ -72,7 +72,7 @@ header_at bytes =
 
 -- ---- a field
 
--- so many runs: two bytes each, the most significant one first, and a tick or more
+-- this many runs: two bytes each, the most significant one first, and a tick or more
 abbrev pub runs_at : ℕ → ℕ → List ℕ → Front (List ℕ)
 runs_at zero place bytes = whole []
 runs_at (suc count) place (high ∷ low ∷ more) =
@@ -90,7 +90,7 @@ line_at place (count ∷ more) =
 abbrev pub line_width : List ℕ → ℕ
 line_width runs = 1 + 2 * length runs
 
--- so many lines
+-- this many lines
 abbrev pub lines_at : ℕ → ℕ → List ℕ → Front (List (List ℕ))
 lines_at zero place bytes = whole []
 lines_at (suc count) place bytes =
@@ -122,7 +122,7 @@ field_then (whole lines) next = let f = next lines in record f { fields = lines 
 field_then short next = record { fields = []; verdict = good; is_whole = false }
 field_then (bad f) next = record { fields = []; verdict = refused f; is_whole = false }
 
--- the fields from a place on, so many at most: of a byte behind them nothing is asked
+-- the fields from a place on, at most this many: of a byte behind them nothing is asked
 unfoldable pub fields_at : ℕ → ℕ → List ℕ → Fields
 fields_at left place [] = record { fields = []; verdict = good; is_whole = true }
 fields_at zero place (byte ∷ more) = record { fields = []; verdict = past_limit; is_whole = false }
@@ -144,6 +144,7 @@ behind_header (whole header) bytes = let f = fields_at MAX_FIELDS HEADER_LENGTH 
 behind_header short bytes = record { header = None; fields = []; verdict = good; is_whole = false }
 behind_header (bad f) bytes = record { header = None; fields = []; verdict = refused f; is_whole = false }
 
+-- what bytes say of a line file, from the first byte on
 abbrev pub reading_of : List ℕ → Reading
 reading_of bytes = behind_header (header_at bytes) bytes
 

@@ -22,6 +22,7 @@ pub record Decoding : Type 0 where
   pub fields : ℕ
   pub part : List ℕ
 
+-- a decoder, by its parts
 abbrev pub decoding_of : Option LineHeader → ℕ → ℕ → List ℕ → Decoding
 decoding_of header place fields part = record { header = header; place = place; fields = fields; part = part }
 
@@ -71,7 +72,7 @@ pub record StandsFor (d : Decoding) (bytes : List ℕ) (answers : List FieldAnsw
 abbrev pub FitsFields : Decoding → Type 0
 FitsFields d = (d.fields ≤ MAX_FIELDS) × (d.place + length d.part ≤ HEADER_LENGTH + FIELD_ROOM * d.fields + FIELD_ROOM)
 
--- so many of the bytes were taken, and these answers given
+-- this many of the bytes were taken, and these answers given
 pub record Adds (old new : Decoding) (bytes : List ℕ) (count : ℕ) (more : List FieldAnswer) : Type 0 where
   pub some : 1 ≤ count
   pub within : count ≤ length bytes
@@ -80,6 +81,7 @@ pub record Adds (old new : Decoding) (bytes : List ℕ) (count : ℕ) (more : Li
   pub stands : (front : List ℕ) (answers : List FieldAnswer) → StandsFor old front answers
       → StandsFor new (front ++ take count bytes) (answers ++ more)
 
+-- what was taken adds to the bytes of the decoder, and a fault or the limit leaves it as it was
 abbrev pub AddsTaken : Decoding → Decoding → List ℕ → Taken → Type 0
 AddsTaken old new bytes (Nothing count) = Adds old new bytes count []
 AddsTaken old new bytes (Field count answer) = Adds old new bytes count (answer ∷ [])

@@ -25,11 +25,13 @@ abbrev pub run_reason : RunFault → List ℕ
 run_reason (Run i) = codes "run " ++ decimal i
 run_reason (TooLong i) = codes "too-long " ++ decimal i
 
+-- the words for a fault of the bits of a line
 abbrev pub line_reason : LineFault → List ℕ
 line_reason (SyncPair j) = codes "sync-pair " ++ decimal j
 line_reason (Check r) = codes "check " ++ decimal r
 line_reason (Field f) = name_of f
 
+-- the words for a fault of a line, of its runs or of its bits
 abbrev pub reason : ReadFault → List ℕ
 reason (Runs f) = run_reason f
 reason (Line f) = line_reason f

@@ -13,6 +13,8 @@ use itoa::Buffer;
 use tc_address::two_digits;
 
 /// Appends a number in decimal digits, without leading zeros.
+// Below a hundred million two digits at a time go straight into the line. `itoa` writes them into room of its own
+// first: that was 7 of 41 instructions a quarter frame in `mtc-read`, and 3 of 100 a row in `chase`.
 pub fn push_number(text: &mut Text, number: u64)
     requires { array_vec_len text.old + length (decimal number) ≤ 128 }
     ensures items { text.new.items ≡ text.old.items ++ decimal number }

@@ -12,7 +12,7 @@ use Rattle.flywheel.specs.declared.frame.Frame.{Frame}
 use Rattle.flywheel.specs.declared.frame.Frame.TheVariants.{Heard, Invented, Gone}
 use Rattle.ltc_jam.specs.Word.{played_as}
 
--- the cells of bits, each of so many ticks
+-- the cells of bits, each of this many ticks
 abbrev pub steady_cells : ℕ → List Bool → List Cell
 steady_cells cell bits = map (cell_with cell) bits
 

@@ -29,6 +29,7 @@ IsLine bits = (bits < 2 ^ 90) × (bits % 2 ≡ 1)
 abbrev pub line_of : Levels → List ℕ
 line_of levels = cond (says_bits levels) (number_of levels ∷ []) []
 
+-- the line that a row says alone, if it says its bits
 abbrev pub line_of_row : FoundRow → List ℕ
 line_of_row found = line_of found.row.levels
 
@@ -36,6 +37,7 @@ line_of_row found = line_of found.row.levels
 unfoldable pub line_of_two : ℕ → FoundRow → FoundRow → List ℕ
 line_of_two width a b = cond (belong width a b) (line_of (joined a.row.levels b.row.levels)) []
 
+-- the line of two rows as one, given as a pair
 abbrev pub line_of_pair : ℕ → FoundRow × FoundRow → List ℕ
 line_of_pair width both = line_of_two width both.0 both.1
 

@@ -13,6 +13,7 @@ pub record FieldReading : Type 0 where
   pub number : ℕ
   pub found : List FoundRow
 
+-- what a reader of fields keeps, by its parts
 abbrev pub reading_of : RasterSize → List ℕ → ℕ → List FoundRow → FieldReading
 reading_of raster line number found = record { raster = raster; line = line; number = number; found = found }
 

@@ -1,7 +1,7 @@
 -- Bytes in parts of one length, one after another.
 use Rattle.std.specs.Prelude.{ℕ, zero, suc, ◌/◌, List, [], ◌∷◌, length, take, drop}
 
--- so many parts of this size
+-- this many parts of this size
 unfoldable pub parts : ℕ → ℕ → List ℕ → List (List ℕ)
 parts zero size bytes = []
 parts (suc count) size bytes = take size bytes ∷ parts count size (drop size bytes)

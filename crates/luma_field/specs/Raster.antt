@@ -10,6 +10,7 @@ pub record RasterSize : Type 0 where
   pub first : ℕ
   pub rows : ℕ
 
+-- a raster, by its parts
 abbrev pub raster_of : ℕ → ℕ → ℕ → ℕ → RasterSize
 raster_of width height first rows = record { width = width; height = height; first = first; rows = rows }
 

@@ -15,7 +15,7 @@
 //!
 //! Read `found`, `lines` and `field`, with `specs/Field.antt` beside them, and then `raster` and `reader`, with
 //! `specs/Rows.antt`. `luma_row` reads the rows; `vitc_reader` writes the bits of a line as its runs. Nothing here
-//! allocates or overflows. No command stands on this crate yet.
+//! allocates or overflows.
 #![tactic(auto)]
 
 mod field;

@@ -10,6 +10,7 @@ use Rattle.luma_row.specs.Place.{apart, eighth}
 abbrev pub cell : List ℕ → Place → ℕ → ℕ
 cell row place bit = light row (eighth place (8 * bit + 7)) - light row (eighth place (8 * bit + 1))
 
+-- the light of each of the 90 cells
 abbrev pub cells_of : List ℕ → Place → List ℕ
 cells_of row place = map (cell row place) (range_with_len 0 90)
 
@@ -17,6 +18,7 @@ cells_of row place = map (cell row place) (range_with_len 0 90)
 abbrev pub light_of : List ℕ → ℕ → ℕ
 light_of cells pair = get_or cells (10 * pair) 0
 
+-- the light of the 0 of a sync pair
 abbrev pub dark_of : List ℕ → ℕ → ℕ
 dark_of cells pair = get_or cells (10 * pair + 1) 0
 

@@ -27,17 +27,17 @@ abbrev pub Moves : List ℕ → ℕ → Place → Place → Type 0
 Moves row step from to =
     (number : ℕ) × IsFirstBest 9 (worth row from step) number × (to ≡ neighbour from step number)
 
--- so many moves one after another
+-- this many moves one after another
 abbrev pub Climbs : List ℕ → ℕ → ℕ → Place → Place → Type 0
 Climbs row step zero from to = to ≡ from
 Climbs row step (suc moves) from to = (between : Place) × Climbs row step moves from between × Moves row step between to
 
--- a number halved so many times, rounded down
+-- a number halved this many times, rounded down
 abbrev pub halved : ℕ → ℕ → ℕ
 halved number zero = number
 halved number (suc times) = halved number times / 2
 
--- six moves with each of so many steps: the first is this one, and each further one a half of the one before
+-- six moves with each of this many steps: the first is this one, and each further one a half of the one before
 abbrev pub Refines : List ℕ → ℕ → ℕ → Place → Place → Type 0
 Refines row step zero from to = to ≡ from
 Refines row step (suc steps) from to =

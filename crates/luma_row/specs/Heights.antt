@@ -18,9 +18,11 @@ smoothed cells pair = middle cells (pair - 1) + 2 * middle cells pair + middle c
 abbrev pub pair_before : ℕ → ℕ
 pair_before bit = min ((2 * bit - 1) / 20) 7
 
+-- where the middle of that pair is, in halves of a cell
 abbrev pub from : ℕ → ℕ
 from bit = 20 * pair_before bit + 1
 
+-- where the middle of the next pair is, in halves of a cell
 abbrev pub to : ℕ → ℕ
 to bit = 20 * pair_before bit + 21
 
@@ -32,12 +34,15 @@ abbrev pub above : List ℕ → ℕ → ℕ
 above cells bit = 160 * get_or cells bit 0 + (2 * bit - to bit) * smoothed cells (pair_before bit)
     + (from bit - 2 * bit) * smoothed cells (pair_before bit + 1)
 
+-- what is taken away for the threshold between the two middles
 abbrev pub below : List ℕ → ℕ → ℕ
 below cells bit = (to bit - 2 * bit) * smoothed cells (pair_before bit)
     + (2 * bit - from bit) * smoothed cells (pair_before bit + 1)
 
+-- the height of a bit: how far its light is above the threshold, negative if it is below
 unfoldable pub height : List ℕ → ℕ → ℤ
 height cells bit = pos (above cells bit) -ℤ pos (below cells bit)
 
+-- the heights of the 90 bits
 abbrev pub heights_of : List ℕ → List ℤ
 heights_of cells = map (height cells) (range_with_len 0 90)

@@ -3,6 +3,7 @@ use Rattle.std.specs.Prelude.{◌≡◌, ℕ, ◌^◌, ◌<◌, ◌≤◌, ℤ, 
 use Rattle.luma_row.specs.Heights.{smoothed}
 use Rattle.luma_row.specs.KeptTable.{IsFilled}
 
+-- the table has the nine smoothed middles
 abbrev pub AreSmoothed : List ℕ → List ℕ → Type 0
 AreSmoothed cells table = IsFilled (smoothed cells) 9 (2 ^ 27) 9 table
 
@@ -10,7 +11,7 @@ AreSmoothed cells table = IsFilled (smoothed cells) 9 (2 ^ 27) 9 table
 abbrev pub AreHeights : ℕ → List ℤ → Type 0
 AreHeights most heights = (bit : ℕ) → bit < 90 → unsigned_abs (get_or heights bit (pos 0)) ≤ most
 
--- the first so many of 90 heights are those of f
+-- the first `count` of 90 heights are those of f
 pub record AreHeightsTo (f : ℕ → ℤ) (most count : ℕ) (heights : List ℤ) : Type 0 where
   pub long : length heights ≡ 90
   pub filled : (bit : ℕ) → bit < count → get_or heights bit (pos 0) ≡ f bit

@@ -2,7 +2,7 @@
 use Rattle.std.specs.Prelude.{◌≡◌, ℕ, ◌*◌, ◌≤◌, List, length, get_or, take}
 use Rattle.std.specs.List.{sum}
 
--- the sums of the first pixels, up to each of so many
+-- the sums of the first pixels, up to each of this many
 pub record AreSumsTo (row table : List ℕ) (count : ℕ) : Type 0 where
   pub sums : (pixel : ℕ) → pixel ≤ count → get_or table pixel 0 ≡ sum (take pixel row)
   pub most : (pixel : ℕ) → pixel ≤ count → get_or table pixel 0 ≤ 255 * pixel

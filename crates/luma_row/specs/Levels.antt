@@ -5,6 +5,7 @@ use Rattle.std.specs.List.{range_with_len}
 use Rattle.luma_row.specs.declared.levels.Levels.{Levels}
 use Rattle.luma_row.specs.Choice.{all_of, any_of}
 
+-- the height of a bit of a row
 abbrev pub height_at : Levels → ℕ → ℤ
 height_at levels bit = get_or levels.heights bit (pos 0)
 
@@ -25,6 +26,7 @@ is_firm levels bit = leb (40 * levels.swing) (9 * unsigned_abs (height_at levels
 abbrev pub is_opposite : Levels → Levels → ℕ → Bool
 is_opposite a b bit = is_firm a bit && is_firm b bit && cond (is_one a bit) (not (is_one b bit)) (is_one b bit)
 
+-- two rows contradict each other in some bit
 abbrev pub contradict : Levels → Levels → Bool
 contradict a b = any_of 90 (is_opposite a b)
 
@@ -32,10 +34,11 @@ contradict a b = any_of 90 (is_opposite a b)
 abbrev pub sum_at : Levels → Levels → ℕ → ℤ
 sum_at a b bit = height_at a bit +ℤ height_at b bit
 
+-- two rows as one: their swings and their heights are added
 abbrev pub joined : Levels → Levels → Levels
 joined a b = record { swing = a.swing + b.swing; heights = map (sum_at a b) (range_with_len 0 90) }
 
--- the last so many bits as a number, the first of them the lowest
+-- the last n bits as a number, the first of them the lowest
 unfoldable pub last_bits : ℕ → Levels → ℕ
 last_bits zero levels = 0
 last_bits (suc count) levels = 2 * last_bits count levels + cond (is_one levels (89 - count)) 1 0

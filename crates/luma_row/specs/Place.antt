@@ -9,7 +9,7 @@ use Rattle.luma_row.specs.Width.{end}
 abbrev pub apart : Place → ℕ
 apart place = place.last - place.first
 
--- where so many eighths of a cell of the word end, rounded down: the word begins a cell before the first 1 ends
+-- where this many eighths of a cell of the word end, rounded down: the word begins a cell before the first 1 ends
 abbrev pub eighth : Place → ℕ → ℕ
 eighth place n = (640 * place.first + apart place * n - 8 * apart place) / 640
 

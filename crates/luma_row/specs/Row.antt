@@ -9,9 +9,11 @@ use Rattle.luma_row.specs.Climb.{IsPlace}
 use Rattle.luma_row.specs.Coarse.{IsCoarse}
 use Rattle.luma_row.specs.Heights.{heights_of}
 
+-- the lightest pixel of a row
 abbrev pub lightest : List ℕ → ℕ
 lightest row = fold max 0 row
 
+-- the darkest pixel of a row
 abbrev pub darkest : List ℕ → ℕ
 darkest row = fold min 255 row
 

@@ -18,12 +18,15 @@ end width = 16 * width + 4 * grain width
 abbrev pub narrowest : ℕ → ℕ
 narrowest width = 8 * ten_cells width * 95 / 100
 
+-- the greatest distance from the first sync pair to the ninth
 abbrev pub widest : ℕ → ℕ
 widest width = 8 * ten_cells width * 105 / 100
 
+-- how many distances are looked at
 abbrev pub distances : ℕ → ℕ
 distances width = (widest width - narrowest width) / (2 * grain width) + 1
 
+-- the distance with this number, from 0
 abbrev pub distance : ℕ → ℕ → ℕ
 distance width number = narrowest width + 2 * grain width * number
 
@@ -32,8 +35,10 @@ distance width number = narrowest width + 2 * grain width * number
 abbrev pub earliest : ℕ → ℕ
 earliest width = ten_cells width * 95 / 1000
 
+-- how many starts are looked at for a distance
 abbrev pub starts : ℕ → ℕ → ℕ
 starts width apart = (end width - 89 * apart / 80 - earliest width) / grain width + 1
 
+-- the start with this number, from 0
 abbrev pub start : ℕ → ℕ → ℕ
 start width number = earliest width + grain width * number

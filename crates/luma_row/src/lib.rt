@@ -20,10 +20,8 @@
 //! - A row says one thing (`laws::a_row_says_one_thing`).
 //!
 //! Read `width`, `light` and `place`, then `coarse` and `climb`, which find the word, then `cells`, `heights`,
-//! `levels` and
-//! `row`, each with its file of specs/. Places are counted in sixteenths of a pixel. Nothing here allocates
-//! or overflows, whatever the pixels are. No command stands on this crate yet; `vitc_reader` writes bits as the runs
-//! of a line, and reads them.
+//! `levels` and `row`, each with its file of specs/. Places are counted in sixteenths of a pixel. Nothing here
+//! allocates or overflows, whatever the pixels are. `vitc_reader` writes bits as the runs of a line, and reads them.
 #![tactic(auto)]
 
 mod best;

@@ -12,9 +12,10 @@ use Rattle.std.proofs.lemmas.List.Folds.{list_all_at}
 use Rattle.std.proofs.lemmas.Option.{get_or_from_slice_get, slice_get_within}
 use Rattle.made_commands.specs.About.{Usage, usage_line, usages}
 use Rattle.made_commands.specs.Pages.{Row, examples, line_of, page_at, page_in, page_lines, said, text_of, value_lines}
-use Rattle.made_commands.specs.Pages.{values_of_labels, values_of_recordings, values_of_sound}
+use Rattle.made_commands.specs.Pages.{values_of_labels, values_of_recordings, values_of_signals}
 
-pub a_row_fits : {X : Type 0} (topic : List ℕ) (bytes : X → Row) (rows : List X) (index : ℕ) (d : X) → index < length rows
+pub a_row_fits : {X : Type 0} (topic : List ℕ) (bytes : X → Row) (rows : List X) (index : ℕ) (d : X)
+    → index < length rows
     → length (line_of topic (bytes (get_or rows index d))) ≤ length (page_lines topic (map bytes (drop index rows)))
 a_row_fits topic bytes rows index d lt =
     let first = line_of topic (bytes (get_or rows index d)) in
@@ -36,7 +37,7 @@ passes_at rows test i row all found =
     ]
 
 each_fits : list_all (λ (usage : Usage). nat_le (length (text_of usage)) 4096) usages ≡ true
-unfolding said values_of_recordings values_of_sound values_of_labels examples
+unfolding said values_of_recordings values_of_signals values_of_labels examples
 each_fits = search rules
 
 fits_of : (found : Option Usage) → ((usage : Usage) → found ≡ Some usage → length (text_of usage) ≤ 4096)
@@ -44,7 +45,8 @@ fits_of : (found : Option Usage) → ((usage : Usage) → found ≡ Some usage �
 fits_of None fits = omega arith
 fits_of (Some usage) fits = fits usage refl
 
-fits_at : (table : List Usage) (page : ℕ) → list_all (λ (usage : Usage). nat_le (length (text_of usage)) 4096) table ≡ true
+fits_at : (table : List Usage) (page : ℕ)
+    → list_all (λ (usage : Usage). nat_le (length (text_of usage)) 4096) table ≡ true
     → length (page_in table page) ≤ 4096
 fits_at table page all = fits_of (slice_get table page) (λ usage found.
     leb-true _ _ (passes_at table (λ (row : Usage). nat_le (length (text_of row)) 4096) page usage all found))
@@ -60,8 +62,8 @@ pub four_long : (a b c d : List ℕ) → length (a ++ b ++ c ++ d) ≡ length a 
 four_long a b c d = omega (arith, length-append a b, length-append (a ++ b) c, length-append (a ++ b ++ c) d)
 
 pub values_long : (command : List ℕ) → length (value_lines command) ≡ length (page_lines command values_of_recordings)
-    + (length (page_lines command values_of_sound) + length (page_lines command values_of_labels))
-values_long command = three_long (page_lines command values_of_recordings) (page_lines command values_of_sound)
+    + (length (page_lines command values_of_signals) + length (page_lines command values_of_labels))
+values_long command = three_long (page_lines command values_of_recordings) (page_lines command values_of_signals)
     (page_lines command values_of_labels)
 
 pub parts_long : (usage : Usage) → length (text_of usage) ≡ length (usage_line usage)

@@ -33,5 +33,6 @@ version_line = codes "tc " ++ VERSION.now ++ codes "\n"
 abbrev pub told_help : Told
 told_help = told_text help_text
 
+-- what `version` writes, and what it promises
 abbrev pub told_version : Told
 told_version = told_text version_line

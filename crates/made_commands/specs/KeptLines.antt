@@ -21,7 +21,7 @@ pub record IsLining (l : Lining) : Type 0 where
   pub lines : HasLines (system_with l.label.count)
   pub length : IsLineLength l.length
 
--- the fields of so many frames from a label on
+-- the fields of this many frames from a label on
 abbrev pub frame_bytes : ℕ → Address → ℕ → List ℕ
 frame_bytes length label frames = flat_map field_bytes (map (field_lines length) (words_from label frames))
 

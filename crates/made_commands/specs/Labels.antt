@@ -29,5 +29,6 @@ pub record NamesTheLabel (label : Address) (written : List ℕ) : Type 0 where
 abbrev pub told_number : Address → Told
 told_number label = told_made (number_line (number_of label)) (NumbersTheLabel label)
 
+-- what `label` writes, and what it promises
 abbrev pub told_label : Address → Told
 told_label label = told_made (label_line label) (NamesTheLabel label)

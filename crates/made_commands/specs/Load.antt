@@ -85,7 +85,7 @@ one_draw g = record g { state = drawn g.state }
 abbrev pub next_bits : Chance → Address → List Bool
 next_bits g label = played_bits (next_word g label)
 
--- so many words from a label on, each a label further
+-- this many words from a label on, each a label further
 unfoldable pub words_by : Chance → Address → ℕ → List Played
 words_by g label zero = []
 words_by g label (suc n) =
@@ -102,6 +102,7 @@ word_cells_by g label (suc n) =
 abbrev pub lock : List Bool
 lock = false ∷ true ∷ []
 
+-- the generator before the first cell: its state is the seed
 abbrev pub begun : Loading → Chance
 begun l = begins_with l.seed
 
@@ -113,6 +114,7 @@ first_label seed = unwrap_or (slice_get (labels C25) (seed % day_length C25)) (a
 abbrev pub load_words : Loading → List Played
 load_words l = words_by (behind (begun l) lock) (first_label l.seed) l.words
 
+-- the cells of the recording: those by which a reader locks, and then those of its words
 abbrev pub load_cells : Loading → List Cell
 load_cells l = cells_by (begun l) lock ++ word_cells_by (behind (begun l) lock) (first_label l.seed) l.words
 

@@ -20,7 +20,7 @@ use Rattle.ltc_jam.specs.Word.{played_as}
 use Rattle.tc_job.specs.Stripe.{Striping}
 use Rattle.tc_command.specs.Told.{Told, told_made}
 
--- so many frames from a label on in a direction, each with its word
+-- this many frames from a label on in a direction, each with its word
 unfoldable pub frames_from : Direction → Address → ℕ → List Played
 frames_from direction label frames =
     map (λ k. played_as direction (step label (steps_in direction k))) (range_with_len 0 frames)

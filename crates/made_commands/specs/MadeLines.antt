@@ -26,11 +26,11 @@ field_word label mark = record { fields = (word_of label).fields; field_mark = m
 abbrev pub words_of_frame : Address → List VitcWord
 words_of_frame label = field_word label false ∷ field_word label true ∷ []
 
--- those of so many frames from a label on
+-- those of this many frames from a label on
 unfoldable pub words_from : Address → ℕ → List VitcWord
 words_from label frames = flat_map (λ k. words_of_frame (step label (pos k))) (range_with_len 0 frames)
 
--- the lines of a field, two equal ones: the runs of the bits of its word on a line of so many ticks
+-- the lines of a field, two equal ones: the runs of the bits of its word on a line of this many ticks
 abbrev pub field_lines : ℕ → VitcWord → List (List ℕ)
 field_lines length word = runs_in length (line_of word) ∷ runs_in length (line_of word) ∷ []
 
@@ -38,6 +38,7 @@ field_lines length word = runs_in length (line_of word) ∷ runs_in length (line
 abbrev pub made_words : LineStriping → List VitcWord
 made_words s = words_from s.label s.frames
 
+-- the fields of the file, each with its lines as runs
 abbrev pub made_fields : LineStriping → List (List (List ℕ))
 made_fields s = map (field_lines s.length) (made_words s)
 

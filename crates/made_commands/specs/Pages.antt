@@ -3,7 +3,7 @@ use Rattle.std.specs.Prelude.{ℕ, List, [], ◌++◌, codes, map, slice_get, if
 use Rattle.std.specs.List.{flat_map}
 use Rattle.std.specs.Str.{bytes_eq}
 use Rattle.tc_job.specs.declared.pages.TheConstants.{EXAMPLES, EXIT_NUMBERS, SAID, VALUES_OF_LABELS}
-use Rattle.tc_job.specs.declared.pages.TheConstants.{VALUES_OF_RECORDINGS, VALUES_OF_SOUND}
+use Rattle.tc_job.specs.declared.pages.TheConstants.{VALUES_OF_RECORDINGS, VALUES_OF_SIGNALS}
 use Rattle.tc_command.specs.Told.{Told, told_text}
 use Rattle.made_commands.specs.About.{Usage, usage_line, usages}
 
@@ -27,8 +27,8 @@ said = map (λ row. (row.0.now, row.1.0.now, row.1.1.now, row.1.2.now)) SAID
 unfoldable pub values_of_recordings : List Row
 values_of_recordings = map (λ row. (row.0.now, row.1.0.now, row.1.1.now, row.1.2.now)) VALUES_OF_RECORDINGS
 
-unfoldable pub values_of_sound : List Row
-values_of_sound = map (λ row. (row.0.now, row.1.0.now, row.1.1.now, row.1.2.now)) VALUES_OF_SOUND
+unfoldable pub values_of_signals : List Row
+values_of_signals = map (λ row. (row.0.now, row.1.0.now, row.1.1.now, row.1.2.now)) VALUES_OF_SIGNALS
 
 unfoldable pub values_of_labels : List Row
 values_of_labels = map (λ row. (row.0.now, row.1.0.now, row.1.1.now, row.1.2.now)) VALUES_OF_LABELS
@@ -42,7 +42,8 @@ exit_numbers = map (λ row. (row.0.now, row.1.0.now, row.1.1.now, row.1.2.now)) 
 -- the values of the words of a command
 abbrev pub value_lines : List ℕ → List ℕ
 value_lines command =
-    page_lines command values_of_recordings ++ page_lines command values_of_sound ++ page_lines command values_of_labels
+    page_lines command values_of_recordings ++ page_lines command values_of_signals
+    ++ page_lines command values_of_labels
 
 -- how a command is typed, what it does, the values of its words, and its examples
 abbrev pub text_of : Usage → List ℕ

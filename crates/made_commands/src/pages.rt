@@ -5,7 +5,7 @@ ghost use Rattle.arrayvec.specs.ArrayVec.{array_vec_len};
 ghost use Rattle.made_commands.specs.KeptLine.{rest_of};
 ghost use Rattle.made_commands.specs.Pages.{examples, line_of, page_in, page_lines, page_text, said, statuses_text};
 ghost use Rattle.made_commands.specs.Pages.{text_of, value_lines};
-ghost use Rattle.made_commands.specs.Pages.{values_of_labels, values_of_recordings, values_of_sound};
+ghost use Rattle.made_commands.specs.Pages.{values_of_labels, values_of_recordings, values_of_signals};
 ghost use Rattle.made_commands.specs.Pages.{told_page, told_statuses};
 ghost use Rattle.tc_command.specs.Told.{WorksAsTold};
 
@@ -14,7 +14,7 @@ use tc_command::{PIECE, Piece, Stop, make};
 use tc_io::{Sink, Source, put_bytes};
 use tc_job::PageLine;
 use tc_job::pages::{
-    EXAMPLES, EXIT_NUMBERS, SAID, VALUES_OF_LABELS, VALUES_OF_RECORDINGS, VALUES_OF_SOUND,
+    EXAMPLES, EXIT_NUMBERS, SAID, VALUES_OF_LABELS, VALUES_OF_RECORDINGS, VALUES_OF_SIGNALS,
 };
 use tc_job::usages::USAGES;
 
@@ -83,7 +83,7 @@ fn push_values(command: &str, room: &mut Piece)
     ensures len { array_vec_len room.new ≡ array_vec_len room.old + length (value_lines command.now) }
 {
     push_recording_values(command, room);
-    push_sound_values(command, room);
+    push_signal_values(command, room);
     push_label_values(command, room);
 }
 
@@ -92,19 +92,20 @@ fn push_values(command: &str, room: &mut Piece)
 fn push_recording_values(command: &str, room: &mut Piece)
     requires { array_vec_len room.old + length (page_lines command.now values_of_recordings) ≤ PIECE }
     ensures items { room.new.items ≡ room.old.items ++ page_lines command.now values_of_recordings }
-    ensures len { array_vec_len room.new ≡ array_vec_len room.old + length (page_lines command.now values_of_recordings) }
+    ensures len { array_vec_len room.new
+        ≡ array_vec_len room.old + length (page_lines command.now values_of_recordings) }
 {
     push_lines(command, &VALUES_OF_RECORDINGS, room);
 }
 
-/// Those of a command of sound.
-#[tactic(auto, unfolding(crate::specs::Pages::values_of_sound))]
-fn push_sound_values(command: &str, room: &mut Piece)
-    requires { array_vec_len room.old + length (page_lines command.now values_of_sound) ≤ PIECE }
-    ensures items { room.new.items ≡ room.old.items ++ page_lines command.now values_of_sound }
-    ensures len { array_vec_len room.new ≡ array_vec_len room.old + length (page_lines command.now values_of_sound) }
+/// Those of a command of sound or of pixels.
+#[tactic(auto, unfolding(crate::specs::Pages::values_of_signals))]
+fn push_signal_values(command: &str, room: &mut Piece)
+    requires { array_vec_len room.old + length (page_lines command.now values_of_signals) ≤ PIECE }
+    ensures items { room.new.items ≡ room.old.items ++ page_lines command.now values_of_signals }
+    ensures len { array_vec_len room.new ≡ array_vec_len room.old + length (page_lines command.now values_of_signals) }
 {
-    push_lines(command, &VALUES_OF_SOUND, room);
+    push_lines(command, &VALUES_OF_SIGNALS, room);
 }
 
 /// Those of a command that makes or takes labels.

@@ -54,6 +54,7 @@ full_address hours minutes seconds frames = address (count_with (hours / 32)) (h
 abbrev pub piece_of : ℕ → ℕ
 piece_of quarter = quarter / 16
 
+-- the four bits that a quarter frame carries
 abbrev pub bits_of : ℕ → ℕ
 bits_of quarter = quarter % 16
 

@@ -49,6 +49,7 @@ numbers_of a =
 abbrev pub rising : Address → List ℕ
 rising a = quarters (numbers_of a)
 
+-- the quarter frames of a label, from piece 7 to piece 0
 abbrev pub falling : Address → List ℕ
 falling a = quarters (reverse (numbers_of a))
 
@@ -61,6 +62,7 @@ AreLabels (a ∷ more) = IsLabel a × AreLabels more
 abbrev pub rising_half : Address → List ℕ
 rising_half a = quarters (take 4 (numbers_of a))
 
+-- the first four of them, pieces 7 to 4
 abbrev pub falling_half : Address → List ℕ
 falling_half a = quarters (take 4 (reverse (numbers_of a)))
 
@@ -68,6 +70,7 @@ falling_half a = quarters (take 4 (reverse (numbers_of a)))
 abbrev pub all_rising : List Address → List ℕ
 all_rising labels = flat_map rising labels
 
+-- those of some labels, one label after another
 abbrev pub all_falling : List Address → List ℕ
 all_falling labels = flat_map falling labels
 

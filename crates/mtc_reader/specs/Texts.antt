@@ -7,6 +7,7 @@ use Rattle.line_text.specs.Line.{direction_name}
 use Rattle.mtc_reader.specs.declared.event.MtcEvent.{MtcEvent}
 use Rattle.mtc_reader.specs.declared.event.MtcEvent.TheVariants.{Full, Quarter, RefusedFull, RefusedQuarter}
 
+-- the word for each fault of an address
 abbrev pub fault_name : LabelFault → List ℕ
 fault_name faults.Hours = codes "hours"
 fault_name faults.Minutes = codes "minutes"

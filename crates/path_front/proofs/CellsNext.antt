@@ -12,8 +12,8 @@ use Rattle.cell_path.specs.Lengths.{length_in}
 use Rattle.cell_path.specs.Path.{signed}
 use Rattle.path_front.specs.declared.group.Sounds.{Sounds}
 use Rattle.std.specs.Option.{option_to_list}
-use Rattle.path_front.specs.declared.grid.Grid.{Grid}
-use Rattle.path_front.specs.declared.grid.Grid.TheVariants.{Repeat, Sum}
+use Rattle.step_grid.specs.declared.grid.Grid.{Grid}
+use Rattle.step_grid.specs.declared.grid.Grid.TheVariants.{Repeat, Sum}
 use Rattle.path_front.specs.Clip.{clip_at, clipped, clipped_to}
 use Rattle.path_front.specs.Grid.{due, on_grid}
 use Rattle.path_front.specs.Hold.{held_at}

@@ -8,7 +8,7 @@ use Rattle.cell_path.specs.declared.cell.Step.{Step}
 use Rattle.cell_path.specs.declared.placed.Placed.{Placed}
 use Rattle.cell_path.specs.Decided.{AreDecided, AreDecidedInAll}
 use Rattle.path_front.specs.declared.gate.Judged.{Judged}
-use Rattle.path_front.specs.declared.grid.Grid.{Grid}
+use Rattle.step_grid.specs.declared.grid.Grid.{Grid}
 use Rattle.path_front.specs.declared.group.Sounds.{Sounds}
 use Rattle.path_front.specs.declared.judging.Phase.TheVariants.{Sound}
 use Rattle.path_front.specs.declared.measured.Measured.{Measured}

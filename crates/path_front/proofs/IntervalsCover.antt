@@ -17,15 +17,16 @@ use Rattle.cell_path.specs.declared.placed.Placed.{Placed}
 use Rattle.cell_path.specs.Decided.{end_behind, AreDecidedInAll}
 use Rattle.cell_path.specs.Spaced.{AreApart}
 use Rattle.path_front.specs.declared.gate.Judged.{Judged}
-use Rattle.path_front.specs.declared.grid.Grid.{Grid}
-use Rattle.path_front.specs.declared.grid.Grid.TheVariants.{Repeat, Sum}
+use Rattle.step_grid.specs.declared.grid.Grid.{Grid}
+use Rattle.step_grid.specs.declared.grid.Grid.TheVariants.{Repeat, Sum}
 use Rattle.path_front.specs.declared.group.Sounds.{Sounds}
 use Rattle.path_front.specs.declared.measured.Measured.{Measured}
 use Rattle.path_front.specs.Cells.{cell_behind, measured_cells}
 use Rattle.path_front.specs.Clip.{clipped}
 use Rattle.path_front.specs.Front.{intervals_before, judgements, AreIntervals}
 use Rattle.path_front.specs.Gate.{breaks}
-use Rattle.path_front.specs.Grid.{mean_of, on_grid, waiting, AreStepsOf, IsGrid}
+use Rattle.path_front.specs.Grid.{mean_of, on_grid, waiting}
+use Rattle.step_grid.specs.Grid.{AreStepsOf, IsGrid}
 use Rattle.path_front.specs.Steps.{path_steps, sounds_of, with_held}
 use Rattle.path_front.specs.Tiles.{cut, intervals, tiles_of}
 use Rattle.path_front.proofs.FrontNext.{flat_pushed}

@@ -13,7 +13,7 @@ use Rattle.cell_path.specs.declared.placed.Placed.{Placed}
 use Rattle.cell_path.specs.Decided.{end_behind, AreDecided, AreDecidedInAll}
 use Rattle.cell_path.specs.Spaced.{AreApart}
 use Rattle.path_front.specs.declared.fit.Usual.{Usual}
-use Rattle.path_front.specs.declared.grid.Grid.{Grid}
+use Rattle.step_grid.specs.declared.grid.Grid.{Grid}
 use Rattle.path_front.specs.declared.group.Sounds.{Sounds}
 use Rattle.path_front.specs.declared.judging.Phase.{Phase}
 use Rattle.path_front.specs.declared.judging.Phase.TheVariants.{Sound, Rest, Drain}

@@ -2,8 +2,8 @@
 use Rattle.std.proofs.Common.{◌≡◌, ℕ, zero, suc, ℤ, List, [], ◌∷◌, ◌++◌, Some, None, replicate, refl, ap}
 use Rattle.std.proofs.Common.{subst, sym, ◌∙◌}
 use Rattle.std.specs.Option.{option_to_list}
-use Rattle.path_front.specs.declared.grid.Grid.{Grid}
-use Rattle.path_front.specs.declared.grid.Grid.TheVariants.{Repeat, Sum}
+use Rattle.step_grid.specs.declared.grid.Grid.{Grid}
+use Rattle.step_grid.specs.declared.grid.Grid.TheVariants.{Repeat, Sum}
 use Rattle.path_front.specs.declared.group.Sounds.{Sounds}
 use Rattle.path_front.specs.Clip.{clip_at, clipped, clipped_to, sizes_of}
 use Rattle.path_front.specs.Grid.{due, on_grid, GroupState, GroupStandsFor}

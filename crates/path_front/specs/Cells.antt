@@ -32,6 +32,7 @@ abbrev pub EndWithin : ℕ → List Placed → Type 0
 EndWithin count [] = Unit {0}
 EndWithin count (placed ∷ before) = (placed.end ≤ count) × EndWithin count before
 
+-- the steps, the sound of the latest ones, the decisions, and where the last cell given ended
 pub record CellsState : Type 0 where
   pub steps : StepsState
   pub latest : LatestState

@@ -4,6 +4,7 @@ use Rattle.std.specs.Prelude.{ℕ, leb, cond, ℤ, pos, neg_ℤ, int_le, unsigne
 use Rattle.path_front.specs.declared.clip.TheConstants.{CLIP}
 use Rattle.path_front.specs.Sizes.{mean_size}
 
+-- the sizes of samples
 abbrev pub sizes_of : List ℤ → List ℕ
 sizes_of samples = map unsigned_abs samples
 

@@ -19,7 +19,7 @@ outside range is_below level =
 abbrev pub half_level : Half → ℕ → ℕ
 half_level half length = FINE * unsigned_abs half.sum / length
 
--- the mean square of a half of a cell of so many steps, less the square of its mean; and the square of how far its
+-- the mean square of a half of a cell of this many steps, less the square of its mean; and the square of how far its
 -- level
 -- lies outside the range
 abbrev pub half_fit : Range → Half → ℕ → HalfFit
@@ -28,6 +28,7 @@ half_fit range half length =
     let far = outside range (int_lt half.sum (pos 0)) level in
     record { spread = FINE * half.squares / length * FINE - level * level; outside = far * far }
 
+-- how both halves of a cell fit a range of levels
 abbrev pub fit_of : Range → Measured → Fit
 fit_of range cell =
     record { first = half_fit range cell.first cell.length; second = half_fit range cell.second cell.length }
@@ -58,16 +59,19 @@ usual_after None range fit = record {
 }
 usual_after (Some usual) range fit = moved usual range fit
 
+-- how great the levels of a range are at most
 pub record IsRange (range : Range) : Type 0 where
   pub least : range.least ≤ 2 ^ 21
   pub most : range.most ≤ 2 ^ 21
 
+-- how great the squares of a fit are at most
 pub record IsFit (fit : Fit) : Type 0 where
   pub first_spread : fit.first.spread ≤ 2 ^ 42
   pub first_outside : fit.first.outside ≤ 2 ^ 44
   pub second_spread : fit.second.spread ≤ 2 ^ 42
   pub second_outside : fit.second.outside ≤ 2 ^ 44
 
+-- how great the usual squares are at most
 pub record IsUsual (usual : Usual) : Type 0 where
   pub spread : usual.spread ≤ 2 ^ 44
   pub outside : usual.outside ≤ 2 ^ 46

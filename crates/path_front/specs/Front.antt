@@ -7,7 +7,7 @@ use Rattle.cell_path.specs.declared.placed.Placed.{Placed}
 use Rattle.cell_path.specs.Decided.{AreDecided, AreDecidedInAll}
 use Rattle.path_front.specs.declared.gate.Judged.{Judged}
 use Rattle.path_front.specs.declared.gate.TheConstants.{NEIGHBOURS}
-use Rattle.path_front.specs.declared.grid.Grid.{Grid}
+use Rattle.step_grid.specs.declared.grid.Grid.{Grid}
 use Rattle.path_front.specs.declared.judging.Phase.TheVariants.{Sound, Drain}
 use Rattle.path_front.specs.declared.measured.Measured.{Measured}
 use Rattle.path_front.specs.Cells.{measured_cells, IsIdle, SameSound}
@@ -47,11 +47,13 @@ pub record AreIntervalsSoFar (grid : Grid) (ticks least : ℕ) (samples : List �
   pub intervals_are : intervals
       ≡ intervals_of_judged ticks least (measured_cells (sounds_of grid least samples) cells)
 
+-- the cells on their way through the gate, the ticks of a step, and the intervals that wait
 pub record FrontState : Type 0 where
   pub judging : JudgingState
   pub ticks : ℕ
   pub tiles : List ℕ
 
+-- a step has from 2 to 65,536 ticks
 pub record IsFront (state : FrontState) : Type 0 where
   pub least : 2 ≤ state.ticks
   pub most : state.ticks ≤ 2 ^ 16

@@ -65,6 +65,7 @@ breaks least before cell behind =
     cell.jumps
     || refuses least (long_of (cell ∷ before)) (usual_of before (cell ∷ behind)) before cell behind
 
+-- the least level, the cells before and ahead, the slow mean of levels, and what is usual
 pub record GateState : Type 0 where
   pub least : ℕ
   pub before : List Measured
@@ -72,6 +73,7 @@ pub record GateState : Type 0 where
   pub long : ℕ
   pub usual : Option Usual
 
+-- how many cells a gate keeps at most, and how great its numbers are
 pub record AreGated (state : GateState) : Type 0 where
   pub least : state.least ≤ 2 ^ 15
   pub before : All IsMeasured state.before

@@ -2,15 +2,9 @@
 use Rattle.std.specs.Prelude.{◌≡◌, ℕ, ◌+◌, ◌*◌, ◌^◌, ◌<◌, ◌≤◌, ◌==◌, cond, ℤ, pos, ◌+ℤ◌, int_div, unsigned_abs}
 use Rattle.std.specs.Prelude.{List, [], ◌∷◌, ◌++◌, length, map, replicate, Option, Some, None}
 use Rattle.std.specs.Option.{option_to_list}
-use Rattle.path_front.specs.declared.grid.Grid.{Grid}
-use Rattle.path_front.specs.declared.grid.Grid.TheVariants.{Repeat, Sum}
-use Rattle.path_front.specs.declared.grid.TheConstants.{MAX_REPEATS, MAX_SUMMED}
+use Rattle.step_grid.specs.declared.grid.Grid.{Grid}
+use Rattle.step_grid.specs.declared.grid.Grid.TheVariants.{Repeat, Sum}
 use Rattle.path_front.specs.declared.group.Sounds.{Sounds}
-
--- from one to eight steps for a sample, or as many samples for a step as may be summed
-abbrev pub IsGrid : Grid → Type 0
-IsGrid (Repeat repeats) = (1 ≤ repeats) × (repeats ≤ MAX_REPEATS)
-IsGrid (Sum summed) = (2 ≤ summed) × (summed ≤ MAX_SUMMED)
 
 -- the sum of some numbers
 unfoldable pub total : List ℤ → ℤ
@@ -24,7 +18,7 @@ mean_of many sounds = record {
   held = int_div (total (map (λ (s : Sounds). s.held) sounds)) (pos many);
 }
 
--- the samples that no step has taken yet: it takes them when they are so many
+-- the samples that no step has taken yet: it takes them when there are as many as are summed
 unfoldable pub waiting : ℕ → List Sounds → List Sounds
 waiting summed [] = []
 waiting summed (latest ∷ before) =
@@ -43,22 +37,18 @@ on_grid (Repeat repeats) (latest ∷ before) = replicate repeats latest ++ on_gr
 on_grid (Sum summed) (latest ∷ before) =
     option_to_list (due summed (latest ∷ before)) ++ on_grid (Sum summed) before
 
--- so many steps are made of so many samples: as many of each, or one of as many as are summed, where fewer may be left
-abbrev pub AreStepsOf : Grid → ℕ → ℕ → Type 0
-AreStepsOf (Repeat repeats) samples steps = steps ≡ samples * repeats
-AreStepsOf (Sum summed) samples steps = (steps * summed ≤ samples) × (samples < (steps + 1) * summed)
-
 -- sounds of 16 bits, also with half of a mean size added
 pub record IsSounds (sounds : Sounds) : Type 0 where
   pub clipped : unsigned_abs sounds.clipped ≤ 2 ^ 15
   pub held : unsigned_abs sounds.held ≤ 2 ^ 15 + 2 ^ 14
 
+-- the samples that wait for a step: how many, and the sums of them clipped and held
 pub record GroupState : Type 0 where
   pub many : ℕ
   pub clipped : ℤ
   pub held : ℤ
 
--- the sums of so many sounds
+-- the sums of the sounds so far
 pub record AreGrouped (state : GroupState) : Type 0 where
   pub many : state.many < 2 ^ 16
   pub clipped : unsigned_abs state.clipped ≤ state.many * 2 ^ 15

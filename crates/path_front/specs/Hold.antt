@@ -8,6 +8,7 @@ use Rattle.path_front.specs.declared.hold.Loudness.{Loudness}
 use Rattle.path_front.specs.declared.hold.Side.{Side}
 use Rattle.path_front.specs.declared.hold.Side.TheVariants.{High, Low}
 
+-- no sound yet
 abbrev pub quiet : Loudness
 quiet = record { peak = 0; sum = 0 }
 
@@ -54,6 +55,7 @@ unfoldable pub held : ℕ → List ℤ → List ℤ
 held least [] = []
 held least (sample ∷ before) = held_at least (sample ∷ before) ∷ held least before
 
+-- the least threshold, how loud the sound is, and the side on which it is
 pub record HoldState : Type 0 where
   pub least : ℕ
   pub loudness : Loudness

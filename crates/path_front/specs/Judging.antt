@@ -27,6 +27,7 @@ CellsIn Sound cells samples given = CellsStandFor cells samples given
 CellsIn Rest cells samples given = CellsEndFor cells samples given
 CellsIn Drain cells samples given = AreDecidedInAll (path_steps (sounds_in cells samples)) given
 
+-- all cells of a sound that has ended have been given
 abbrev pub is_drain : Phase → Bool
 is_drain Sound = false
 is_drain Rest = false
@@ -38,11 +39,13 @@ closed Sound = Sound
 closed Rest = Drain
 closed Drain = Drain
 
+-- the cells, the gate, and the phase of the sound
 pub record JudgingState : Type 0 where
   pub cells : CellsState
   pub gate : GateState
   pub phase : Phase
 
+-- the gate has room for one cell more
 pub record AreJudging (state : JudgingState) : Type 0 where
   pub room : length state.gate.ahead ≤ 8
 

@@ -3,6 +3,7 @@ use Rattle.std.specs.Prelude.{◌≡◌, ℕ, ◌+◌, ◌-◌, ◌*◌, ◌%◌
 use Rattle.std.specs.List.{sum, All}
 use Rattle.path_front.specs.Sizes.{latest_sizes}
 
+-- the latest sizes, in a ring, how many there were, and the sum of those in the ring
 pub record SizesState : Type 0 where
   pub ring : List ℕ
   pub count : ℕ

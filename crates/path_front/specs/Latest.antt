@@ -4,10 +4,11 @@ use Rattle.std.specs.Prelude.{List, length, get_or, take, drop}
 use Rattle.std.specs.List.{sum_by, All}
 use Rattle.path_front.specs.Grid.{total}
 
--- so many steps up to the one so long ago
+-- this many steps up to the one so long ago
 abbrev pub part : ℕ → ℕ → List ℤ → List ℤ
 part ago many sounds = take many (drop ago sounds)
 
+-- the sum of some sounds
 abbrev pub sum_of : List ℤ → ℤ
 sum_of sounds = total sounds
 
@@ -15,6 +16,7 @@ sum_of sounds = total sounds
 abbrev pub squares_of : List ℤ → ℕ
 squares_of sounds = sum_by (λ sound. unsigned_abs sound * unsigned_abs sound) sounds
 
+-- the sound of the latest steps, in a ring, and how many steps there were
 pub record LatestState : Type 0 where
   pub ring : List ℤ
   pub count : ℕ
@@ -23,6 +25,7 @@ pub record LatestState : Type 0 where
 abbrev pub sound_ago : LatestState → ℕ → ℤ
 sound_ago latest ago = get_or latest.ring ((latest.count + 4_096 - ago) % 4_096) (pos 0)
 
+-- the ring has 4,096 sounds of at most 2^15, and at most 2^40 steps have come
 pub record AreLatest (latest : LatestState) : Type 0 where
   pub long : length latest.ring ≡ 4_096
   pub size : All (λ sound. unsigned_abs sound ≤ 2 ^ 15) latest.ring

@@ -12,6 +12,7 @@ above number = cond (int_le number (pos 0)) 0 (unsigned_abs number)
 abbrev pub level_of : Measured → ℕ
 level_of cell = above (cell.first.sum +ℤ cell.second.sum) * 32 / cell.length
 
+-- the mean of the levels of some cells
 abbrev pub mean_level : List Measured → ℕ
 mean_level cells = sum_by level_of cells / length cells
 

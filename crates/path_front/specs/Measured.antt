@@ -23,12 +23,13 @@ abbrev pub twice : ℕ → ℕ → ℕ → List ℤ → List ℤ
 twice shorter_ago longer_ago length sounds =
     part shorter_ago (length / 2) sounds ++ part longer_ago (length - length / 2) sounds
 
+-- a half of a cell: its sum with the sign of the path, and the sum of its squares
 abbrev pub half_of : Sign → ℕ → ℕ → ℕ → List ℤ → Half
 half_of sign shorter_ago longer_ago length sounds =
     let steps = twice shorter_ago longer_ago length sounds in
     record { sum = signed sign (sum_of steps); squares = squares_of steps }
 
--- a cell that ended so long ago, so many steps behind the one before it, and lasts so many
+-- a cell with its distance from the one before it, how long ago it ended, and its length, all in steps
 abbrev pub measured_at : Decided → ℕ → ℕ → ℕ → List ℤ → Measured
 measured_at decided span ago length sounds = record {
   span = span;
@@ -46,11 +47,12 @@ measured_of decided ended sounds =
     measured_at decided (decided.placed.end - ended) (length sounds - decided.placed.end)
     (length_in LENGTHS decided.placed.cell.place) sounds
 
--- of a cell of so many steps, each of 16 bits
+-- of a cell of this many steps, each of 16 bits
 pub record IsHalf (length : ℕ) (half : Half) : Type 0 where
   pub sum : unsigned_abs half.sum ≤ length * 2 ^ 15
   pub squares : half.squares ≤ length * 2 ^ 30
 
+-- how long a measured cell is, and how great the numbers of its halves are
 pub record IsMeasured (cell : Measured) : Type 0 where
   pub least_span : 2 ≤ cell.span
   pub most_span : cell.span ≤ 120

@@ -7,6 +7,6 @@ use Rattle.path_front.specs.declared.sizes.TheConstants.{MEANS}
 abbrev pub latest_sizes : List ℕ → List ℕ
 latest_sizes sizes = take MEANS sizes
 
--- so many times their mean, rounded down
+-- their mean times a number, rounded down
 abbrev pub mean_size : ℕ → List ℕ → ℕ
 mean_size times sizes = times * sum (latest_sizes sizes) / length (latest_sizes sizes)

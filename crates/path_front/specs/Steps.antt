@@ -2,12 +2,13 @@
 use Rattle.std.specs.Prelude.{◌≡◌, ℕ, ◌+◌, ◌<◌, ℤ, unsigned_abs}
 use Rattle.std.specs.Prelude.{List, [], ◌∷◌, ◌++◌, map, replicate, Option, Some, None}
 use Rattle.cell_path.specs.declared.cell.Step.{Step}
-use Rattle.path_front.specs.declared.grid.Grid.{Grid}
-use Rattle.path_front.specs.declared.grid.Grid.TheVariants.{Repeat, Sum}
+use Rattle.step_grid.specs.declared.grid.Grid.{Grid}
+use Rattle.step_grid.specs.declared.grid.Grid.TheVariants.{Repeat, Sum}
 use Rattle.path_front.specs.declared.group.Sounds.{Sounds}
 use Rattle.path_front.specs.declared.steps.Heard.{Heard}
 use Rattle.path_front.specs.Clip.{clipped, sizes_of}
-use Rattle.path_front.specs.Grid.{on_grid, GroupState, GroupStandsFor, IsGrid, IsSounds}
+use Rattle.path_front.specs.Grid.{on_grid, GroupState, GroupStandsFor, IsSounds}
+use Rattle.step_grid.specs.Grid.{IsGrid}
 use Rattle.path_front.specs.Hold.{held_at, HoldState, HoldStandsFor}
 use Rattle.path_front.specs.KeptSizes.{SizesState, SizesStandFor}
 use Rattle.path_front.specs.Sizes.{mean_size}
@@ -38,6 +39,7 @@ unfoldable pub path_steps : List Sounds → List Step
 path_steps [] = []
 path_steps (latest ∷ before) = (heard_at latest before).step ∷ path_steps before
 
+-- the grid, the clip, the hold, the samples that wait, the steps left of the latest sound, that sound, and the sizes
 pub record StepsState : Type 0 where
   pub grid : Grid
   pub clip : SizesState
@@ -52,6 +54,7 @@ abbrev pub HasRoom : Grid → GroupState → Type 0
 HasRoom (Repeat repeats) group = Unit {0}
 HasRoom (Sum summed) group = group.many < summed
 
+-- the grid is one that there is, fewer samples wait than it sums, and the latest sound is in range
 pub record AreSteps (state : StepsState) : Type 0 where
   pub grid : IsGrid state.grid
   pub room : HasRoom state.grid state.group
@@ -62,7 +65,7 @@ abbrev pub GroupStands : Grid → GroupState → List Sounds → Type 0
 GroupStands (Repeat repeats) group sounds = Unit {0}
 GroupStands (Sum summed) group sounds = GroupStandsFor summed group sounds
 
--- of the steps of these samples all but the latest, of which so many are left, have been given
+-- of the steps of these samples all but the latest, of which some are left, have been given
 pub record StepsStandFor (state : StepsState) (samples : List ℤ) (given : List Sounds) : Type 0 where
   pub clip : SizesStandFor state.clip (sizes_of samples)
   pub hold : HoldStandsFor state.hold (clipped samples)

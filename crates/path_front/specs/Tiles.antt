@@ -19,6 +19,7 @@ intervals One breaks whole half =
     let second = min half (whole - 2) in
     cut (breaks || ltb whole (half + 2)) ((whole - second) ∷ second ∷ [])
 
+-- the intervals of a judged cell, at this many ticks a step
 abbrev pub tiles_of : ℕ → Judged → List ℕ
 tiles_of ticks judged =
     intervals judged.cell.bit judged.breaks (judged.cell.span * ticks) (div_ceil (judged.cell.length * ticks) 2)

@@ -3,15 +3,15 @@ ghost use Rattle.std.specs.Prelude.{◌≡◌, ◌+◌, ◌^◌, ◌<◌, ◌≤
 ghost use Rattle.cell_path.specs.declared.placed.Placed.{Placed};
 ghost use Rattle.path_front.specs.Cells.{cell_behind, cells_left, sounds_in, CellsEndFor, CellsStandFor, GivesCell};
 ghost use Rattle.path_front.specs.Cells.{GivesLastCell, IsIdle, SameSound};
-ghost use Rattle.path_front.specs.Grid.{IsGrid};
+ghost use Rattle.step_grid.specs.Grid.{IsGrid};
 ghost use Rattle.path_front.specs.Measured.{IsMeasured};
 
-use crate::grid::Grid;
 use crate::latest::Latest;
 use crate::measured::{Measured, measure};
 use crate::steps::Steps;
 use cell_path::Decisions;
 use std::marker::Model;
+use step_grid::Grid;
 
 /// A sound on its way into cells.
 #[derive(Drop)]

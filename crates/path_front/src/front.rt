@@ -4,13 +4,13 @@ ghost use Rattle.std.specs.Prelude.{◌++◌, length};
 ghost use Rattle.path_front.specs.Cells.{SameSound};
 ghost use Rattle.path_front.specs.Front.{intervals_left, FrontStandsFor, GivesInterval, GoesOn, IsFrontSettled};
 ghost use Rattle.path_front.specs.Front.{IsReady};
-ghost use Rattle.path_front.specs.Grid.{IsGrid};
+ghost use Rattle.step_grid.specs.Grid.{IsGrid};
 ghost use Rattle.path_front.specs.declared.judging.Phase.TheVariants.{Rest};
 
-use crate::grid::Grid;
 use crate::judging::Judging;
-use crate::tile::{MAX_TICKS, Tiles, tiled};
+use crate::tile::{Tiles, tiled};
 use std::marker::Model;
+use step_grid::{Grid, MAX_TICKS};
 
 /// A sound on its way into the intervals of its best path, in fixed memory: about 350 KiB.
 #[derive(Drop)]

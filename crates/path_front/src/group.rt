@@ -3,8 +3,8 @@ ghost use Rattle.std.specs.Prelude.{◌≡◌, ◌+◌, ◌*◌, ◌^◌, ◌<�
 ghost use Rattle.path_front.specs.Grid.{due, GroupStandsFor, IsSounds};
 ghost use Rattle.path_front.specs.declared.group.Sounds.{Sounds};
 
-use crate::grid::MAX_SUMMED;
 use std::marker::Model;
+use step_grid::MAX_SUMMED;
 
 /// A sample of the sound, or the mean of some: clipped, and held besides.
 #[derive(Clone, Copy, Debug, PartialEq, Eq)]

@@ -1,4 +1,4 @@
-//! Holding the flat tops of spiky sound. Read next: `grid`.
+//! Holding the flat tops of spiky sound. Read next: `step_grid/src/grid.rt`.
 ghost use Rattle.std.specs.Prelude.{◌≡◌, ℕ, ◌+◌, ◌^◌, ◌<◌, ◌≤◌, ℤ, unsigned_abs, Option, List, [], ◌∷◌};
 ghost use Rattle.path_front.specs.Hold.{held_at, held_to, loudness_after, quiet, side_by, threshold_by};
 ghost use Rattle.path_front.specs.Hold.{HoldStandsFor, IsLoudness};

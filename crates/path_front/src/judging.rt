@@ -1,15 +1,15 @@
 //! The cells of a sound, judged. Read next: `front`.
 ghost use Rattle.std.specs.Prelude.{◌≡◌, ◌+◌, ◌^◌, ◌<◌, ◌≤◌, ℤ, IfSome, IfNone, List, [], ◌∷◌, length};
 ghost use Rattle.path_front.specs.Cells.{IsIdle, SameSound};
-ghost use Rattle.path_front.specs.Grid.{IsGrid};
+ghost use Rattle.step_grid.specs.Grid.{IsGrid};
 ghost use Rattle.path_front.specs.Judging.{closed, is_drain, GivesJudged, GivesNone, IsSettled, JudgingStandFor, Takes};
 ghost use Rattle.path_front.specs.declared.judging.Phase.TheVariants.{Sound, Rest, Drain};
 ghost use Rattle.path_front.specs.declared.measured.Measured.{Measured};
 
 use crate::cells::Cells;
 use crate::gate::{Gate, Judged};
-use crate::grid::Grid;
 use std::marker::Model;
+use step_grid::Grid;
 
 /// How far the sound is.
 #[derive(Clone, Copy, Debug, PartialEq, Eq)]

@@ -4,15 +4,13 @@ ghost use Rattle.std.specs.List.{sum};
 ghost use Rattle.path_front.specs.declared.clip.TheConstants.{CLIP};
 ghost use Rattle.path_front.specs.declared.gate.TheConstants.{NEIGHBOURS};
 ghost use Rattle.path_front.specs.declared.gate.Judged.{Judged};
-ghost use Rattle.path_front.specs.declared.grid.TheConstants.{MAX_REPEATS, MAX_SUMMED};
 ghost use Rattle.path_front.specs.declared.latest.TheConstants.{KEPT};
 ghost use Rattle.path_front.specs.declared.levels.TheConstants.{FINE};
 ghost use Rattle.path_front.specs.declared.sizes.TheConstants.{MEANS};
-ghost use Rattle.path_front.specs.declared.tile.TheConstants.{MAX_TICKS};
-ghost use Rattle.path_front.specs.declared.grid.Grid.{Grid};
+ghost use Rattle.step_grid.specs.declared.grid.Grid.{Grid};
 ghost use Rattle.path_front.specs.declared.judging.Phase.TheVariants.{Sound};
 ghost use Rattle.path_front.specs.Front.{AreIntervals, AreIntervalsSoFar, FrontStandsFor, FrontState};
-ghost use Rattle.path_front.specs.Grid.{AreStepsOf, IsGrid};
+ghost use Rattle.step_grid.specs.Grid.{AreStepsOf, IsGrid};
 ghost use Rattle.path_front.specs.Steps.{sounds_of};
 ghost use Rattle.path_front.specs.Tiles.{tiles_of};
 
@@ -26,12 +24,9 @@ use cell_path::laws::{
 pub fn the_numbers_are_these()
     ensures means { MEANS ≡ 512 }
     ensures clip { CLIP ≡ 3 }
-    ensures repeats { MAX_REPEATS ≡ 8 }
-    ensures summed { MAX_SUMMED ≡ 65_536 }
     ensures kept { KEPT ≡ 4_096 }
     ensures fine { FINE ≡ 64 }
     ensures neighbours { NEIGHBOURS ≡ 8 }
-    ensures ticks { MAX_TICKS ≡ 65_536 }
 {}
 
 /// Joined again, the intervals of a cell last as long as it does, and none is nothing.

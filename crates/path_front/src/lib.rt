@@ -25,7 +25,7 @@
 //! - The intervals of a cell: a zero is one, a one two halves, and a tick is cut off their front where the
 //!   stretch breaks (`tiled`; `specs/Tiles.antt`). Joined again they last as long as the cell (`laws`).
 //!
-//! Read `sizes`, `clip`, `hold`, `grid`, `group` and `steps`, in this order, then `latest`, `measured`,
+//! Read `sizes`, `clip`, `hold`, `group` and `steps`, in this order, then `latest`, `measured`,
 //! `levels`, `fit`, `gate`, `tile`, `cells`, `judging` and `front`, and the file of the same name in `specs/` beside
 //! each. Lists of samples and of steps begin with the latest. Nothing here allocates or fails.
 #![tactic(auto)]
@@ -35,7 +35,6 @@ mod clip;
 mod fit;
 mod front;
 mod gate;
-mod grid;
 mod group;
 mod hold;
 mod judging;
@@ -52,7 +51,6 @@ pub use clip::CLIP;
 pub use fit::{Fit, HalfFit, Range, Usual};
 pub use front::Front;
 pub use gate::{Gate, Judged, NEIGHBOURS};
-pub use grid::{Grid, MAX_REPEATS, MAX_SUMMED};
 pub use group::Sounds;
 pub use hold::{Loudness, Side};
 pub use judging::{Phase, Taken};
@@ -61,4 +59,4 @@ pub use levels::FINE;
 pub use measured::{Half, Measured};
 pub use sizes::MEANS;
 pub use steps::Heard;
-pub use tile::{MAX_TICKS, Tiles, tiled};
+pub use tile::{Tiles, tiled};

@@ -2,17 +2,17 @@
 ghost use Rattle.std.specs.Prelude.{◌≡◌, ◌+◌, ◌*◌, ◌^◌, ◌<◌, ◌≤◌, ℤ, unsigned_abs, IfSome, IfNone, OnSome, List, []};
 ghost use Rattle.std.specs.Prelude.{◌∷◌};
 ghost use Rattle.cell_path.specs.Scores.{IsStep};
-ghost use Rattle.path_front.specs.Grid.{IsGrid};
+ghost use Rattle.step_grid.specs.Grid.{IsGrid};
 ghost use Rattle.path_front.specs.Steps.{GivesStep, StepsStandFor, TakesStep};
 ghost use Rattle.path_front.specs.declared.group.Sounds.{Sounds};
 
 use crate::clip::clip;
-use crate::grid::Grid;
 use crate::group::{Group, Sounds};
 use crate::hold::Hold;
 use crate::sizes::Sizes;
 use cell_path::Step;
 use std::marker::Model;
+use step_grid::Grid;
 
 /// A step of the sound: for the path, and as it is without the hold.
 #[derive(Clone, Copy, Debug, PartialEq, Eq)]

@@ -7,9 +7,7 @@ ghost use Rattle.path_front.specs.Tiles.{cut, tiles_of};
 use crate::gate::Judged;
 use arrayvec::ArrayVec;
 use cell_path::Bit;
-
-/// A step has so many ticks at most.
-pub const MAX_TICKS: u32 = 65_536;
+use step_grid::MAX_TICKS;
 
 /// The intervals of a cell: one, or two halves, and a tick in front of them where the stretch breaks.
 pub type Tiles = ArrayVec<u32, 3>;

@@ -26,6 +26,7 @@ covered Tick moments = last_of 0 moments
 abbrev pub crossings_by : Settings → List ℤ → List ℕ
 crossings_by s samples = crossings s.threshold (sums s.smooth samples)
 
+-- the moments of these crossings, in ticks
 abbrev pub moments_by : Settings → List ℤ → List ℕ
 moments_by s samples = moments s.fineness s.threshold (sums s.smooth samples)
 

@@ -38,7 +38,7 @@ tick_at fineness threshold samples place =
     tick_to (side_at threshold samples place) fineness (threshold_at threshold samples place)
     (sample_at samples (place - 1)) (sample_at samples place)
 
--- the moment of a crossing: so many ticks after the sample before it
+-- the moment of a crossing: that of the sample before it, and the ticks from there on
 abbrev pub moment : ℕ → Threshold → List ℤ → ℕ → ℕ
 moment fineness threshold samples place = fineness * (place - 1) + tick_at fineness threshold samples place
 

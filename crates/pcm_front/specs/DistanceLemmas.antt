@@ -22,7 +22,7 @@ gaps-front (x ∷ ms) more = gaps_after-front x ms more
 
 -- ---- what fits is written whole
 
--- a distance of at most so many ticks
+-- a distance of at most this many ticks
 abbrev pub IsPiece : ℕ → ℕ → Type 0
 IsPiece n d = (1 ≤ d) × (d ≤ n)
 

@@ -32,7 +32,7 @@ pub record IsAt (state : FinderState) (side : Option Side) (threshold : Threshol
     pub before_is : state.before ≡ before
     pub level_is : state.level ≡ level
 
--- and after so many samples more, where the sound stayed on its side
+-- and after this many samples more, where the sound stayed on its side
 abbrev pub still_at : FinderState → ℕ → ℤ → Level → FinderState
 still_at state count before level =
     record state { tick = state.tick + state.fineness * count; before = before; level = level }

@@ -43,7 +43,7 @@ abbrev pub Passes : ℕ → Option ℕ → ℕ → Type 0
 Passes before None now = before ≤ now
 Passes before (Some distance) now = before < distance
 
--- how many whole pieces stand of a distance that has not ended, where so many ticks of it have passed: each crossing
+-- how many whole pieces stand of a distance that has not ended, where this many ticks of it have passed: each crossing
 -- that is still to come lies behind all of these ticks, so that the distance has these pieces, and more
 abbrev pub begun_in : Pace → ℕ → ℕ
 begun_in Ended passed = 0
@@ -54,6 +54,7 @@ abbrev pub passed_as : Pace → ℕ → ℕ
 passed_as Ended passed = 0
 passed_as (Passing length) passed = passed
 
+-- the whole pieces of a distance that have passed
 abbrev pub begun : Pace → ℕ → List ℕ
 begun pace passed = replicate (begun_in pace passed) (longest pace)
 

@@ -4,7 +4,7 @@ use Rattle.pcm_front.specs.declared.start.Start.{Start}
 use Rattle.pcm_front.specs.declared.start.Start.TheVariants.{Crossing, Tick}
 use Rattle.pcm_front.specs.declared.threshold.Threshold.{Threshold}
 
--- in so many ticks a sample, at a threshold, as sums of so many samples; and where the first distance begins
+-- ticks a sample, a threshold, how many samples a sum has; and where the first distance begins
 pub record Settings : Type 0 where
   pub fineness : ℕ
   pub threshold : Threshold

@@ -25,6 +25,7 @@ abbrev pub side_after : Threshold → List ℤ → ℕ → Option Side
 side_after threshold samples zero = None
 side_after threshold samples (suc n) = option_or (side_at threshold samples n) (side_after threshold samples n)
 
+-- the other side
 abbrev pub other_side : Side → Side
 other_side High = Low
 other_side Low = High

@@ -60,5 +60,6 @@ tick_of slicer = slicer.finder.tick
 abbrev pub passed_in : FinderState → ℕ
 passed_in finder = ticks_since finder.latest finder.tick
 
+-- the ticks that have passed since the moment from which the next distance runs
 abbrev pub passed_of : Slicer → ℕ
 passed_of slicer = passed_in slicer.finder

@@ -28,6 +28,7 @@ pub record FinderState : Type 0 where
   pub side : Option Side
   pub latest : Option ℕ
 
+-- what finding crossings keeps, by its parts
 abbrev pub state_of : ℕ → Threshold → Start → ℕ → ℤ → Level → Option Side → Option ℕ → FinderState
 state_of fineness threshold start tick before level side latest = record {
   fineness = fineness;
@@ -65,15 +66,16 @@ pub record IsKept (state : FinderState) : Type 0 where
   pub latest : IfSome state.latest (λ moment. moment ≤ state.tick + state.fineness)
   pub behind : IfSome state.side (λ side. IfSome state.latest (λ moment. moment ≤ state.tick))
 
--- of how many samples sums are made, and the latest samples but for one of so many
+-- of how many samples sums are made, and the latest samples, one fewer than that
 pub record WindowState : Type 0 where
   pub smooth : ℕ
   pub kept : List ℤ
 
--- the samples in a ring of so many but one, the oldest in this place
+-- the samples in a ring that is one shorter than a sum, the oldest in this place
 abbrev pub ring_of : ℕ → List ℤ → ℕ → List ℤ
 ring_of smooth ring oldest = drop oldest (take (smooth - 1) ring) ++ take oldest ring
 
+-- what summing samples keeps: the latest samples, from a ring
 abbrev pub window_of : ℕ → List ℤ → ℕ → WindowState
 window_of smooth ring oldest = record { smooth = smooth; kept = ring_of smooth ring oldest }
 

@@ -15,7 +15,7 @@ unfoldable pub total : List ℤ → ℤ
 total [] = pos 0
 total (number ∷ more) = number +ℤ total more
 
--- the sum at a place: of the latest samples, so many
+-- the sum at a place, of this many of the latest samples
 abbrev pub sum_at : ℕ → List ℤ → ℕ → ℤ
 sum_at smooth samples place = total (latest smooth (up_to smooth samples place))
 

@@ -15,6 +15,7 @@ code_of C30 = 3
 abbrev pub low : ℕ → ℕ
 low n = n % 16
 
+-- the bits above the low four
 abbrev pub high : ℕ → ℕ
 high n = n / 16
 

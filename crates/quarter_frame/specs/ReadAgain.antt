@@ -25,6 +25,7 @@ placed (Heard label direction joined tick) = record { label = label; direction =
 placed (Invented label direction step tick) = record { label = label; direction = direction } ∷ []
 placed (Gone tick) = []
 
+-- those of some frames, one after another
 abbrev pub all_placed : List Frame → List Placed
 all_placed frames = flat_map placed frames
 

@@ -29,6 +29,7 @@ four_of label Forward false = quarters (before label) (4 ∷ 5 ∷ 6 ∷ 7 ∷ [
 four_of label Backward true = quarters (before label) (7 ∷ 6 ∷ 5 ∷ 4 ∷ [])
 four_of label Backward false = quarters label (3 ∷ 2 ∷ 1 ∷ 0 ∷ [])
 
+-- a frame at an even place of its run
 abbrev pub is_even : ℕ → Bool
 is_even position = position % 2 == 0
 

@@ -13,6 +13,7 @@ abbrev pub position_of : Half → ℕ
 position_of First = 0
 position_of Second = 1
 
+-- the half of a pair of frames that comes next
 abbrev pub other_half : Half → Half
 other_half First = Second
 other_half Second = First

@@ -20,7 +20,7 @@ IsMillisecondOf rate frame millisecond = IsNearest (frame * seconds_of rate * 10
 abbrev pub IsFrameOf : FrameRate → ℕ → ℕ → Type 0
 IsFrameOf rate millisecond frame = IsNearest (millisecond * frames_in rate) (seconds_of rate * 1000) frame
 
--- a frame of the other rate is shown when the frame of a rate begins, and so many whole thousandths of it have passed
+-- a frame of the other rate is shown when the frame of a rate begins, and this many whole thousandths of it have passed
 pub record IsShown (rate : FrameRate) (frame : ℕ) (other : FrameRate) (there thousandths : ℕ) : Type 0 where
   pub shown : IsWholeOf (frame * seconds_of rate * frames_in other) (seconds_of other * frames_in rate) there
   pub passed : IsWholeOf (frame * seconds_of rate * frames_in other * 1000) (seconds_of other * frames_in rate)

@@ -4,7 +4,7 @@ use Rattle.std.specs.Prelude.{ℕ}
 use Rattle.real_time.specs.declared.rate.FrameRate.{FrameRate}
 use Rattle.real_time.specs.declared.rate.FrameRate.TheVariants.{R24, PulledDown24, R25, R30, PulledDown30}
 
--- so many frames
+-- this many frames
 abbrev pub frames_in : FrameRate → ℕ
 frames_in R24 = 24
 frames_in PulledDown24 = 24_000
@@ -12,7 +12,7 @@ frames_in R25 = 25
 frames_in R30 = 30
 frames_in PulledDown30 = 30_000
 
--- pass in so many seconds
+-- pass in this many seconds
 abbrev pub seconds_of : FrameRate → ℕ
 seconds_of R24 = 1
 seconds_of PulledDown24 = 1_001

@@ -3,6 +3,10 @@ mod DueSamples
 mod Examples
 mod FieldsGrow
 mod FieldsTold
+mod LumaIsCommand
+mod LumaLines
+mod LumaOn
+mod LumaTold
 mod MidiGrows
 mod MidiLimit
 mod NothingYet

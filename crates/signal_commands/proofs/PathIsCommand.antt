@@ -5,7 +5,7 @@ use Rattle.std.proofs.lemmas.List.{reverse-append, take-append-drop}
 use Rattle.interval_file.specs.FileLemmas.{file_first}
 use Rattle.interval_file.specs.Grammar.{file_of}
 use Rattle.lemmas.specs.Lists.{first_items}
-use Rattle.path_front.specs.declared.grid.Grid.{Grid}
+use Rattle.step_grid.specs.declared.grid.Grid.{Grid}
 use Rattle.path_front.specs.Front.{AreIntervals, AreIntervalsSoFar}
 use Rattle.pcm_front.specs.Samples.{samples_of}
 use Rattle.tc_command.specs.Command.{IsCommand}

@@ -3,9 +3,9 @@ use Rattle.std.proofs.Common.{◌≡◌, ◌≤◌, ℕ, ◌+◌, ◌*◌, ℤ, 
 use Rattle.std.specs.Prelude.{reverse}
 use Rattle.std.proofs.lemmas.List.{length-reverse}
 use Rattle.interval_file.specs.Grammar.{file_of}
-use Rattle.path_front.specs.declared.grid.Grid.{Grid}
+use Rattle.step_grid.specs.declared.grid.Grid.{Grid}
 use Rattle.path_front.specs.Front.{AreIntervals}
-use Rattle.path_front.specs.Grid.{AreStepsOf, IsGrid}
+use Rattle.step_grid.specs.Grid.{AreStepsOf, IsGrid}
 use Rattle.path_front.specs.Steps.{sounds_of}
 use Rattle.pcm_front.specs.Samples.{samples_of}
 use Rattle.tc_command.specs.Command.{IsCommand}

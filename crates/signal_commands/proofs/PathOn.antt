@@ -13,7 +13,7 @@ use Rattle.interval_file.specs.FileLemmas.{file_first}
 use Rattle.interval_file.specs.Grammar.{file_of, intervals_bytes}
 use Rattle.interval_file.specs.IntervalHeader.{header_bytes}
 use Rattle.interval_file.specs.Piece.{spelling}
-use Rattle.path_front.specs.declared.grid.Grid.{Grid}
+use Rattle.step_grid.specs.declared.grid.Grid.{Grid}
 use Rattle.path_front.specs.declared.judging.Phase.TheVariants.{Sound}
 use Rattle.path_front.specs.Cells.{measured_cells}
 use Rattle.path_front.specs.Clip.{clipped}

@@ -60,6 +60,7 @@ unfolding samples_of
 no_sample None = refl
 no_sample (Some low) = refl
 
+-- a byte behind whole samples is no sample
 pub half_is_none : (count : ℕ) (whole : List ℕ) (half : Option ℕ) → length whole ≡ 2 * count
     → samples_of (whole ++ option_to_list half) ≡ samples_of whole
 half_is_none count whole half is =

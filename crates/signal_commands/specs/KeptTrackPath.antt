@@ -29,6 +29,7 @@ abbrev pub heard_by : Option PathSound → ℕ
 heard_by None = 0
 heard_by (Some s) = samples_heard s
 
+-- the sound, if it has begun, has given all that its samples bring
 abbrev pub AllGoing : Option PathSound → Type 0
 AllGoing None = ⊤
 AllGoing (Some s) = sound.IsGoing s

@@ -1,4 +1,5 @@
 pub mod KeptFields
+pub mod KeptLuma
 pub mod KeptMtc
 pub mod KeptPath
 pub mod KeptSlices
@@ -6,6 +7,7 @@ pub mod KeptSound
 pub mod KeptStops
 pub mod KeptTrack
 pub mod KeptTrackPath
+pub mod LumaVitc
 pub mod MtcRead
 pub mod PcmLtc
 pub mod PcmPath

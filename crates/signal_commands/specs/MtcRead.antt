@@ -22,14 +22,17 @@ use Rattle.tc_command.specs.Told.{Told}
 abbrev pub event_lines : List MtcEvent → List ℕ
 event_lines events = flat_map event_line events
 
+-- the label of a full message
 abbrev pub is_full : MtcEvent → Bool
 is_full (Full label place) = true
 is_full event = false
 
+-- the label of eight quarter frames
 abbrev pub is_quarter : MtcEvent → Bool
 is_quarter (Quarter direction label place) = true
 is_quarter event = false
 
+-- an address that is no label
 abbrev pub is_refused : MtcEvent → Bool
 is_refused (Full label place) = false
 is_refused (Quarter direction label place) = false
@@ -41,11 +44,11 @@ abbrev pub last_mtc_line : List ℕ → List MtcEvent → List ℕ
 last_mtc_line bytes events =
     end_line (length bytes) (count_by is_full events) (count_by is_quarter events) (count_by is_refused events)
 
--- at most so many bytes are read
+-- at most this many bytes are read
 abbrev pub verdict_within : ℕ → List ℕ → Verdict InputFault
 verdict_within most bytes = cond (nat_lt most (length bytes)) past_limit good
 
--- the lines whose last byte is among the first bytes, so many
+-- the lines whose last byte is among this many first bytes
 abbrev pub lines_within : ℕ → List ℕ → List ℕ
 lines_within most bytes = event_lines (events_in (take most bytes))
 

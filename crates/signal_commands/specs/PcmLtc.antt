@@ -19,7 +19,7 @@ use Rattle.signal_commands.specs.declared.pcm_ltc.TheConstants.{MAX_SAMPLES}
 use Rattle.tc_command.specs.Meaning.{Meaning}
 use Rattle.tc_command.specs.Told.{Told}
 
--- the header: each sample has so many ticks
+-- the header: each sample has `fineness` ticks
 abbrev pub sliced_header : Slices → IntervalHeader
 sliced_header s = record { version = One; system = s.system; tick_rate = s.rate * s.fineness }
 
@@ -39,7 +39,7 @@ sliced_intervals s samples = intervals_at (pace_for s) (settings_for s) samples
 abbrev pub sliced : Slices → List ℤ → List ℕ
 sliced s samples = file_of (sliced_header s) (sliced_intervals s samples)
 
--- so many whole samples are taken, at most
+-- at most this many whole samples are taken
 abbrev pub samples_within : ℕ → List ℕ → Verdict InputFault
 samples_within most bytes = cond (nat_lt most (length (samples_of bytes))) past_limit good
 

@@ -4,7 +4,7 @@ use Rattle.interval_file.specs.declared.header.FileVersion.TheVariants.{One}
 use Rattle.interval_file.specs.declared.header.IntervalHeader.{IntervalHeader}
 use Rattle.interval_file.specs.Grammar.{file_of}
 use Rattle.path_front.specs.Front.{AreIntervals, AreIntervalsSoFar}
-use Rattle.path_front.specs.Grid.{AreStepsOf}
+use Rattle.step_grid.specs.Grid.{AreStepsOf}
 use Rattle.pcm_front.specs.Samples.{bytes_of, samples_of}
 use Rattle.tc_command.specs.Meaning.{Meaning}
 use Rattle.tc_command.specs.Told.{Told}
@@ -12,7 +12,7 @@ use Rattle.tc_job.specs.PathSlicing.{SlicesPath}
 use Rattle.signal_commands.specs.PcmLtc.{odd_fault, samples_within}
 use Rattle.signal_commands.specs.declared.pcm_ltc.TheConstants.{MAX_SAMPLES}
 
--- the header: each sample has so many ticks
+-- the header: each sample has `fineness` ticks
 abbrev pub path_header : SlicesPath → IntervalHeader
 path_header p = record { version = One; system = p.system; tick_rate = p.rate * p.fineness }
 

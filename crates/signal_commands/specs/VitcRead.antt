@@ -21,10 +21,12 @@ abbrev pub answer_lines : ℕ → List FieldAnswer → List ℕ
 answer_lines field [] = []
 answer_lines field (answer ∷ answers) = field_line field answer ++ answer_lines (field + 1) answers
 
+-- all lines of the field that say a word say the same one
 abbrev pub is_agreed : FieldAnswer → Bool
 is_agreed (Agreed word) = true
 is_agreed answer = false
 
+-- two lines of the field say different words
 abbrev pub is_conflict : FieldAnswer → Bool
 is_conflict (Conflict word other) = true
 is_conflict answer = false

@@ -31,7 +31,7 @@ track_settings w = from_start 16 w.threshold w.smooth
 abbrev pub asked_by : SlicesWave → Asked
 asked_by w = record { track = w.track; least_rate = 1; most_samples = MAX_SAMPLES }
 
--- the header: each sample has so many ticks
+-- the header: each sample has 16 ticks
 abbrev pub track_header : SlicesWave → WaveFormat → IntervalHeader
 track_header w format = record { version = One; system = w.system; tick_rate = 16 * format.rate }
 

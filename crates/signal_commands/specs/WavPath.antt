@@ -44,6 +44,7 @@ abbrev pub WritesPath : SlicesTrackPath → Option WaveFormat → List ℤ → L
 WritesPath t None samples written = written ≡ []
 WritesPath t (Some format) samples written = IsTrackPathFile t format samples written
 
+-- what is written before the end: nothing before the format is known
 abbrev pub WritesPathSoFar : SlicesTrackPath → Option WaveFormat → List ℤ → List ℕ → Type 0
 WritesPathSoFar t None samples written = written ≡ []
 WritesPathSoFar t (Some format) samples written = IsTrackPathSoFar t format samples written

@@ -6,6 +6,7 @@ ghost use Rattle.tc_job.specs.TrackPath.{SlicesTrackPath};
 ghost use Rattle.tc_job.specs.WaveSlicing.{SlicesWave};
 ghost use Rattle.tc_command.specs.Command.{IsCommand};
 ghost use Rattle.tc_command.specs.Told.{IsLawful};
+ghost use Rattle.signal_commands.specs.declared.luma_lines.TheConstants.{LINE_LENGTH};
 ghost use Rattle.signal_commands.specs.declared.mtc_read.TheConstants.{MAX_BYTES};
 ghost use Rattle.signal_commands.specs.declared.pcm_ltc.TheConstants.{MAX_SAMPLES};
 ghost use Rattle.signal_commands.specs.declared.wav_path.TheConstants.{MAX_PATH_SAMPLES};
@@ -76,4 +77,9 @@ pub fn pcm_ltc_has_this_limit()
 /// `wav-ltc .. path` takes 2 to the 37th samples, and no more.
 pub fn wav_path_has_this_limit()
     ensures { MAX_PATH_SAMPLES ≡ 2 ^ 37 }
+{}
+
+/// A line that `luma-vitc` writes lasts 1,840 ticks: 115 cells of 16.
+pub fn luma_vitc_writes_lines_of_this_length()
+    ensures { LINE_LENGTH ≡ 1_840 }
 {}

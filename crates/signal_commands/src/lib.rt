@@ -1,5 +1,6 @@
 //! The commands that read what is no interval file: samples of sound (`pcm-ltc`), sound files (`wav-ltc`),
-//! MIDI bytes (`mtc-read`) and the lines of vertical interval time code (`vitc-read`).
+//! MIDI bytes (`mtc-read`), the lines of vertical interval time code (`vitc-read`) and the rows of a picture that
+//! they stand in (`luma-vitc`).
 //!
 //! What this crate promises, for all sources and sinks:
 //! - `pcm-ltc` writes the interval file of the distances between the crossings of the samples
@@ -9,17 +10,20 @@
 //! `live`,
 //!   `mtc-read` a line for each label in the bytes (`specs/MtcRead.antt`), and
 //!   `vitc-read` a line for each field of a line file (`specs/VitcRead.antt`).
+//! - `luma-vitc` writes the line file of what the fields of a picture say, row by row (`specs/LumaVitc.antt`).
 //! - What was sent is what `mtc-read` reads (`ReadsWhatWasSent`). A line of `vitc-read` says whose lines the
 //!   lines of its field are (`ReadsTheFields`). The intervals of `pcm-ltc` and `wav-ltc` tell the crossings of
 //!   all samples (`SlicesTheSound`, `SlicesTheTrack`).
 //! - Each is a command as any other (`laws`): what it writes comes first, there is one output of an input,
 //!   and what bytes show stays.
 //!
-//! Read `pcm_ltc`, `wav_ltc`, `mtc_read` and `vitc_read`, each by itself, and `path_sound`, `pcm_path` and
+//! Read `pcm_ltc`, `wav_ltc`, `mtc_read`, `vitc_read` and `luma_vitc`, each by itself, and `path_sound`, `pcm_path` and
 //! `wav_path`.
 #![tactic(auto)]
 
 pub mod laws;
+mod luma_lines;
+mod luma_vitc;
 mod mtc_read;
 mod path_sound;
 mod pcm_ltc;
@@ -30,6 +34,8 @@ mod vitc_read;
 mod wav_ltc;
 mod wav_path;
 
+pub use luma_lines::LINE_LENGTH;
+pub use luma_vitc::{pixels_are_lawful, read_pixels};
 pub use mtc_read::{MAX_BYTES, midi_is_lawful, read_midi};
 pub use pcm_ltc::{MAX_SAMPLES, slice_sound};
 pub use pcm_path::hear_path;

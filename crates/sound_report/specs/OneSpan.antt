@@ -25,7 +25,7 @@ CountOn before (word ∷ more) =
     (word.direction ≡ before.direction) × (label_of word ≡ step (label_of before) (steps_in before.direction 1))
     × CountOn word more
 
--- words that are played with these cells, behind a word of so many ticks, keep pace: each lasts less than one and a
+-- words that are played with these cells, behind a word of this many ticks, keep pace: each lasts less than one and a
 -- half of the one before it, and so much less that some delays are left for the places at which they are found
 abbrev pub KeepPaceBehind : ℕ → ℕ → List Cell → List Played → Type 0
 KeepPaceBehind delay before cells [] = Unit {0}
@@ -46,7 +46,7 @@ last_of word (next ∷ more) = last_of next more
 abbrev pub mark_of : Played → ℕ → Mark
 mark_of p tick = mark_at (label_of p) p.direction tick
 
--- the span from a word at a tick to another one, with so many words in it and none bridged
+-- the span from a word at a tick to another one, with this many words in it and none bridged
 abbrev pub span_from : Played → ℕ → Played → ℕ → ℕ → Span
 span_from first begins last ends words =
     record { first = mark_of first begins; last = mark_of last ends; heard = words; bridged = 0 }

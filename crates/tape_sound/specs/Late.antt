@@ -1,5 +1,5 @@
 -- A tape that runs steadily, and its cells as they are found where each transition is found some ticks late. The delay
--- is the most by which one is: it is found at its moment on the tape or later, and by no more than so many ticks. The
+-- is the most by which one is: it is found at its moment on the tape or later, and by no more ticks than that. The
 -- rules are this project's own.
 use Rattle.std.specs.Prelude.{◌≡◌, ℕ, ◌+◌, ◌*◌, ◌<◌, ◌≤◌, max, List, [], ◌∷◌}
 use Rattle.std.specs.Int.{abs_diff}
@@ -20,7 +20,7 @@ uneven (One a b) = abs_diff a b
 abbrev pub drift_from : ℕ → Cell → ℕ
 drift_from before cell = max (abs_diff (length_of cell) before) (uneven cell)
 
--- what a tolerance asks of a cell: that it lasts longer than so many drifts and so many delays together. The more
+-- what a tolerance asks of a cell: that it lasts longer than a number of drifts and of delays together. The more
 -- steadily a tape runs, the later its transitions may be found. The rough tolerance asks two things, of the halves and
 -- of the cells
 abbrev pub Outlasts : Profile → ℕ → ℕ → ℕ → Type 0
@@ -28,7 +28,7 @@ Outlasts Normal delay drift length = 16 * drift + 32 * delay < length
 Outlasts Worn delay drift length = 12 * drift + 24 * delay < length
 Outlasts Rough delay drift length = (8 * drift + 10 * delay < length) × (12 * drift + 9 * delay < length)
 
--- cells that come behind one of so many ticks, each long enough
+-- cells that come behind one of this many ticks, each long enough
 abbrev pub RunOn : Profile → ℕ → ℕ → List Cell → Type 0
 RunOn profile delay before [] = Unit {0}
 RunOn profile delay before (cell ∷ tape) =
@@ -44,7 +44,7 @@ IsSteady profile delay (cell ∷ tape) = RunOn profile delay (length_of cell) (c
 abbrev pub OutlastsFromALock : ℕ → ℕ → ℕ → Type 0
 OutlastsFromALock delay drift length = 12 * drift + 9 * delay < length
 
--- cells that come behind one of so many ticks, each long enough for this
+-- cells that come behind one of this many ticks, each long enough for this
 abbrev pub RunOnFromALock : ℕ → ℕ → List Cell → Type 0
 RunOnFromALock delay before [] = Unit {0}
 RunOnFromALock delay before (cell ∷ tape) =
@@ -63,7 +63,7 @@ IsFoundAs delay first last (One a b) (One x y) =
     (middle : ℕ) × (middle ≤ delay) × (a + middle ≡ first + x) × (b + last ≡ middle + y)
 IsFoundAs delay first last cell found = ⊥
 
--- the cells of the tape as they are found, where the first transition is found so many ticks late, and each other one
+-- the cells of the tape as they are found, where the first transition is found this many ticks late, and each other one
 -- within the delay
 abbrev pub AreFoundAs : ℕ → ℕ → List Cell → List Cell → Type 0
 AreFoundAs delay first [] [] = Unit {0}
@@ -77,7 +77,7 @@ delays_of Normal = 40
 delays_of Worn = 28
 delays_of Rough = 11
 
--- cells behind one of so many ticks, of which each outlasts so many delays, differs from the cell before it by a
+-- cells behind one of this many ticks, of which each outlasts that many delays, differs from the cell before it by a
 -- hundredth of that one at most, and has halves that differ by a hundredth of it at most
 abbrev pub RunWithinAHundredth : ℕ → ℕ → ℕ → List Cell → Type 0
 RunWithinAHundredth delays delay before [] = Unit {0}

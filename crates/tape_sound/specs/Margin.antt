@@ -49,7 +49,7 @@ reach_moment fineness bound samples place side =
     fineness * (place - 1)
     + tick_to_bound fineness bound (upward side (sample_at samples (place - 1))) (upward side (sample_at samples place))
 
--- the moments of what goes over from side to side: it stands on a side, and at so many places from one on it goes over
+-- the moments of what goes over from side to side: it is on a side, and at this many places from one on it goes over
 -- wherever it reaches the other side
 abbrev pub turns_by : (ℕ → Side → Bool) → (ℕ → Side → ℕ) → Side → ℕ → ℕ → List ℕ
 turns_by goes at side place zero = []
@@ -105,7 +105,7 @@ pub record GoesOverToItsEnd (fineness : ℕ) (low high : ℕ → ℤ) (delay : �
   pub within : ComeWithin delay from (turns fineness high clean side (first + 1) (length clean - (first + 1)))
   pub ends : fineness * (length clean - 1) ≤ last + delay
 
--- the moments of the crossings at so many places from one on
+-- the moments of the crossings at this many places from one on
 abbrev pub moments_in : ℕ → Threshold → List ℤ → ℕ → ℕ → List ℕ
 moments_in fineness threshold sound place count =
     map (moment fineness threshold sound) (filter (is_crossing threshold sound) (range_with_len place count))

@@ -14,7 +14,7 @@ untimed (Lost interval tick) = Lost 0 0
 abbrev pub told : List Played → List Event
 told words = map (λ (p : Played). Word p.direction p.word 0 0) words
 
--- two numbers differ by so many ticks at most
+-- two numbers differ by at most this many ticks
 abbrev pub AreNear : ℕ → ℕ → ℕ → Type 0
 AreNear delay a b = (a ≤ b + delay) × (b ≤ a + delay)
 

@@ -23,7 +23,7 @@ use Rattle.tape_sound.specs.Late.{IsSteady}
 use Rattle.tape_sound.specs.Margin.{moments_in, noise_in_step, reaches, turns, ComeBehind, ComeWithin, HasRoom}
 
 -- a part of a sound has a margin for a part of a tape. From a place on, at which the clean sound stands on a side at
--- the high bound, so many samples are those of the clean sound and some noise, and in them it goes over at each of
+-- the high bound, this many samples are those of the clean sound and some noise, and in them it goes over at each of
 -- these neighbouring transitions of the tape. What stands before and behind may be anything
 pub record PartHasMargin (profile : Profile) (fineness : ℕ) (threshold : Threshold) (tape : List Cell) (cut : ℕ)
     (sound : List ℤ) (first count : ℕ) : Type 0 where

@@ -16,7 +16,7 @@ pub record Ramp : Type 0 where
   pub ripple : ℕ
   pub noise : ℕ
 
--- over so many samples from one on the threshold rises (true), and nowhere lies further than the ripple below an
+-- over this many samples from one on the threshold rises (true), and nowhere lies further than the ripple below an
 -- earlier one; or it falls (false), and nowhere lies further than the ripple above an earlier one
 abbrev pub MovesOneWay : Bool → ℕ → Threshold → List ℤ → ℕ → ℕ → Type 0
 MovesOneWay true ripple threshold sound first count =
@@ -54,6 +54,7 @@ noise_along ramps = along (λ ramp. ramp.noise) ramps
 abbrev pub least_in : Ramp → ℕ
 least_in ramp = min ramp.begins ramp.ends - ramp.ripple
 
+-- the greatest value of the threshold in a part, with the ripple
 abbrev pub most_in : Ramp → ℕ
 most_in ramp = max ramp.begins ramp.ends + ramp.ripple
 
@@ -61,5 +62,6 @@ most_in ramp = max ramp.begins ramp.ends + ramp.ripple
 abbrev pub low_along : List Ramp → ℕ → ℤ
 low_along ramps place = pos (along least_in ramps place) -ℤ pos (noise_in_step (noise_along ramps) place)
 
+-- the high bound at a place, with room for the noise
 abbrev pub high_along : List Ramp → ℕ → ℤ
 high_along ramps place = pos (along most_in ramps place) +ℤ pos (noise_in_step (noise_along ramps) place)

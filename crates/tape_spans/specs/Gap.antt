@@ -20,6 +20,7 @@ abbrev pub as_it_runs : Direction → ℤ → ℤ
 as_it_runs Forward way = way
 as_it_runs Backward way = neg_ℤ way
 
+-- how many labels lie from one to the next as the tape runs
 abbrev pub step_between : Mark → Mark → ℤ
 step_between last next = as_it_runs next.direction (way_between last next)
 

@@ -16,6 +16,7 @@ tick_heard (Heard label direction joined tick) = tick ∷ []
 tick_heard (Invented label direction step tick) = []
 tick_heard (Gone tick) = []
 
+-- the ticks of the frames that were heard
 abbrev pub heard_ticks : List Frame → List ℕ
 heard_ticks frames = flat_map tick_heard frames
 

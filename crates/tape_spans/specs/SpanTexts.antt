@@ -16,8 +16,8 @@ use Rattle.tape_spans.specs.declared.span.Span.{Span}
 use Rattle.tape_spans.specs.Gap.{gap_between}
 use Rattle.tape_spans.specs.Spans.{SpanFrames, frames_of_spans, span_of, spans}
 
--- the mean speed of a span at a tick rate, in thousandths of nominal, rounded down: at nominal speed so many frames
--- last a second. A span of no ticks, as of one word, has none
+-- the mean speed of a span at a tick rate, in thousandths of nominal, rounded down: at nominal speed the frames of
+-- the system last a second. A span of no ticks, as of one word, has none
 abbrev pub mean_speed : ℕ → System → Span → ℕ
 mean_speed tick_rate system span =
     let ticks = span.last.tick - span.first.tick in
@@ -32,6 +32,7 @@ span_line tick_rate system span =
     ++ codes " tick " ++ decimal span.first.tick ++ codes " " ++ decimal span.last.tick
     ++ codes " speed " ++ decimal (mean_speed tick_rate system span) ++ codes "\n"
 
+-- the words for how the labels on both sides of a gap fit each other
 abbrev pub relation_text : Relation → List ℕ
 relation_text Count = codes " count"
 relation_text Turn = codes " turn"

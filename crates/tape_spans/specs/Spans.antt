@@ -10,6 +10,7 @@ use Rattle.tape_spans.specs.declared.span.Mark.{Mark}
 use Rattle.tape_spans.specs.declared.span.Span.{Span}
 use Rattle.flywheel.specs.Kinds.{is_heard, is_invented}
 
+-- a mark, by its parts
 abbrev pub mark_at : Address → Direction → ℕ → Mark
 mark_at label direction tick = record { label = label; direction = direction; tick = tick }
 

@@ -21,10 +21,12 @@ abbrev pub ended_lines : ℕ → System → Option Span → List ℕ
 ended_lines tick_rate system None = []
 ended_lines tick_rate system (Some span) = span_line tick_rate system span
 
+-- the line of a gap, if there is one
 abbrev pub gap_lines : Option Gap → List ℕ
 gap_lines None = []
 gap_lines (Some gap) = gap_line gap
 
+-- the lines of a cut: of the span that ended, and of the gap after which one begins, if there are any
 abbrev pub cut_lines : ℕ → System → Cut → List ℕ
 cut_lines tick_rate system cut = ended_lines tick_rate system cut.ended ++ gap_lines cut.gap
 

@@ -4,7 +4,7 @@ use Rattle.tc_address.specs.Numbering.{step}
 use Rattle.flywheel.specs.Frames.{steps_in}
 use Rattle.tape_spans.specs.declared.span.Span.{Span}
 
--- so many steps lead from the frame heard first to the one heard last
+-- how many steps lead from the frame heard first to the one heard last
 abbrev pub steps_along : Span → ℕ
 steps_along span = span.heard + span.bridged - 1
 

@@ -28,12 +28,14 @@ blank = record { place = Before; spans = 0; heard = 0; bridged = 0 }
 abbrev pub begun_at : Mark → OpenSpan
 begun_at mark = record { span = record { first = mark; last = mark; heard = 1; bridged = 0 }; invented = 0 }
 
+-- a span with one more frame that was heard, and all frames bridged that were invented before it
 abbrev pub joined_by : OpenSpan → Mark → OpenSpan
 joined_by current mark = record {
   span = record { first = current.span.first; last = mark; heard = current.span.heard + 1; bridged = current.invented };
   invented = current.invented;
 }
 
+-- a span with one more frame that was invented
 abbrev pub with_invented : OpenSpan → OpenSpan
 with_invented current = record { span = current.span; invented = current.invented + 1 }
 
@@ -57,6 +59,7 @@ counted_at tape Before = tape
 counted_at tape (Within current) = ended_by tape current.span (Behind current.span.last)
 counted_at tape (Behind mark) = tape
 
+-- the tape with the span at its place counted
 abbrev pub counted : Tape → Tape
 counted tape = counted_at tape tape.place
 
@@ -87,6 +90,7 @@ after_frame tape (Gone tick) = counted tape
 
 -- ---- what the next frame tells
 
+-- a frame that ends no span and no gap
 abbrev pub no_cut : Cut
 no_cut = record { ended = None; gap = None }
 
@@ -112,6 +116,7 @@ cut_by tape (Gone tick) = record { ended = ended_at tape.place; gap = None }
 
 -- ---- that the numbers have room
 
+-- how many frames the span at this place has
 abbrev pub frames_at : TapePlace → ℕ
 frames_at Before = 0
 frames_at (Within current) = current.span.heard + current.invented
@@ -128,16 +133,19 @@ pub record FitsSpan (span : Span) : Type 0 where
   pub heard : span.heard < 2 ^ 40
   pub bridged : span.bridged < 2 ^ 40
 
+-- the numbers of a span that ended and of a gap are within their bounds
 pub record FitsCut (cut : Cut) : Type 0 where
   pub span : IfSome cut.ended FitsSpan
   pub gap : IfSome cut.gap (λ gap. gap.ticks < 2 ^ 60)
 
+-- the numbers of an open span are within their bounds
 pub record IsOpen (current : OpenSpan) : Type 0 where
   pub first : current.span.first.tick < 2 ^ 60
   pub last : current.span.last.tick < 2 ^ 60
   pub some : 1 ≤ current.span.heard
   pub bridged : current.span.bridged ≤ current.invented
 
+-- the numbers at a place of a tape are within their bounds
 abbrev pub IsTapePlace : TapePlace → Type 0
 IsTapePlace Before = Unit {0}
 IsTapePlace (Within current) = IsOpen current

@@ -3,7 +3,7 @@ use Rattle.std.specs.Prelude.{◌≡◌, ℕ, ◌+◌, ◌-◌, ◌*◌, ◌%◌
 use Rattle.std.specs.Prelude.{unsigned_abs}
 use Rattle.std.specs.Int.{int_rem_euclid}
 
--- the place that lies so many places further, or back where the steps are negative, modulo the day
+-- the place that lies this many places further, or back where the steps are negative, modulo the day
 abbrev pub moved : ℕ → ℕ → ℤ → ℕ
 moved day place steps = unsigned_abs (int_rem_euclid (pos place +ℤ steps) (pos day))
 

@@ -23,6 +23,6 @@ is_same_time a b =
 unfoldable pub number_of : Address → ℕ
 number_of a = position_or_len (λ other. is_same_time other a) (labels a.count)
 
--- the label that stands so many places further in the list of the day, which begins again at its end
+-- the label that is this many places further in the list of the day, which begins again at its end
 unfoldable pub step : Address → ℤ → Address
 step a steps = unwrap_or (slice_get (labels a.count) (moved (length (labels a.count)) (number_of a) steps)) a

@@ -26,6 +26,7 @@ flags drop_frame colour_frame zero one two = record {
   group_flag_two = two;
 }
 
+-- the fields of a word, by their parts
 abbrev pub field_values : Address → Flags → ℕ → FieldValues
 field_values label flags user = record { label = label; flags = flags; user = user }
 

@@ -9,7 +9,7 @@ use Rattle.tc_bits.specs.Register.{number_in}
 abbrev pub is_in : ℕ → Place → Bool
 is_in bit place = nat_le place.first bit && nat_lt bit (place.first + place.width)
 
--- each of the lowest bits, so many of them, belongs to exactly one of the places
+-- each of the lowest bits, this many of them, belongs to exactly one of the places
 abbrev pub are_shared_out : ℕ → List Place → Bool
 are_shared_out count places = list_all (λ bit. count_by (is_in bit) places == 1) (range_with_len 0 count)
 
@@ -22,6 +22,7 @@ pub record Entry : Type 0 where
   pub place : Place
   pub number : ℕ
 
+-- a place with a number
 abbrev pub entry : Place → ℕ → Entry
 entry place number = record { place = place; number = number }
 
@@ -44,7 +45,7 @@ abbrev pub sum_of : List Entry → ℕ
 sum_of [] = 0
 sum_of (e ∷ row) = e.number * 2 ^ e.place.first + sum_of row
 
--- the places of the row share out so many bits, and its numbers fit them
+-- the places of the row share out this many bits, and its numbers fit them
 pub record IsRow (count : ℕ) (row : List Entry) : Type 0 where
   pub shared : are_shared_out count (places_of row) ≡ true
   pub within : are_within count (places_of row) ≡ true
@@ -54,7 +55,7 @@ pub record IsRow (count : ℕ) (row : List Entry) : Type 0 where
 abbrev pub SumHolds : Type 0
 SumHolds = (count : ℕ) (row : List Entry) → IsRow count row → Holds row (sum_of row) × (sum_of row < 2 ^ count)
 
--- and no other register of so many bits has
+-- and no other register of that many bits has
 abbrev pub OnlySumHolds : Type 0
 OnlySumHolds = (count : ℕ) (row : List Entry) (bits : ℕ) → IsRow count row → bits < 2 ^ count → Holds row bits
     → bits ≡ sum_of row

@@ -8,7 +8,7 @@ use Rattle.tc_bits.specs.Fields.{FieldValues}
 use Rattle.tc_bits.specs.Row.{Entry, entry, are_within}
 use Rattle.tc_bits.specs.UserBits.{group}
 
--- so many bits from this one on
+-- this many bits from this one on
 abbrev pub place : ℕ → ℕ → Place
 place first width = record { first = first; width = width }
 

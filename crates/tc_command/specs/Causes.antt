@@ -23,8 +23,10 @@ abbrev pub ended_with : {T : Type 0} → Result T Stop → Status
 ended_with (Ok _) = Done
 ended_with (Err stop) = status_of stop
 
+-- the result of a job fits the count of the source's faults
 abbrev pub HasSourceCause : {T : Type 0} → ℕ → ℕ → Result T Stop → Type 0
 HasSourceCause before now result = SourceCause (ended_with result) before now
 
+-- the result of a job fits the count of the output's faults
 abbrev pub HasOutCause : {T : Type 0} → ℕ → ℕ → Result T Stop → Type 0
 HasOutCause before now result = OutCause (ended_with result) before now

@@ -3,6 +3,7 @@ use Rattle.std.specs.Prelude.{◌≡◌, ℕ, List, ◌++◌}
 use Rattle.tc_io.specs.Sink.{IsFront}
 use Rattle.tc_command.specs.Meaning.{Meaning}
 
+-- what is written of some bytes comes first in what is written of more, and a limit stays passed
 pub record ComesFirst (m : Meaning) : Type 0 where
   -- what is written of some bytes comes first in what is written of more bytes
   pub part : (front more a b : List ℕ) → m.part front a → m.part (front ++ more) b → IsFront a b

@@ -8,6 +8,7 @@ use Rattle.tc_command.specs.ComesFirst.{ComesFirst}
 use Rattle.tc_command.specs.Meaning.{Meaning, IsInput, IsOutput}
 use Rattle.tc_command.specs.WholeInput.{HasStatus}
 
+-- what holds of the meaning of every command
 pub record IsCommand (m : Meaning) : Type 0 where
   -- what is written of some bytes comes first in what is written of more, and a limit of its own that is passed stays
   -- so

@@ -6,7 +6,7 @@ use Rattle.tc_command.specs.declared.status.Status.{Status}
 use Rattle.tc_command.specs.declared.status.Status.TheVariants.{Done, Usage, Refused, ReadFault, WriteFault}
 use Rattle.tc_command.specs.declared.status.Status.TheVariants.{Memory, Limit}
 
--- so many pulls of a job that reads stood at the end of its input or behind it, and none of one that reads nothing. A
+-- how many pulls of a job that reads were at the end of its input or behind it, and none of one that reads nothing. A
 -- refusal and a failed push come before the end or at it, and so does want of memory; a failed pull and a limit come
 -- before it
 abbrev pub EndsSeen : Bool → Status → ℕ → Type 0

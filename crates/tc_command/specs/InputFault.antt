@@ -4,7 +4,8 @@ use Rattle.interval_file.specs.Fault as intervals
 use Rattle.line_file.specs.Fault as lines
 use Rattle.wave_file.specs.Fault as sound
 use Rattle.tc_command.specs.declared.input_fault.InputFault.{InputFault}
-use Rattle.tc_command.specs.declared.input_fault.InputFault.TheVariants.{Intervals, Lines, Sound, HalfSample, Labels}
+use Rattle.tc_command.specs.declared.input_fault.InputFault.TheVariants.{Intervals, Lines, Sound, Labels}
+use Rattle.tc_command.specs.declared.input_fault.InputFault.TheVariants.{HalfField, HalfSample}
 
 -- the name of a fault, and the byte place at which it stands, from 0
 abbrev pub at_byte : List ℕ → ℕ → List ℕ
@@ -20,4 +21,5 @@ fault_text (Intervals fault) = at_byte (intervals.name_of fault) (intervals.plac
 fault_text (Lines fault) = at_byte (lines.name_of fault) (lines.place_of fault)
 fault_text (Sound fault) = at_byte (sound.name_of fault) (sound.place_of fault)
 fault_text (HalfSample place) = at_byte (codes "truncated") place
+fault_text (HalfField place) = at_byte (codes "truncated") place
 fault_text (Labels fault) = at_column fault.line fault.column

@@ -63,23 +63,28 @@ pub on_ok : {P Q : Type 0} (result : Result (Unit {0}) Stop) → OnOk result P �
 on_ok (Ok done) says to = to says
 on_ok (Err stop) says to = tt
 
+-- after an Ok, two things that hold then hold together
 pub both_ok : (P Q : Type 0) (result : Result (Unit {0}) Stop) → OnOk result P → OnOk result Q → OnOk result (P × Q)
 both_ok P Q (Ok done) p q = (p, q)
 both_ok P Q (Err stop) p q = tt
 
+-- after a stop, what is said of it and what holds then hold together
 pub err_both : (P : Stop → Type 0) (Q : Type 0) (result : Result (Unit {0}) Stop) → IfErr result P → OnErr result Q
     → IfErr result (λ stop. P stop × Q)
 err_both P Q (Ok done) p q = tt
 err_both P Q (Err stop) p q = (p, q)
 
+-- after a stop, what follows from what holds then
 pub on_err : {P Q : Type 0} (result : Result (Unit {0}) Stop) → OnErr result P → (P → Q) → OnErr result Q
 on_err (Ok done) says to = tt
 on_err (Err stop) says to = to says
 
+-- what holds anyway holds after a stop
 pub at_err : {P : Type 0} (result : Result (Unit {0}) Stop) → P → OnErr result P
 at_err (Ok done) says = tt
 at_err (Err stop) says = says
 
+-- what follows from what is said of a stop
 pub if_err : {P Q : Stop → Type 0} (result : Result (Unit {0}) Stop) → IfErr result P
     → ((stop : Stop) → P stop → Q stop) → IfErr result Q
 if_err (Ok done) says to = tt
@@ -110,6 +115,7 @@ along m ReadFault left bytes output is = absurd is
 along m WriteFault left bytes output is = inl is
 along m Limit left bytes output is = is
 
+-- a stop at the end of the input is one of the stops along it
 pub along_at_end : (m : Meaning) (stop : Stop) (left : Option (List ℕ)) (bytes output : List ℕ) → IsAtEnd left
     → IsEndStop m stop bytes output → StopsAlong m stop left bytes output
 along_at_end m (Refused fault) left bytes output end is = inr ((λ reads. end), is)

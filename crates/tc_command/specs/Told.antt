@@ -6,6 +6,7 @@ use Rattle.tc_command.specs.Command.{IsCommand}
 use Rattle.tc_command.specs.Meaning.{Meaning, IsInput, writes}
 use Rattle.tc_command.specs.Worked.{IsWorked}
 
+-- a command: its meaning, its promise, and whether it has a limit of its own
 pub record Told : Type 1 where
   pub meaning : Meaning
   -- what it promises of a run that came to its end, of the bytes that were pulled and those that were written

@@ -39,7 +39,7 @@ pub trait Engine {
         → Shows (meaning (choice engine)) good bytes × Meaning.part (meaning (choice engine)) bytes written };
 
     /// Works on the first of the bytes that were pulled, on one at least, and answers on how many.
-    /// What they complete is pushed, or gathered for `flush` where it is no text.
+    /// What they complete is pushed, or gathered for `flush`.
     fn take<K: Sink>(&mut self, bytes: &[u8], out: &mut K) -> Result<usize, Stop>
         requires going { is_going self.old }
         requires some { 0 < length bytes.now }

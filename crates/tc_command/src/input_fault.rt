@@ -15,6 +15,8 @@ pub enum InputFault {
     Sound(WaveFault),
     /// Raw samples end inside a sample. The place is the number of their bytes.
     HalfSample(u64),
+    /// Raw pixels end inside a field. The place is the number of their bytes.
+    HalfField(u64),
     /// Of a text of labels.
     Labels(LineFault),
 }

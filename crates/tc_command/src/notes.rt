@@ -53,7 +53,10 @@ fn refused_note(fault: InputFault) -> Text
         InputFault::Intervals(fault) => byte_note(fault.name(), fault.place()),
         InputFault::Lines(fault) => byte_note(fault.name(), fault.place()),
         InputFault::Sound(fault) => byte_note(fault.name(), fault.place()),
-        InputFault::HalfSample(place) => byte_note("truncated", place),
+        InputFault::HalfSample(place) | InputFault::HalfField(place) => byte_note(
+            "truncated",
+            place,
+        ),
         InputFault::Labels(fault) => column_note(fault.line, fault.column),
     }
 }

@@ -5,7 +5,7 @@ use Rattle.std.specs.List.{list_any}
 use Rattle.tc_io.specs.Source.{ends_after, one_more}
 use Rattle.tc_io.specs.declared.failed.Failed.{Failed}
 
--- the call after so many calls is one that shall fail
+-- the call after this many calls is one that shall fail
 abbrev pub is_failing : List ℕ → ℕ → Bool
 is_failing failing calls = list_any (λ number. number == one_more calls) failing
 

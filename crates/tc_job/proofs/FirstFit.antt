@@ -2,7 +2,7 @@
 use Rattle.std.proofs.Common.{◌≡◌, ℕ, zero, suc, ◌<◌, Bool, true, false, List, [], ◌∷◌, Some, length, get_or, drop}
 use Rattle.std.proofs.Common.{ap, arith}
 use Rattle.std.specs.Prelude.{if◌then◌else◌}
-use Rattle.path_front.specs.declared.grid.Grid.{Grid}
+use Rattle.step_grid.specs.declared.grid.Grid.{Grid}
 use Rattle.tc_address.specs.declared.system.System.{System}
 use Rattle.tc_job.specs.PathGrid.{first_fit, is_fit}
 

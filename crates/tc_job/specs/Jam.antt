@@ -4,12 +4,13 @@ use Rattle.biphase.specs.Shape.{IsShaped}
 use Rattle.tc_job.specs.declared.flight.Flight.{Flight}
 use Rattle.limits.specs.declared.recording.TheConstants.{MAX_TICK_RATE}
 
--- frames that are had so, in cells of so many ticks of a clock of so many ticks a second
+-- frames that are had so, in cells of this many ticks of a clock with this tick rate
 pub record Jamming : Type 0 where
   pub flight : Flight
   pub cell : ℕ
   pub tick_rate : ℕ
 
+-- a clean recording that is to be made, by its values
 abbrev pub jamming_of : Flight → ℕ → ℕ → Jamming
 jamming_of flight cell tick_rate = record { flight = flight; cell = cell; tick_rate = tick_rate }
 

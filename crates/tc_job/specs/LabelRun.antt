@@ -7,5 +7,6 @@ pub record LabelRunning : Type 0 where
   pub base : Timebase
   pub way : Way
 
+-- a run of `labels`, by its values
 abbrev pub label_run_of : Timebase → Way → LabelRunning
 label_run_of base way = record { base = base; way = way }

@@ -4,6 +4,7 @@ pub mod ChaseRun
 pub mod LabelRun
 pub mod LineStripe
 pub mod LoadRun
+pub mod LumaRun
 pub mod Pace
 pub mod PathGrid
 pub mod PathSlicing

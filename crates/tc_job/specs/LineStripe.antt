@@ -6,12 +6,13 @@ use Rattle.tc_job.specs.declared.stripe.TheConstants.{MAX_FRAMES}
 use Rattle.vitc_line.specs.Places.{HasLines}
 use Rattle.vitc_reader.specs.Runs.{IsLineLength}
 
--- so many frames from a label on, in lines that last so many ticks
+-- how many frames from a label on, and how many ticks a line lasts
 pub record LineStriping : Type 0 where
   pub label : Address
   pub frames : ℕ
   pub length : ℕ
 
+-- a line file that is to be made, by its values
 abbrev pub line_stripe_of : Address → ℕ → ℕ → LineStriping
 line_stripe_of label frames length = record { label = label; frames = frames; length = length }
 

@@ -7,6 +7,7 @@ pub record Loading : Type 0 where
   pub seed : ℕ
   pub words : ℕ
 
+-- a load run, by its values
 abbrev pub loading_of : ℕ → ℕ → Loading
 loading_of seed words = record { seed = seed; words = words }
 

@@ -2,13 +2,13 @@
 -- own.
 use Rattle.std.specs.Prelude.{ℕ, ◌*◌, ◌/◌, ◌%◌, ◌==◌, nat_le, Bool, ◌&&◌, List, [], ◌∷◌, Option, Some, None}
 use Rattle.std.specs.Prelude.{if◌then◌else◌}
-use Rattle.path_front.specs.declared.grid.Grid.{Grid}
-use Rattle.path_front.specs.declared.grid.Grid.TheVariants.{Repeat, Sum}
-use Rattle.path_front.specs.declared.tile.TheConstants.{MAX_TICKS}
+use Rattle.step_grid.specs.declared.grid.Grid.{Grid}
+use Rattle.step_grid.specs.declared.grid.Grid.TheVariants.{Repeat, Sum}
+use Rattle.step_grid.specs.declared.grid.TheConstants.{MAX_TICKS}
 use Rattle.tc_address.specs.declared.system.System.{System}
 use Rattle.tc_address.specs.Count.{rate_of}
 
--- how many steps a cell at play speed has, rounded down, in sound of so many samples a second: a frame has 80 cells
+-- how many steps a cell at play speed has, rounded down, in sound of this many samples a second: a frame has 80 cells
 abbrev pub steps_of_cell : System → ℕ → Grid → ℕ
 steps_of_cell system rate (Repeat repeats) = rate * repeats / (80 * rate_of system)
 steps_of_cell system rate (Sum summed) = rate / (80 * rate_of system * summed)
@@ -28,10 +28,11 @@ unfoldable pub first_fit : System → ℕ → List Grid → Option Grid
 first_fit system rate [] = None
 first_fit system rate (grid ∷ more) = if is_fit system rate grid then Some grid else first_fit system rate more
 
+-- the grid for a sound of this many samples a second, if one of these is fit
 abbrev pub grid_for : System → ℕ → Option Grid
 grid_for system rate = first_fit system rate grids
 
--- a step has a whole number of ticks, two at least and not too many, where a sample has so many
+-- a step has a whole number of ticks, two at least and not too many, where a sample has `fineness`
 abbrev pub step_ticks : ℕ → Grid → Option ℕ
 step_ticks fineness (Repeat repeats) =
     if (fineness % repeats == 0) && nat_le 2 (fineness / repeats) then Some (fineness / repeats) else None

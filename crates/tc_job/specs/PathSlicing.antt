@@ -1,14 +1,14 @@
 -- What is told of sound whose best path is to be written.
 use Rattle.std.specs.Prelude.{◌≡◌, ℕ, ◌*◌, ◌^◌, ◌≤◌, Some}
-use Rattle.path_front.specs.declared.grid.Grid.{Grid}
-use Rattle.path_front.specs.Grid.{IsGrid}
+use Rattle.step_grid.specs.declared.grid.Grid.{Grid}
+use Rattle.step_grid.specs.Grid.{IsGrid}
 use Rattle.tc_address.specs.declared.system.System.{System}
 use Rattle.tc_job.specs.declared.slicing.TheConstants.{MAX_FINENESS}
 use Rattle.tc_job.specs.PathGrid.{grid_for, step_ticks}
 use Rattle.tc_job.specs.SoundLevel.{IsLevel}
 use Rattle.limits.specs.declared.recording.TheConstants.{MAX_TICK_RATE}
 
--- time code of a system, in sound of so many samples a second, of this level at least, in so many ticks a sample; how
+-- time code of a system, in sound: its samples a second, its least level, the ticks of a sample; how
 -- samples become steps, and how many ticks a step has
 pub record SlicesPath : Type 0 where
   pub system : System
@@ -18,6 +18,7 @@ pub record SlicesPath : Type 0 where
   pub grid : Grid
   pub ticks : ℕ
 
+-- sound whose best path is to be written, by its values
 abbrev pub path_slicing_of : System → ℕ → ℕ → ℕ → Grid → ℕ → SlicesPath
 path_slicing_of system rate least fineness grid ticks = record {
   system = system;

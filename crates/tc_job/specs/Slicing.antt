@@ -7,8 +7,8 @@ use Rattle.tc_address.specs.declared.system.System.{System}
 use Rattle.tc_job.specs.declared.slicing.TheConstants.{MAX_FINENESS}
 use Rattle.limits.specs.declared.recording.TheConstants.{MAX_TICK_RATE}
 
--- time code of a system, in sound of so many samples a second, at a threshold of sums, so many ticks a sample, in sums
--- of so many samples; and whether its distances are written as they pass
+-- time code of a system, in sound: its samples a second, a threshold of sums, the ticks of a sample, how many samples
+-- a sum has; and whether its distances are written as they pass
 pub record Slices : Type 0 where
   pub system : System
   pub rate : ℕ
@@ -17,6 +17,7 @@ pub record Slices : Type 0 where
   pub smooth : ℕ
   pub live : Bool
 
+-- sound that is to be sliced, by its values
 abbrev pub slicing_of : System → ℕ → Threshold → ℕ → ℕ → Bool → Slices
 slicing_of system rate threshold fineness smooth live = record {
   system = system;

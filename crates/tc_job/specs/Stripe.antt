@@ -6,7 +6,7 @@ use Rattle.tc_address.specs.Label.{Address, IsLabel}
 use Rattle.tc_job.specs.declared.stripe.TheConstants.{MAX_FRAMES}
 use Rattle.limits.specs.declared.recording.TheConstants.{MAX_TICK_RATE}
 
--- so many frames from a label on in a direction, with cells of a shape, in ticks of a clock of so many ticks a second
+-- how many frames from a label on in a direction, with cells of a shape, in ticks of a clock with this tick rate
 pub record Striping : Type 0 where
   pub direction : Direction
   pub label : Address
@@ -14,6 +14,7 @@ pub record Striping : Type 0 where
   pub shape : Shape
   pub tick_rate : ℕ
 
+-- a recording that is to be made, by its values
 abbrev pub stripe_of : Direction → Address → ℕ → Shape → ℕ → Striping
 stripe_of direction label frames shape tick_rate =
     record { direction = direction; label = label; frames = frames; shape = shape; tick_rate = tick_rate }

@@ -1,7 +1,7 @@
 -- What is told of a sound file of whose track the best path is to be written.
 use Rattle.std.specs.Prelude.{ℕ, ◌*◌, ◌≤◌, Option, Some, None}
 use Rattle.std.specs.Option.{option_map}
-use Rattle.path_front.specs.declared.grid.Grid.{Grid}
+use Rattle.step_grid.specs.declared.grid.Grid.{Grid}
 use Rattle.tc_address.specs.declared.system.System.{System}
 use Rattle.tc_address.specs.Count.{rate_of}
 use Rattle.tc_job.specs.PathGrid.{grid_for, step_ticks}
@@ -15,6 +15,7 @@ pub record SlicesTrackPath : Type 0 where
   pub track : ℕ
   pub least : ℕ
 
+-- a track whose best path is to be written, by its values
 abbrev pub track_path_of : System → ℕ → ℕ → SlicesTrackPath
 track_path_of system track least = record { system = system; track = track; least = least }
 
@@ -35,6 +36,6 @@ sound_on t rate None = None
 sound_on t rate (Some grid) =
     option_map (λ ticks. path_slicing_of t.system rate t.least 16 grid ticks) (step_ticks 16 grid)
 
--- and of so many samples a second
+-- and of this many samples a second
 abbrev pub sound_of : SlicesTrackPath → ℕ → Option SlicesPath
 sound_of t rate = sound_on t rate (grid_for t.system rate)

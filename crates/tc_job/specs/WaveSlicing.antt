@@ -6,7 +6,7 @@ use Rattle.pcm_front.specs.State.{IsThreshold}
 use Rattle.tc_address.specs.declared.system.System.{System}
 use Rattle.limits.specs.declared.sound_file.TheConstants.{MAX_TRACKS}
 
--- time code of a system, in a track, at a threshold of sums, in sums of so many samples; and whether its distances are
+-- time code of a system, in a track, at a threshold of sums; how many samples a sum has; and whether its distances are
 -- written as they pass
 pub record SlicesWave : Type 0 where
   pub system : System
@@ -15,6 +15,7 @@ pub record SlicesWave : Type 0 where
   pub smooth : ℕ
   pub live : Bool
 
+-- a track that is to be sliced, by its values
 abbrev pub wave_slicing_of : System → ℕ → Threshold → ℕ → Bool → SlicesWave
 wave_slicing_of system track threshold smooth live = record {
   system = system;

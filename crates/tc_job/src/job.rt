@@ -5,6 +5,7 @@ use crate::jam::Jam;
 use crate::label_run::LabelRun;
 use crate::line_stripe::LineStripe;
 use crate::load_run::LoadRun;
+use crate::luma_run::LumaRun;
 use crate::path_slicing::PathSlicing;
 use crate::slicing::Slicing;
 use crate::sound_level::SoundLevel;
@@ -73,6 +74,9 @@ pub enum Job {
     LtcPcm { level: SoundLevel },
     /// `vitc-read`: reads a line file, and writes a line for each field.
     VitcRead,
+    /// `luma-vitc SYSTEM WIDTH HEIGHT FIRST ROWS`: reads fields of gray pixels, and writes a line file of what their
+    /// rows say.
+    LumaVitc { run: LumaRun },
     /// `vitc-make COUNT LABEL FRAMES LENGTH`: makes a line file of these frames.
     VitcMake { stripe: LineStripe },
     /// `number COUNT LABEL`: writes how many labels of the count stand before the label in the day.

@@ -6,10 +6,10 @@
 //! What this crate promises: each value keeps the ranges of its words, whoever made it (the definitions of
 //! `specs/`, as `IsStripe` of `Stripe.antt`), and gives back what it was made of.
 //!
-//! Read `fault`, `job`, `stripe`, `flight`, `jam`, `chase_run`, `label_run`, `line_stripe`, `load_run`, `pace`,
-//! `slicing`, `path_grid`, `path_slicing`, `track_path`, `sound_level`, `wave_slicing` and `witness`, with `specs/`
-//! beside them; `usages`, the table that `help` prints; and `page_line`, `pages` and `values`, its pages. Nothing here
-//! allocates or fails.
+//! Read `fault`, `job`, `stripe`, `flight`, `jam`, `chase_run`, `label_run`, `line_stripe`, `load_run`, `luma_run`,
+//! `pace`, `slicing`, `path_grid`, `path_slicing`, `track_path`, `sound_level`, `wave_slicing` and `witness`, with
+//! `specs/` beside them; `usages`, the table that `help` prints; and `page_line`, `pages` and `values`, its pages.
+//! Nothing here allocates or fails.
 //!
 //! A later command joins in these places:
 //! - its job, a variant of `Job` (`job`), whose doc line begins with its word;
@@ -26,6 +26,7 @@ mod label_run;
 pub mod laws;
 mod line_stripe;
 mod load_run;
+mod luma_run;
 mod pace;
 mod page_line;
 pub mod pages;
@@ -48,6 +49,7 @@ pub use job::{Job, Task};
 pub use label_run::LabelRun;
 pub use line_stripe::LineStripe;
 pub use load_run::{LoadRun, MAX_WORDS};
+pub use luma_run::LumaRun;
 pub use page_line::PageLine;
 pub use path_grid::{grid_for, step_ticks};
 pub use path_slicing::PathSlicing;

@@ -1,19 +1,10 @@
 //! What `help` tells of each command, and of the exit numbers, a row a line: the command, or `statuses`, and the line.
 //! Read next: `values`, the lines of values.
 use crate::page_line::PageLine;
-use crate::values::{
-    BOUND, CELL, CELL_OF_JAM, COMMAND_OF_CODE, COMMAND_OF_FILES, COMMAND_OF_LABELS,
-    COMMAND_OF_OTHERS, COUNT, COUNT_TO, COUNT_WITH_LINES, DEEP, DIRECTION, FINENESS, FIRM,
-    FIRM_ALONE, FIRM_OF_CHASE, FIRM_OF_JAM, FOLLOW_OR_DEEP, FRAMES, FRAMES_WITH_LINES,
-    LABEL_SECOND, LABEL_SINCE, LABEL_THIRD, LENGTH, LEVEL, LIMIT, LIMIT_OF_CHASE, LIVE,
-    LIVE_OF_TRACK, N, NTSC, NUMBER, PATH, PATH_OF_TRACK, RATE, SEED, SEED_OF_SLIPS, SMOOTH,
-    SMOOTH_OF_TRACK, STATUSES, STEP, SYSTEM, THRESHOLD, THRESHOLD_OF_TRACK, TICK_RATE,
-    TICK_RATE_OF_JAM, TO_CELL, TRACK, VERSION, WAY_ALONE, WAY_ALONG, WAY_SINCE, WAY_TO, WORDS,
-    WORN_OR_ROUGH, WORN_OR_ROUGH_OF_CHASE, WORN_OR_ROUGH_OF_JAM,
-};
+use crate::values;
 
 /// What each command does.
-pub const SAID: [(&str, PageLine); 23] = [
+pub const SAID: [(&str, PageLine); 24] = [
     (
         "ltc-read",
         (
@@ -147,7 +138,7 @@ pub const SAID: [(&str, PageLine); 23] = [
     (
         "ltc-make",
         (
-            "Writes an interval file of so many frames from a label on. Nothing is read.",
+            "Writes an interval file of FRAMES frames, from LABEL on. Nothing is read.",
             "",
             "",
             0,
@@ -211,9 +202,20 @@ pub const SAID: [(&str, PageLine); 23] = [
         ),
     ),
     (
+        "luma-vitc",
+        (
+            "Writes a line file of what the rows of a picture say. Standard input is fields\n\
+            of gray pixels, a byte each, row behind row; 255 is white.",
+            "",
+            "",
+            0,
+            0,
+        ),
+    ),
+    (
         "vitc-make",
         (
-            "Writes a line file of so many frames from a label on: two fields a frame, of\n\
+            "Writes a line file of FRAMES frames, from LABEL on: two fields a frame, of\n\
             two equal lines each. Nothing is read.",
             "",
             "",
@@ -272,91 +274,97 @@ pub const SAID: [(&str, PageLine); 23] = [
 
 /// The values of its words, in the order of its form: of the commands along a recording.
 pub const VALUES_OF_RECORDINGS: [(&str, PageLine); 23] = [
-    ("ltc-rough", FIRM_ALONE),
-    ("ltc-fly", LIMIT),
-    ("ltc-fly", WORN_OR_ROUGH),
-    ("ltc-fly", FIRM),
-    ("ltc-spans", LIMIT),
-    ("ltc-spans", WORN_OR_ROUGH),
-    ("ltc-spans", FIRM),
-    ("ltc-mtc", LIMIT),
-    ("ltc-mtc", WORN_OR_ROUGH),
-    ("ltc-mtc", FIRM),
-    ("ltc-jam", LIMIT),
-    ("ltc-jam", CELL_OF_JAM),
-    ("ltc-jam", TICK_RATE_OF_JAM),
-    ("ltc-jam", WORN_OR_ROUGH_OF_JAM),
-    ("ltc-jam", FIRM_OF_JAM),
-    ("ltc-convert", VERSION),
-    ("ltc-chase", COUNT),
-    ("ltc-chase", LABEL_SECOND),
-    ("ltc-chase", LIMIT_OF_CHASE),
-    ("ltc-chase", SEED_OF_SLIPS),
-    ("ltc-chase", BOUND),
-    ("ltc-chase", WORN_OR_ROUGH_OF_CHASE),
-    ("ltc-chase", FIRM_OF_CHASE),
+    ("ltc-rough", values::FIRM_ALONE),
+    ("ltc-fly", values::LIMIT),
+    ("ltc-fly", values::WORN_OR_ROUGH),
+    ("ltc-fly", values::FIRM),
+    ("ltc-spans", values::LIMIT),
+    ("ltc-spans", values::WORN_OR_ROUGH),
+    ("ltc-spans", values::FIRM),
+    ("ltc-mtc", values::LIMIT),
+    ("ltc-mtc", values::WORN_OR_ROUGH),
+    ("ltc-mtc", values::FIRM),
+    ("ltc-jam", values::LIMIT),
+    ("ltc-jam", values::CELL_OF_JAM),
+    ("ltc-jam", values::TICK_RATE_OF_JAM),
+    ("ltc-jam", values::WORN_OR_ROUGH_OF_JAM),
+    ("ltc-jam", values::FIRM_OF_JAM),
+    ("ltc-convert", values::VERSION),
+    ("ltc-chase", values::COUNT),
+    ("ltc-chase", values::LABEL_SECOND),
+    ("ltc-chase", values::LIMIT_OF_CHASE),
+    ("ltc-chase", values::SEED_OF_SLIPS),
+    ("ltc-chase", values::BOUND),
+    ("ltc-chase", values::WORN_OR_ROUGH_OF_CHASE),
+    ("ltc-chase", values::FIRM_OF_CHASE),
 ];
 
-/// The same of the commands of sound.
-pub const VALUES_OF_SOUND: [(&str, PageLine); 16] = [
-    ("pcm-ltc", SYSTEM),
-    ("pcm-ltc", RATE),
-    ("pcm-ltc", THRESHOLD),
-    ("pcm-ltc", FINENESS),
-    ("pcm-ltc", PATH),
-    ("pcm-ltc", FOLLOW_OR_DEEP),
-    ("pcm-ltc", SMOOTH),
-    ("pcm-ltc", LIVE),
-    ("wav-ltc", SYSTEM),
-    ("wav-ltc", TRACK),
-    ("wav-ltc", THRESHOLD_OF_TRACK),
-    ("wav-ltc", PATH_OF_TRACK),
-    ("wav-ltc", SMOOTH_OF_TRACK),
-    ("wav-ltc", DEEP),
-    ("wav-ltc", LIVE_OF_TRACK),
-    ("ltc-pcm", LEVEL),
+/// The same of the commands of sound and of pixels.
+pub const VALUES_OF_SIGNALS: [(&str, PageLine); 21] = [
+    ("pcm-ltc", values::SYSTEM),
+    ("pcm-ltc", values::RATE),
+    ("pcm-ltc", values::THRESHOLD),
+    ("pcm-ltc", values::FINENESS),
+    ("pcm-ltc", values::PATH),
+    ("pcm-ltc", values::FOLLOW_OR_DEEP),
+    ("pcm-ltc", values::SMOOTH),
+    ("pcm-ltc", values::LIVE),
+    ("wav-ltc", values::SYSTEM),
+    ("wav-ltc", values::TRACK),
+    ("wav-ltc", values::THRESHOLD_OF_TRACK),
+    ("wav-ltc", values::PATH_OF_TRACK),
+    ("wav-ltc", values::SMOOTH_OF_TRACK),
+    ("wav-ltc", values::DEEP),
+    ("wav-ltc", values::LIVE_OF_TRACK),
+    ("ltc-pcm", values::LEVEL),
+    ("luma-vitc", values::SYSTEM_WITH_LINES),
+    ("luma-vitc", values::WIDTH),
+    ("luma-vitc", values::HEIGHT),
+    ("luma-vitc", values::FIRST),
+    ("luma-vitc", values::ROWS),
 ];
 
 /// The same of those that make or take labels, and of `help`.
-pub const VALUES_OF_LABELS: [(&str, PageLine); 34] = [
-    ("ltc-make", COUNT),
-    ("ltc-make", DIRECTION),
-    ("ltc-make", LABEL_THIRD),
-    ("ltc-make", FRAMES),
-    ("ltc-make", CELL),
-    ("ltc-make", TICK_RATE),
-    ("ltc-make", TO_CELL),
-    ("ltc-make", STEP),
-    ("ltc-load", SEED),
-    ("ltc-load", WORDS),
-    ("chase", COUNT),
-    ("chase", LABEL_SECOND),
-    ("vitc-make", COUNT_WITH_LINES),
-    ("vitc-make", LABEL_SECOND),
-    ("vitc-make", FRAMES_WITH_LINES),
-    ("vitc-make", LENGTH),
-    ("number", COUNT),
-    ("number", LABEL_SECOND),
-    ("label", COUNT),
-    ("label", NUMBER),
-    ("labels", COUNT),
-    ("labels", NTSC),
-    ("labels", WAY_ALONE),
-    ("labels", WAY_ALONG),
-    ("labels", N),
-    ("labels", WAY_SINCE),
-    ("labels", LABEL_SINCE),
-    ("labels", WAY_TO),
-    ("labels", COUNT_TO),
-    ("help", COMMAND_OF_CODE),
-    ("help", COMMAND_OF_FILES),
-    ("help", COMMAND_OF_OTHERS),
-    ("help", COMMAND_OF_LABELS),
-    ("help", STATUSES),
+pub const VALUES_OF_LABELS: [(&str, PageLine); 35] = [
+    ("ltc-make", values::COUNT),
+    ("ltc-make", values::DIRECTION),
+    ("ltc-make", values::LABEL_THIRD),
+    ("ltc-make", values::FRAMES),
+    ("ltc-make", values::CELL),
+    ("ltc-make", values::TICK_RATE),
+    ("ltc-make", values::TO_CELL),
+    ("ltc-make", values::STEP),
+    ("ltc-load", values::SEED),
+    ("ltc-load", values::WORDS),
+    ("chase", values::COUNT),
+    ("chase", values::LABEL_SECOND),
+    ("vitc-make", values::COUNT_WITH_LINES),
+    ("vitc-make", values::LABEL_SECOND),
+    ("vitc-make", values::FRAMES_WITH_LINES),
+    ("vitc-make", values::LENGTH),
+    ("number", values::COUNT),
+    ("number", values::LABEL_SECOND),
+    ("label", values::COUNT),
+    ("label", values::NUMBER),
+    ("labels", values::COUNT),
+    ("labels", values::NTSC),
+    ("labels", values::WAY_ALONE),
+    ("labels", values::WAY_ALONG),
+    ("labels", values::N),
+    ("labels", values::WAY_SINCE),
+    ("labels", values::LABEL_SINCE),
+    ("labels", values::WAY_TO),
+    ("labels", values::COUNT_TO),
+    ("help", values::COMMAND_OF_WORDS),
+    ("help", values::COMMAND_OF_FRAMES),
+    ("help", values::COMMAND_OF_RECORDINGS),
+    ("help", values::COMMAND_OF_OTHERS),
+    ("help", values::COMMAND_OF_LABELS),
+    ("help", values::STATUSES),
 ];
 
 /// Its examples: the words are told, each behind a space.
-pub const EXAMPLES: [(&str, PageLine); 32] = [
+pub const EXAMPLES: [(&str, PageLine); 33] = [
     (
         "ltc-read",
         ("Example: tc ltc-read", "", " < tape.ltci", 0, 0),
@@ -531,6 +539,16 @@ pub const EXAMPLES: [(&str, PageLine); 32] = [
     (
         "vitc-read",
         ("Example: tc vitc-read", "", " < tape.vitl", 0, 0),
+    ),
+    (
+        "luma-vitc",
+        (
+            "Example: tc luma-vitc",
+            " 25 720 288 0 40",
+            " < fields.gray > tape.vitl",
+            0,
+            0,
+        ),
     ),
     (
         "vitc-make",

@@ -1,12 +1,12 @@
 //! How the samples of a sound become steps. Read next: `path_slicing`.
 ghost use Rattle.std.specs.Prelude.{◌≡◌, ◌≤◌, ◌*◌, ◌^◌, IfSome};
 ghost use Rattle.limits.specs.declared.recording.TheConstants.{MAX_TICK_RATE};
-ghost use Rattle.path_front.specs.Grid.{IsGrid};
+ghost use Rattle.step_grid.specs.Grid.{IsGrid};
 ghost use Rattle.tc_job.specs.PathGrid.{grid_for, is_fit, step_ticks, steps_of_cell};
 ghost use Rattle.tc_job.specs.declared.slicing.TheConstants.{MAX_FINENESS};
 
 use limits::MAX_TICK_RATE;
-use path_front::{Grid, MAX_TICKS};
+use step_grid::{Grid, MAX_TICKS};
 use tc_address::{System, rate};
 
 /// The grids that are tried, those with the most steps for a sample first.

@@ -2,8 +2,8 @@
 ghost use Rattle.std.specs.Prelude.{◌≡◌, ◌*◌};
 ghost use Rattle.tc_job.specs.PathSlicing.{IsPathSlicing, path_slicing_of};
 
-use path_front::Grid;
 use std::marker::Model;
+use step_grid::Grid;
 use tc_address::System;
 
 /// Sound, and how its best path is written.

@@ -3,7 +3,7 @@
 /// The word of each command and what stands behind it in its line of `help`, a row a command. A word in capitals is a
 /// value, what stands in brackets may be left out, and of words with a bar between them one is given, and so of ways
 /// with a bar between them.
-pub const USAGES: [(&str, &str); 23] = [
+pub const USAGES: [(&str, &str); 24] = [
     ("ltc-read", ""),
     ("ltc-worn", ""),
     ("ltc-rough", " [firm]"),
@@ -33,6 +33,7 @@ pub const USAGES: [(&str, &str); 23] = [
         " COUNT LABEL LIMIT SEED BOUND [worn|rough [firm]]",
     ),
     ("vitc-read", ""),
+    ("luma-vitc", " SYSTEM WIDTH HEIGHT FIRST ROWS"),
     ("vitc-make", " COUNT LABEL FRAMES LENGTH"),
     ("number", " COUNT LABEL"),
     ("label", " COUNT NUMBER"),

@@ -115,7 +115,7 @@ pub const FOLLOW_OR_DEEP: PageLine = (
 pub const SMOOTH: PageLine = (
     "  SMOOTH ",
     "1 to 16",
-    ": sums of so many samples are sliced",
+    ": sums of this many samples are sliced",
     6,
     6,
 );
@@ -149,7 +149,7 @@ pub const PATH_OF_TRACK: PageLine = (
 pub const SMOOTH_OF_TRACK: PageLine = (
     "  SMOOTH ",
     "1 to 16",
-    ": sums of so many samples are sliced",
+    ": sums of this many samples are sliced",
     4,
     4,
 );
@@ -171,6 +171,28 @@ pub const LIVE_OF_TRACK: PageLine = (
 );
 
 pub const LEVEL: PageLine = ("  LEVEL ", "1 to 32767", ": the size of each sample", 1, 1);
+
+pub const SYSTEM_WITH_LINES: PageLine = ("  SYSTEM ", "25|30", ": frames a second", 1, 1);
+
+pub const WIDTH: PageLine = ("  WIDTH ", "360 to 4096", ": pixels a row", 2, 2);
+
+pub const HEIGHT: PageLine = ("  HEIGHT ", "1 to 4096", ": rows a field", 3, 3);
+
+pub const FIRST: PageLine = (
+    "  FIRST ",
+    "0 to HEIGHT-1",
+    ": the first row that is looked at; the top row is 0",
+    4,
+    4,
+);
+
+pub const ROWS: PageLine = (
+    "  ROWS ",
+    "1 to 40",
+    ": how many rows are looked at; FIRST + ROWS is at most HEIGHT",
+    5,
+    5,
+);
 
 pub const COUNT: PageLine = (
     "  COUNT ",
@@ -327,7 +349,7 @@ pub const WAY_ALONE: PageLine = (
 pub const WAY_ALONG: PageLine = (
     "  WAY ",
     "plus|minus",
-    ": the label that is so many labels further on or back",
+    ": the label that is N labels further on or back",
     2,
     3,
 );
@@ -335,7 +357,7 @@ pub const WAY_ALONG: PageLine = (
 pub const N: PageLine = (
     "  N ",
     "0 to 4294967295",
-    ": so many, behind plus or minus",
+    ": how many labels, behind plus or minus",
     3,
     4,
 );
@@ -372,26 +394,34 @@ pub const COUNT_TO: PageLine = (
     4,
 );
 
-pub const COMMAND_OF_CODE: PageLine = (
+pub const COMMAND_OF_WORDS: PageLine = (
     "  COMMAND ",
-    "ltc-read|ltc-worn|ltc-rough|ltc-fly|ltc-spans|ltc-mtc|ltc-jam",
-    ": read",
+    "ltc-read|ltc-worn|ltc-rough",
+    ": the words of a recording",
     1,
     1,
 );
 
-pub const COMMAND_OF_FILES: PageLine = (
+pub const COMMAND_OF_FRAMES: PageLine = (
     "  COMMAND ",
-    "ltc-convert|pcm-ltc|wav-ltc|ltc-pcm|ltc-make|ltc-load",
-    ": files",
+    "ltc-fly|ltc-spans|ltc-mtc|ltc-jam|ltc-chase",
+    ": its frames",
+    1,
+    1,
+);
+
+pub const COMMAND_OF_RECORDINGS: PageLine = (
+    "  COMMAND ",
+    "pcm-ltc|wav-ltc|ltc-pcm|ltc-convert|ltc-make|ltc-load",
+    ": recordings",
     1,
     1,
 );
 
 pub const COMMAND_OF_OTHERS: PageLine = (
     "  COMMAND ",
-    "mtc-read|chase|ltc-chase|vitc-read|vitc-make",
-    ": others",
+    "mtc-read|vitc-read|luma-vitc|vitc-make|chase",
+    ": MIDI, pictures, scripts",
     1,
     1,
 );

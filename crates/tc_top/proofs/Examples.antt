@@ -1,6 +1,6 @@
 -- A recording of the intervals 2 and 3 that was sounded at 1,000, and what reads it again: what is supposed of the
 -- second command can be met.
-use Rattle.std.proofs.Common.{◌≡◌, ℕ, false, List, [], ◌∷◌, map, refl, arith}
+use Rattle.std.proofs.Common.{ℕ, false, List, [], ◌∷◌, map, refl, arith}
 use Rattle.pcm_front.specs.declared.threshold.Threshold.TheVariants.{Fixed, Follow}
 use Rattle.pcm_front.specs.Samples.{bytes_of, samples_of}
 use Rattle.pcm_front.specs.Sound.{sound}

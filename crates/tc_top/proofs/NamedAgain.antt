@@ -1,14 +1,13 @@
 -- The number that is written has its label, and so has the text.
-use Rattle.std.proofs.Common.{◌≡◌, ℕ, ◌<◌, ◌^◌, List, [], ◌∷◌, Ok, Some, sym, subst, slice_get, arith, refl}
-use Rattle.std.specs.Prelude.{codes, decimal}
+use Rattle.std.proofs.Common.{◌≡◌, ℕ, ◌<◌, ◌^◌, List, Some, slice_get, arith, refl}
+use Rattle.std.specs.Prelude.{decimal}
 use Rattle.tc_address.specs.declared.count.Count.{Count}
 use Rattle.tc_address.specs.declared.count.Count.TheVariants.{C24, C25, C30, Drop30}
 use Rattle.tc_address.specs.Label.{Address, IsLabel, labels}
 use Rattle.tc_address.specs.Numbering.{day_length, number_of}
 use Rattle.tc_words.specs.NumberLemmas.{number_written}
-use Rattle.tc_words.specs.Values.{count_in, numbered}
+use Rattle.tc_words.specs.Values.{numbered}
 use Rattle.tc_words.specs.Words.{label_of, number}
-use Rattle.made_commands.specs.Labels.{NamesTheLabel, NumbersTheLabel}
 use Rattle.tc_top.specs.LabelsAgain.{IsNamedAgain, IsNumberedAgain}
 
 -- what the laws of labels say

@@ -10,9 +10,13 @@ use Rattle.interval_file.specs.declared.header.IntervalHeader.{IntervalHeader}
 use Rattle.interval_file.specs.Grammar.{IsFile}
 use Rattle.interval_file.specs.Recording.{Recording, recording_of}
 use Rattle.tc_job.specs.declared.job.Job.{Job}
-use Rattle.tc_job.specs.declared.job.Job.TheVariants.{LtcMtc, LtcJam, LtcPcm, Number, LabelOf, Help, HelpOf}
+use Rattle.tc_job.specs.declared.job.Job.TheVariants.{LtcMtc, LtcJam, LtcPcm, Number, LabelOf, Labels, Help, HelpOf}
 use Rattle.tc_job.specs.declared.job.Job.TheVariants.{HelpStatuses}
 use Rattle.tc_job.specs.Jam.{Jamming}
+use Rattle.tc_job.specs.LabelRun.{LabelRunning}
+use Rattle.tc_command.specs.Meaning.{Meaning, IsInput}
+use Rattle.label_command.specs.AnsweredAgain.{IsAnsweredAgain}
+use Rattle.label_command.specs.Labels.{along_labels}
 use Rattle.interval_engine.specs.Along.{IsWholeOf}
 use Rattle.interval_commands.specs.LtcRead.{last_line, lines, report}
 use Rattle.tc_top.specs.CleanCopy.{IsReportedClean}
@@ -34,6 +38,8 @@ pub record ReadOnLaws : Type 1 where
   pub forms : FormsLaws
   pub pages : PagesLaws
   pub sound : SoundLaws
+  pub again : (run : LabelRunning) (bytes written : List ℕ) → IsInput (along_labels run) bytes
+      → Meaning.output (along_labels run) bytes written → IsAnsweredAgain run bytes written
 
 -- the report of a file within the limit whose events are these
 reported : ReadOnLaws → (header : IntervalHeader) (list bytes : List ℕ) (events : List Event) → IsFile bytes header list
@@ -57,6 +63,7 @@ read_on laws (LtcPcm size) level = λ pulled written are input output.
     sliced_again laws.sound size (level size refl) pulled written are input output
 read_on laws (Number label) level = λ pulled written are input output. named_again laws.numbers label pulled written
 read_on laws (LabelOf label) level = λ pulled written are input output. numbered_by_text label pulled written
+read_on laws (Labels run) level = λ pulled written are input output. laws.again run pulled written input output
 read_on laws Help level = λ pulled written are input output. tells_the_forms laws.forms written output.1
 read_on laws (HelpOf page) level = λ pulled written are input output.
     tells_of_the_command laws.pages page written output.1

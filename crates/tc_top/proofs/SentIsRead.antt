@@ -1,6 +1,6 @@
 -- What was sent of a recording is read as its frames, and reported so: none of the labels is refused.
 use Rattle.std.proofs.Common.{◌≡◌, ℕ, ◌+◌, Bool, true, false, cond, List, [], ◌∷◌, ◌++◌, map, length, count_by}
-use Rattle.std.proofs.Common.{Option, Some, None, refl, sym, ◌∙◌, ap, ap₂, append-nil}
+use Rattle.std.proofs.Common.{Option, Some, None, refl, ◌∙◌, ap, ap₂, append-nil}
 use Rattle.std.specs.Prelude.{sum}
 use Rattle.std.specs.List.{take_while}
 use Rattle.std.proofs.lemmas.List.Sums.{sum_by-append}
@@ -8,7 +8,7 @@ use Rattle.flywheel.specs.declared.frame.Frame.{Frame}
 use Rattle.flywheel.specs.declared.heard.HeardWord.{HeardWord}
 use Rattle.flywheel.specs.Frames.{frames}
 use Rattle.mtc_reader.specs.declared.event.MtcEvent.{MtcEvent}
-use Rattle.mtc_reader.specs.declared.event.MtcEvent.TheVariants.{Full, Quarter, RefusedFull, RefusedQuarter}
+use Rattle.mtc_reader.specs.declared.event.MtcEvent.TheVariants.{Full}
 use Rattle.mtc_reader.specs.Events.{events_in}
 use Rattle.mtc_reader.specs.Texts.{end_line}
 use Rattle.quarter_frame.specs.ReadAgain.{all_placed, pairs_read, placed, read_from, read_of, run_length, run_read}

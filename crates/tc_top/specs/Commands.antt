@@ -22,6 +22,7 @@ use Rattle.made_commands.specs.Load.{told_ltc_load}
 use Rattle.made_commands.specs.Made.{told_ltc_make}
 use Rattle.made_commands.specs.MadeLines.{told_vitc_make}
 use Rattle.made_commands.specs.Pages.{told_page, told_statuses}
+use Rattle.signal_commands.specs.LumaVitc.{told_luma_vitc}
 use Rattle.signal_commands.specs.MtcRead.{told_mtc_read}
 use Rattle.signal_commands.specs.PcmLtc.{told_pcm_ltc}
 use Rattle.signal_commands.specs.PcmPath.{told_pcm_path}
@@ -29,6 +30,7 @@ use Rattle.signal_commands.specs.VitcRead.{told_vitc_read}
 use Rattle.signal_commands.specs.WavLtc.{told_wav_ltc}
 use Rattle.signal_commands.specs.WavPath.{told_wav_path}
 
+-- the command of each job: its meaning, its promise, and whether it has a limit of its own
 abbrev pub told_of : Job → Told
 told_of jobs.LtcRead = told_ltc_read Normal
 told_of jobs.LtcWorn = told_ltc_read Worn
@@ -49,6 +51,7 @@ told_of (jobs.WavLtc slicing) = told_wav_ltc slicing
 told_of (jobs.WavPath path) = told_wav_path path
 told_of jobs.MtcRead = told_mtc_read
 told_of jobs.VitcRead = told_vitc_read
+told_of (jobs.LumaVitc run) = told_luma_vitc run
 told_of (jobs.VitcMake stripe) = told_vitc_make stripe
 told_of (jobs.Number label) = told_number label
 told_of (jobs.LabelOf label) = told_label label

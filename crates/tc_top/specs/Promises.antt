@@ -2,8 +2,9 @@
 use Rattle.std.specs.Prelude.{ℕ, List}
 use Rattle.tc_io.specs.Bytes.{AreBytes}
 use Rattle.tc_job.specs.declared.job.Job.{Job}
-use Rattle.tc_job.specs.declared.job.Job.TheVariants.{LtcMtc, LtcJam, LtcPcm, Number, LabelOf, Help, HelpOf}
+use Rattle.tc_job.specs.declared.job.Job.TheVariants.{LtcMtc, LtcJam, LtcPcm, Number, LabelOf, Labels, Help, HelpOf}
 use Rattle.tc_job.specs.declared.job.Job.TheVariants.{HelpStatuses}
+use Rattle.label_command.specs.AnsweredAgain.{IsAnsweredAgain}
 use Rattle.tc_command.specs.Meaning.{Meaning, IsInput}
 use Rattle.tc_top.specs.CleanCopy.{IsReportedClean}
 use Rattle.tc_top.specs.Commands.{meaning_of, told_of}
@@ -14,14 +15,17 @@ use Rattle.tc_top.specs.SentAgain.{SendsTheFrames}
 use Rattle.tc_top.specs.SoundAgain.{IsSlicedAgain}
 
 -- what a further command makes of what a job wrote: `mtc-read` of what `ltc-mtc` sends, `ltc-read` of what `ltc-jam`
--- copies, `pcm-ltc` and `wav-ltc` of what `ltc-pcm` sounds, `number` and `label` of what the other writes, and each
--- command of its line of `help` and of the values and examples of its page. A line where the output of one is read by another
+-- what a further command makes of what a job wrote: `mtc-read` of what `ltc-mtc` sends, `ltc-read` of what `ltc-jam`
+-- copies, `pcm-ltc` and `wav-ltc` of what `ltc-pcm` sounds, `number` and `label` of what the other writes, `labels` of
+-- its own answers, and each command of its line of `help` and of the values and examples of its page. A line where the
+-- output of one is read by another
 abbrev pub ReadsOn : Job → List ℕ → List ℕ → Type 0
 ReadsOn (LtcMtc flight) = SendsTheFrames flight
 ReadsOn (LtcJam jam) = IsReportedClean jam
 ReadsOn (LtcPcm level) = IsSlicedAgain level
 ReadsOn (Number label) = IsNamedAgain label
 ReadsOn (LabelOf label) = IsNumberedAgain label
+ReadsOn (Labels run) = IsAnsweredAgain run
 ReadsOn Help = λ pulled. TellsTheForms
 ReadsOn (HelpOf page) = λ pulled. TellsOfTheCommand page
 ReadsOn HelpStatuses = λ pulled. TellsOfTheStatuses

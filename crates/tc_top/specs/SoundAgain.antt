@@ -19,7 +19,7 @@ use Rattle.signal_commands.specs.PcmLtc.{sliced_header}
 use Rattle.signal_commands.specs.WavLtc.{track_header}
 use Rattle.signal_commands.specs.WavLtc.{asked_by}
 
--- each interval, so many times as long
+-- each interval, `fineness` times as long
 abbrev pub times : ℕ → List ℕ → List ℕ
 times fineness intervals = map (λ interval. fineness * interval) intervals
 
@@ -55,8 +55,8 @@ abbrev pub IsBehindTheFirst : IntervalHeader → List ℕ → List ℕ → Type 
 IsBehindTheFirst header intervals written = (first : List ℕ) × (length first ≤ 1)
     × (written ≡ file_of header (flat_map pieces_of first ++ flat_map pieces_of (times 16 intervals)))
 
--- at each fixed threshold of at most the level, and at each fineness, the crossings of the sound lie so many ticks
--- apart as each interval of the recording has, so many times. So `pcm-ltc` writes the file of these distances, and in
+-- at each fixed threshold of at most the level, and at each fineness, the distances of the crossings of the
+-- sound are the intervals of the recording, times the fineness. So `pcm-ltc` writes the file of these distances, and in
 -- whole samples that of the intervals themselves; and so does `wav-ltc` of a sound file of these samples, behind the
 -- first interval
 pub record IsSlicedAgain (level : ℕ) (bytes sound : List ℕ) : Type 0 where

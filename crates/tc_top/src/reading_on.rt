@@ -6,6 +6,7 @@ ghost use Rattle.tc_top.specs.Promises.{IsReadOn};
 use direction_reader::laws::a_list_has_one_list_of_events;
 use frame_commands::laws::what_is_heard_has_labels_of_its_system;
 use interval_file::laws::{a_file_is_read_as_it_was_written, bytes_are_read_as_the_text_says};
+use label_command::laws::answers_are_answered_again;
 use made_commands::laws::help_tells_of_each_status;
 use pcm_front::laws::{
     a_sound_is_sliced_at_a_threshold_that_follows, a_sound_is_sliced_into_its_intervals,
@@ -19,8 +20,8 @@ use tc_words::laws::{
 };
 
 /// What is sent is read as the frames of the file, the report of a copy is that of its frames, what is sounded is
-/// sliced
-/// into its intervals again, and what is told of labels and of commands is taken as words.
+/// sliced into its intervals again, what is told of labels and of commands is taken as words, and what is answered to
+/// labels is answered again.
 pub(crate) fn it_is_read_on(job: &Job)
     ensures { IsReadOn job.now }
 {
@@ -38,6 +39,7 @@ pub(crate) fn it_is_read_on(job: &Job)
     a_sound_is_sliced_into_its_intervals();
     a_sound_is_sliced_at_a_threshold_that_follows();
     sums_of_one_are_the_samples();
+    answers_are_answered_again();
     has_a_level_of_samples(job);
 }
 

@@ -32,8 +32,8 @@ use signal_commands::laws::{
     each_signal_makes_a_command, paths_are_lawful, sliced_sound_is_lawful,
 };
 use signal_commands::{
-    fields_are_lawful, hear_path, hear_track, midi_is_lawful, read_fields, read_midi, slice_sound,
-    slice_track, sliced_tracks_are_lawful,
+    fields_are_lawful, hear_path, hear_track, midi_is_lawful, pixels_are_lawful, read_fields,
+    read_midi, read_pixels, slice_sound, slice_track, sliced_tracks_are_lawful,
 };
 use tc_command::{Status, Stop, push_note, stop_note};
 use tc_io::{Sink, Source};
@@ -105,6 +105,7 @@ pub(crate) fn each_job_is_lawful()
     sliced_sound_is_lawful();
     fields_are_lawful();
     paths_are_lawful();
+    pixels_are_lawful();
     each_signal_makes_a_command();
     line_stripes_are_lawful();
     numbers_are_lawful();
@@ -141,6 +142,7 @@ fn work_on<S: Source, K: Sink>(job: &Job, source: &mut S, out: &mut K) -> Result
         Job::WavPath { path } => hear_track(path, source, out),
         Job::MtcRead => read_midi(source, out),
         Job::VitcRead => read_fields(source, out),
+        Job::LumaVitc { run } => read_pixels(run, source, out),
         Job::VitcMake { stripe } => make_lines(stripe, source, out),
         Job::Number { label } => tell_number(label, source, out),
         Job::LabelOf { label } => tell_label(label, source, out),

@@ -1,8 +1,6 @@
 -- Of the words that `labels` takes each is named by its page: the count, `ntsc`, the way, and the values behind it.
-use Rattle.std.proofs.Common.{◌≡◌, ℕ, suc, Bool, true, false, ◌&&◌, List, [], ◌∷◌, length, Some, None, Ok, Err, refl, rules, subst}
+use Rattle.std.proofs.Common.{◌≡◌, ℕ, suc, Bool, true, false, List, [], ◌∷◌, length, Err, refl, rules, subst}
 use Rattle.std.specs.Prelude.{codes, if◌then◌else◌}
-use Rattle.std.specs.declared.option.Option.{Option}
-use Rattle.std.specs.declared.result.Result.{Result}
 use Rattle.std.specs.List.{list_any}
 use Rattle.std.specs.Option.{is_some}
 use Rattle.std.specs.Result.{is_ok}
@@ -23,25 +21,9 @@ use Rattle.tc_words.specs.LabelRun.{timebase_of, way_of}
 use Rattle.tc_words.specs.Pages.{are_told, between_spaces, is_told}
 use Rattle.tc_words.specs.Values.{Word, count_in, map_ok, value_or}
 use Rattle.tc_words.specs.Words.{task_of}
+use Rattle.tc_words.proofs.Taken.{both, ok_below, some_is, took}
 
 -- ---- what was taken
-
-pub both : (a b : Bool) → a ≡ true → b ≡ true → (a && b) ≡ true
-both true b is so = so
-both false b is so = is
-
-ok_below : {X Y : Type 0} (make : X → Y) (r : Result X WordsFault) → is_ok (map_ok make r) ≡ true → is_ok r ≡ true
-ok_below make (Ok value) taken = refl
-ok_below make (Err fault) taken = taken
-
--- a value that was read, and what follows from it
-took : {X Y : Type 0} (place : ℕ) (value : Option X) (next : X → Result Y WordsFault)
-    → is_ok (value_or place value next) ≡ true → (x : X) × (value ≡ Some x) × (is_ok (next x) ≡ true)
-took place None next taken = absurd cc
-took place (Some x) next taken = (x, refl, taken)
-
-some_is : {X : Type 0} (value : Option X) (x : X) → value ≡ Some x → is_some value ≡ true
-some_is value x is = rw is refl
 
 -- the count and the way were read, and the number of values fits
 pub record IsAnswered (count way : Word) (place : ℕ) (values : List Word) : Type 0 where
@@ -79,8 +61,8 @@ ntsc_told w = search rules
 -- the words of the ways
 abbrev is_way : Word → Bool
 is_way way =
-    list_any (λ word. bytes_eq way word) (codes "number" ∷ codes "label" ∷ codes "seconds" ∷ codes "plus" ∷ codes "minus"
-    ∷ codes "since" ∷ codes "to" ∷ [])
+    list_any (λ word. bytes_eq way word)
+    (codes "number" ∷ codes "label" ∷ codes "seconds" ∷ codes "plus" ∷ codes "minus" ∷ codes "since" ∷ codes "to" ∷ [])
 
 way_is : (base : Timebase) (place : ℕ) (way : Word) (values : List Word) → is_ok (way_of base place way values) ≡ true
     → is_way way ≡ true

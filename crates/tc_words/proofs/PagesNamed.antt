@@ -19,7 +19,9 @@ use Rattle.tc_words.specs.WavLtc.{deep_in, sliced_track}
 use Rattle.tc_words.specs.WavPath.{path_of_track}
 use Rattle.tc_words.specs.Words.{task_of, ltc_rough, ltc_jam, ltc_chase, ltc_make, ltc_load, ltc_convert}
 use Rattle.tc_words.specs.Words.{pcm_ltc, wav_ltc, ltc_pcm, vitc_make, number, label_of, chase}
-use Rattle.tc_words.proofs.LabelsNamed.{both, labels_named}
+use Rattle.tc_words.proofs.LabelsNamed.{labels_named}
+use Rattle.tc_words.proofs.LumaNamed.{luma_named}
+use Rattle.tc_words.proofs.Taken.{both}
 
 abbrev pub Named : Word → Type 0
 Named command = (values : List Word) → is_ok (task_of command values) ≡ true → are_told command 1 values ≡ true
@@ -63,7 +65,8 @@ samples_seven_first : (a b c d e f g : Word) → is_ok (task_of (codes "pcm-ltc"
 unfolding between_bars between_spaces pcm_ltc sliced path_of_samples system_in
 samples_seven_first a b c d e f g = search rules
 
-samples_seven_second : (a b c d e f g : Word) → is_ok (task_of (codes "pcm-ltc") (a ∷ b ∷ c ∷ d ∷ e ∷ f ∷ g ∷ [])) ≡ true
+samples_seven_second : (a b c d e f g : Word)
+    → is_ok (task_of (codes "pcm-ltc") (a ∷ b ∷ c ∷ d ∷ e ∷ f ∷ g ∷ [])) ≡ true
     → is_told (codes "pcm-ltc") 2 b ≡ true
 unfolding between_bars between_spaces pcm_ltc sliced path_of_samples rate_with_grid
 samples_seven_second a b c d e f g = search rules
@@ -73,7 +76,8 @@ samples_seven_third : (a b c d e f g : Word) → is_ok (task_of (codes "pcm-ltc"
 unfolding between_bars between_spaces pcm_ltc sliced path_of_samples
 samples_seven_third a b c d e f g = search rules
 
-samples_seven_fourth : (a b c d e f g : Word) → is_ok (task_of (codes "pcm-ltc") (a ∷ b ∷ c ∷ d ∷ e ∷ f ∷ g ∷ [])) ≡ true
+samples_seven_fourth : (a b c d e f g : Word)
+    → is_ok (task_of (codes "pcm-ltc") (a ∷ b ∷ c ∷ d ∷ e ∷ f ∷ g ∷ [])) ≡ true
     → is_told (codes "pcm-ltc") 4 d ≡ true
 unfolding between_bars between_spaces pcm_ltc sliced path_of_samples fineness_with_ticks fineness_in rate_with_grid
 samples_seven_fourth a b c d e f g = search rules
@@ -88,7 +92,8 @@ samples_seven_sixth : (a b c d e f g : Word) → is_ok (task_of (codes "pcm-ltc"
 unfolding between_bars between_spaces pcm_ltc sliced path_of_samples
 samples_seven_sixth a b c d e f g = search rules
 
-samples_seven_seventh : (a b c d e f g : Word) → is_ok (task_of (codes "pcm-ltc") (a ∷ b ∷ c ∷ d ∷ e ∷ f ∷ g ∷ [])) ≡ true
+samples_seven_seventh : (a b c d e f g : Word)
+    → is_ok (task_of (codes "pcm-ltc") (a ∷ b ∷ c ∷ d ∷ e ∷ f ∷ g ∷ [])) ≡ true
     → is_told (codes "pcm-ltc") 7 g ≡ true
 unfolding between_bars between_spaces pcm_ltc sliced path_of_samples
 samples_seven_seventh a b c d e f g = search rules
@@ -123,42 +128,50 @@ make_six_sixth : (a b c d e f : Word) → is_ok (task_of (codes "ltc-make") (a �
 unfolding between_bars between_spaces ltc_make striped
 make_six_sixth a b c d e f = search rules
 
-make_eight_first : (a b c d e f g h : Word) → is_ok (task_of (codes "ltc-make") (a ∷ b ∷ c ∷ d ∷ e ∷ f ∷ g ∷ h ∷ [])) ≡ true
+make_eight_first : (a b c d e f g h : Word)
+    → is_ok (task_of (codes "ltc-make") (a ∷ b ∷ c ∷ d ∷ e ∷ f ∷ g ∷ h ∷ [])) ≡ true
     → is_told (codes "ltc-make") 1 a ≡ true
 unfolding between_bars between_spaces ltc_make striped count_in
 make_eight_first a b c d e f g h = search rules
 
-make_eight_second : (a b c d e f g h : Word) → is_ok (task_of (codes "ltc-make") (a ∷ b ∷ c ∷ d ∷ e ∷ f ∷ g ∷ h ∷ [])) ≡ true
+make_eight_second : (a b c d e f g h : Word)
+    → is_ok (task_of (codes "ltc-make") (a ∷ b ∷ c ∷ d ∷ e ∷ f ∷ g ∷ h ∷ [])) ≡ true
     → is_told (codes "ltc-make") 2 b ≡ true
 unfolding between_bars between_spaces ltc_make striped direction_named
 make_eight_second a b c d e f g h = search rules
 
-make_eight_third : (a b c d e f g h : Word) → is_ok (task_of (codes "ltc-make") (a ∷ b ∷ c ∷ d ∷ e ∷ f ∷ g ∷ h ∷ [])) ≡ true
+make_eight_third : (a b c d e f g h : Word)
+    → is_ok (task_of (codes "ltc-make") (a ∷ b ∷ c ∷ d ∷ e ∷ f ∷ g ∷ h ∷ [])) ≡ true
     → is_told (codes "ltc-make") 3 c ≡ true
 unfolding between_bars between_spaces ltc_make striped count_in
 make_eight_third a b c d e f g h = search rules
 
-make_eight_fourth : (a b c d e f g h : Word) → is_ok (task_of (codes "ltc-make") (a ∷ b ∷ c ∷ d ∷ e ∷ f ∷ g ∷ h ∷ [])) ≡ true
+make_eight_fourth : (a b c d e f g h : Word)
+    → is_ok (task_of (codes "ltc-make") (a ∷ b ∷ c ∷ d ∷ e ∷ f ∷ g ∷ h ∷ [])) ≡ true
     → is_told (codes "ltc-make") 4 d ≡ true
 unfolding between_bars between_spaces ltc_make striped
 make_eight_fourth a b c d e f g h = search rules
 
-make_eight_fifth : (a b c d e f g h : Word) → is_ok (task_of (codes "ltc-make") (a ∷ b ∷ c ∷ d ∷ e ∷ f ∷ g ∷ h ∷ [])) ≡ true
+make_eight_fifth : (a b c d e f g h : Word)
+    → is_ok (task_of (codes "ltc-make") (a ∷ b ∷ c ∷ d ∷ e ∷ f ∷ g ∷ h ∷ [])) ≡ true
     → is_told (codes "ltc-make") 5 e ≡ true
 unfolding between_bars between_spaces ltc_make striped
 make_eight_fifth a b c d e f g h = search rules
 
-make_eight_sixth : (a b c d e f g h : Word) → is_ok (task_of (codes "ltc-make") (a ∷ b ∷ c ∷ d ∷ e ∷ f ∷ g ∷ h ∷ [])) ≡ true
+make_eight_sixth : (a b c d e f g h : Word)
+    → is_ok (task_of (codes "ltc-make") (a ∷ b ∷ c ∷ d ∷ e ∷ f ∷ g ∷ h ∷ [])) ≡ true
     → is_told (codes "ltc-make") 6 f ≡ true
 unfolding between_bars between_spaces ltc_make striped
 make_eight_sixth a b c d e f g h = search rules
 
-make_eight_seventh : (a b c d e f g h : Word) → is_ok (task_of (codes "ltc-make") (a ∷ b ∷ c ∷ d ∷ e ∷ f ∷ g ∷ h ∷ [])) ≡ true
+make_eight_seventh : (a b c d e f g h : Word)
+    → is_ok (task_of (codes "ltc-make") (a ∷ b ∷ c ∷ d ∷ e ∷ f ∷ g ∷ h ∷ [])) ≡ true
     → is_told (codes "ltc-make") 7 g ≡ true
 unfolding between_bars between_spaces ltc_make striped
 make_eight_seventh a b c d e f g h = search rules
 
-make_eight_eighth : (a b c d e f g h : Word) → is_ok (task_of (codes "ltc-make") (a ∷ b ∷ c ∷ d ∷ e ∷ f ∷ g ∷ h ∷ [])) ≡ true
+make_eight_eighth : (a b c d e f g h : Word)
+    → is_ok (task_of (codes "ltc-make") (a ∷ b ∷ c ∷ d ∷ e ∷ f ∷ g ∷ h ∷ [])) ≡ true
     → is_told (codes "ltc-make") 8 h ≡ true
 unfolding between_bars between_spaces ltc_make striped between
 make_eight_eighth a b c d e f g h = search rules
@@ -226,41 +239,49 @@ code_chase_six_sixth : (a b c d e f : Word) → is_ok (task_of (codes "ltc-chase
 unfolding between_bars between_spaces ltc_chase chased tolerance_in
 code_chase_six_sixth a b c d e f = search rules
 
-code_chase_seven_first : (a b c d e f g : Word) → is_ok (task_of (codes "ltc-chase") (a ∷ b ∷ c ∷ d ∷ e ∷ f ∷ g ∷ [])) ≡ true
+code_chase_seven_first : (a b c d e f g : Word)
+    → is_ok (task_of (codes "ltc-chase") (a ∷ b ∷ c ∷ d ∷ e ∷ f ∷ g ∷ [])) ≡ true
     → is_told (codes "ltc-chase") 1 a ≡ true
 unfolding between_bars between_spaces ltc_chase chased count_in
 code_chase_seven_first a b c d e f g = search rules
 
-code_chase_seven_second : (a b c d e f g : Word) → is_ok (task_of (codes "ltc-chase") (a ∷ b ∷ c ∷ d ∷ e ∷ f ∷ g ∷ [])) ≡ true
+code_chase_seven_second : (a b c d e f g : Word)
+    → is_ok (task_of (codes "ltc-chase") (a ∷ b ∷ c ∷ d ∷ e ∷ f ∷ g ∷ [])) ≡ true
     → is_told (codes "ltc-chase") 2 b ≡ true
 unfolding between_bars between_spaces ltc_chase chased count_in
 code_chase_seven_second a b c d e f g = search rules
 
-code_chase_seven_third : (a b c d e f g : Word) → is_ok (task_of (codes "ltc-chase") (a ∷ b ∷ c ∷ d ∷ e ∷ f ∷ g ∷ [])) ≡ true
+code_chase_seven_third : (a b c d e f g : Word)
+    → is_ok (task_of (codes "ltc-chase") (a ∷ b ∷ c ∷ d ∷ e ∷ f ∷ g ∷ [])) ≡ true
     → is_told (codes "ltc-chase") 3 c ≡ true
 unfolding between_bars between_spaces ltc_chase chased
 code_chase_seven_third a b c d e f g = search rules
 
-code_chase_seven_seed : (a b c d e f g : Word) → is_ok (task_of (codes "ltc-chase") (a ∷ b ∷ c ∷ d ∷ e ∷ f ∷ g ∷ [])) ≡ true
+code_chase_seven_seed : (a b c d e f g : Word)
+    → is_ok (task_of (codes "ltc-chase") (a ∷ b ∷ c ∷ d ∷ e ∷ f ∷ g ∷ [])) ≡ true
     → is_some (number_spelled d) ≡ true
 unfolding ltc_chase chased
 code_chase_seven_seed a b c d e f g = search rules
 
-code_chase_seven_fourth : (a b c d e f g : Word) → is_ok (task_of (codes "ltc-chase") (a ∷ b ∷ c ∷ d ∷ e ∷ f ∷ g ∷ [])) ≡ true
+code_chase_seven_fourth : (a b c d e f g : Word)
+    → is_ok (task_of (codes "ltc-chase") (a ∷ b ∷ c ∷ d ∷ e ∷ f ∷ g ∷ [])) ≡ true
     → is_told (codes "ltc-chase") 4 d ≡ true
 code_chase_seven_fourth a b c d e f g taken = seed_told d (code_chase_seven_seed a b c d e f g taken)
 
-code_chase_seven_fifth : (a b c d e f g : Word) → is_ok (task_of (codes "ltc-chase") (a ∷ b ∷ c ∷ d ∷ e ∷ f ∷ g ∷ [])) ≡ true
+code_chase_seven_fifth : (a b c d e f g : Word)
+    → is_ok (task_of (codes "ltc-chase") (a ∷ b ∷ c ∷ d ∷ e ∷ f ∷ g ∷ [])) ≡ true
     → is_told (codes "ltc-chase") 5 e ≡ true
 unfolding between_bars between_spaces ltc_chase chased
 code_chase_seven_fifth a b c d e f g = search rules
 
-code_chase_seven_sixth : (a b c d e f g : Word) → is_ok (task_of (codes "ltc-chase") (a ∷ b ∷ c ∷ d ∷ e ∷ f ∷ g ∷ [])) ≡ true
+code_chase_seven_sixth : (a b c d e f g : Word)
+    → is_ok (task_of (codes "ltc-chase") (a ∷ b ∷ c ∷ d ∷ e ∷ f ∷ g ∷ [])) ≡ true
     → is_told (codes "ltc-chase") 6 f ≡ true
 unfolding between_bars between_spaces ltc_chase chased tolerance_in
 code_chase_seven_sixth a b c d e f g = search rules
 
-code_chase_seven_seventh : (a b c d e f g : Word) → is_ok (task_of (codes "ltc-chase") (a ∷ b ∷ c ∷ d ∷ e ∷ f ∷ g ∷ [])) ≡ true
+code_chase_seven_seventh : (a b c d e f g : Word)
+    → is_ok (task_of (codes "ltc-chase") (a ∷ b ∷ c ∷ d ∷ e ∷ f ∷ g ∷ [])) ≡ true
     → is_told (codes "ltc-chase") 7 g ≡ true
 unfolding between_bars between_spaces ltc_chase chased witness_in
 code_chase_seven_seventh a b c d e f g = search rules
@@ -322,7 +343,8 @@ convert_named (a ∷ []) = search rules
 convert_named (a ∷ b ∷ more) = search rules
 
 samples_named : Named (codes "pcm-ltc")
-unfolding between_bars between_spaces pcm_ltc sliced path_of_samples rate_with_grid fineness_with_ticks fineness_in following_in system_in
+unfolding between_bars between_spaces pcm_ltc sliced path_of_samples rate_with_grid fineness_with_ticks fineness_in
+    following_in system_in
 samples_named [] = search rules
 samples_named (a ∷ []) = search rules
 samples_named (a ∷ b ∷ []) = search rules
@@ -486,4 +508,8 @@ version_named [] = search rules
 version_named (a ∷ more) = search rules
 
 pub each_is_named : AreNamed rows
-each_is_named = (read_named, (worn_named, (rough_named, (fly_named, (spans_named, (mtc_named, (jam_named, (convert_named, (samples_named, (track_named, (sound_named, (make_named, (load_named, (midi_named, (chase_named, (code_chase_named, (lines_named, (make_lines_named, (number_named, (label_named, (labels_named, (help_named, (version_named, tt)))))))))))))))))))))))
+each_is_named =
+    (read_named, (worn_named, (rough_named, (fly_named, (spans_named, (mtc_named, (jam_named, (convert_named,
+    (samples_named, (track_named, (sound_named, (make_named, (load_named, (midi_named, (chase_named, (code_chase_named,
+    (lines_named, (luma_named, (make_lines_named, (number_named, (label_named, (labels_named, (help_named,
+    (version_named, tt))))))))))))))))))))))))

@@ -16,20 +16,22 @@ use Rattle.tc_words.specs.Words.{task_of}
 abbrev pub samples : List (Word × Word)
 samples =
     (codes "BOUND", codes "2") ∷ (codes "CELL", codes "400") ∷ (codes "COUNT", codes "30")
-    ∷ (codes "DIRECTION", codes "backward") ∷ (codes "FINENESS", codes "8") ∷ (codes "FRAMES", codes "100")
+    ∷ (codes "DIRECTION", codes "backward") ∷ (codes "FINENESS", codes "8") ∷ (codes "FIRST", codes "4")
+    ∷ (codes "FRAMES", codes "100") ∷ (codes "HEIGHT", codes "288")
     ∷ (codes "LABEL", codes "19:47:58:23") ∷ (codes "LENGTH", codes "1728") ∷ (codes "LEVEL", codes "8192")
     ∷ (codes "LIMIT", codes "3") ∷ (codes "NUMBER", codes "0") ∷ (codes "RATE", codes "48000")
-    ∷ (codes "SEED", codes "53")
+    ∷ (codes "ROWS", codes "40") ∷ (codes "SEED", codes "53")
     ∷ (codes "SMOOTH", codes "2") ∷ (codes "STEP", codes "1") ∷ (codes "SYSTEM", codes "30")
     ∷ (codes "THRESHOLD", codes "1000") ∷ (codes "TICK-RATE", codes "1920000") ∷ (codes "TO-CELL", codes "500")
     ∷ (codes "TRACK", codes "1") ∷ (codes "VERSION", codes "2") ∷ (codes "WAY", codes "number")
-    ∷ (codes "WORDS", codes "100") ∷ []
+    ∷ (codes "WIDTH", codes "720") ∷ (codes "WORDS", codes "100") ∷ []
 
 -- a word of a form that is not in capitals stands for itself
 abbrev pub or_itself : Word → Option Word → Word
 or_itself word None = word
 or_itself word (Some value) = value
 
+-- the value that a word in capitals stands for; another word stands for itself
 abbrev pub value_of : Word → Word
 value_of word = or_itself word (value_in samples word)
 
@@ -116,6 +118,7 @@ with_letter letter r =
     else if letter == 0x5b then brackets_begin (with_word r)
     else record r { letters = letter ∷ r.letters }
 
+-- a form, read from its last letter to its first
 unfoldable pub read_form : List ℕ → FormRead
 read_form [] = record { letters = []; part = no_part; behind = [] }
 read_form (letter ∷ more) = with_letter letter (read_form more)

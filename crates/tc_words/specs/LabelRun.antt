@@ -19,6 +19,7 @@ use Rattle.tc_words.specs.Values.{Word, between, count_in, map_ok, read_or, valu
 
 -- ---- a count and its rate
 
+-- the word `ntsc`
 abbrev pub is_ntsc : Word → Bool
 is_ntsc word = bytes_eq word (codes "ntsc")
 
@@ -39,7 +40,7 @@ timebase_of Drop30 true = None
 
 -- ---- what is answered
 
--- so many labels further on or back, at most 2^32 - 1
+-- how many labels further on or back, at most 2^32 - 1
 unfoldable pub steps_in : ℕ → Option Word → Result ℕ WordsFault
 steps_in place word = value_or place (option_and_then (between 0 4294967295) word) (λ steps. Ok steps)
 
@@ -64,7 +65,7 @@ way_of base place way values =
     then map_ok ways.To (shown_as (place + 1) (slice_get values 0) (slice_get values 1))
     else Err (Value place)
 
--- so many values may stand behind the word of a way: none, one, or behind `to` one or two. How many stand behind
+-- this many values may come behind the word of a way: none, one, or behind `to` one or two. How many stand behind
 -- another word is not asked
 unfoldable pub has_values : Word → ℕ → Bool
 has_values way n =

@@ -5,6 +5,7 @@ pub mod LabelRun
 pub mod Live
 pub mod LtcChase
 pub mod LtcMake
+pub mod LumaVitc
 pub mod NumberLemmas
 pub mod Pages
 pub mod PcmLtc

@@ -3,6 +3,7 @@ use Rattle.std.specs.Prelude.{◌-◌, Bool, codes, List, [], length, take, get_
 use Rattle.std.specs.Str.{bytes_eq}
 use Rattle.tc_words.specs.Values.{Word}
 
+-- the word `live`
 abbrev pub is_live : Word → Bool
 is_live word = bytes_eq word (codes "live")
 

@@ -14,7 +14,7 @@ use Rattle.tc_job.specs.declared.fault.WordsFault.{WordsFault}
 use Rattle.tc_job.specs.declared.fault.WordsFault.TheVariants.{Value}
 use Rattle.tc_job.specs.declared.job.Task.{Task}
 use Rattle.tc_job.specs.declared.pages.TheConstants.{EXAMPLES, VALUES_OF_LABELS, VALUES_OF_RECORDINGS}
-use Rattle.tc_job.specs.declared.pages.TheConstants.{VALUES_OF_SOUND}
+use Rattle.tc_job.specs.declared.pages.TheConstants.{VALUES_OF_SIGNALS}
 use Rattle.tc_words.specs.Forms.{between_bars, in_front, rows}
 use Rattle.tc_words.specs.Values.{Word, between, number_spelled}
 use Rattle.tc_words.specs.Words.{task_of}
@@ -74,7 +74,7 @@ value_rows = map (λ row. record {
   named = row.1.1.now;
   first = row.1.3;
   last = row.1.4;
-}) (VALUES_OF_RECORDINGS ++ VALUES_OF_SOUND ++ VALUES_OF_LABELS)
+}) (VALUES_OF_RECORDINGS ++ VALUES_OF_SIGNALS ++ VALUES_OF_LABELS)
 
 -- an example of a command: what is shown before its words, and these
 pub record ExampleRow : Type 0 where

@@ -3,7 +3,7 @@ use Rattle.std.specs.Prelude.{ℕ, nat_lt, Bool, codes, List, length, get_or, Op
 use Rattle.std.specs.Prelude.{[], if◌then◌else◌, option_and_then, slice_get}
 use Rattle.std.specs.Option.{option_map}
 use Rattle.std.specs.Str.{bytes_eq}
-use Rattle.path_front.specs.declared.grid.Grid.{Grid}
+use Rattle.step_grid.specs.declared.grid.Grid.{Grid}
 use Rattle.tc_address.specs.declared.system.System.{System}
 use Rattle.tc_job.specs.declared.fault.WordsFault.{WordsFault}
 use Rattle.tc_job.specs.declared.fault.WordsFault.TheVariants.{Value}
@@ -20,12 +20,12 @@ use Rattle.tc_words.specs.Values.{Word, between, system_in, value_or}
 abbrev pub is_path : List Word → Bool
 is_path more = bytes_eq (get_or more 1 []) (codes "path")
 
--- so many samples a second, and how they become steps: a cell at play speed has enough of them
+-- how many samples a second has, and how they become steps: a cell at play speed has enough of them
 unfoldable pub rate_with_grid : System → Word → Option (ℕ × Grid)
 rate_with_grid system word =
     option_and_then (λ rate. option_map (λ grid. (rate, grid)) (grid_for system rate)) (between 1 MAX_TICK_RATE word)
 
--- so many ticks a sample, and so many a step: a whole number of them
+-- how many ticks a sample has, and how many a step: a whole number of them
 unfoldable pub fineness_with_ticks : ℕ → Grid → Word → Option (ℕ × ℕ)
 fineness_with_ticks rate grid word =
     option_and_then (λ fineness. option_map (λ ticks. (fineness, ticks)) (step_ticks fineness grid))

@@ -18,7 +18,7 @@ use Rattle.tc_words.specs.Values.{Word, between, read_or, system_in, value_in, v
 unfoldable pub deep_in : ℕ → Word → Option Threshold
 deep_in least word = value_in ((codes "deep", Deep least) ∷ []) word
 
--- the job of three words, and of those behind them that are there: sums of so many samples, a threshold at a quarter of
+-- the job of three words, and of those behind them that are there: the samples of a sum, a threshold at a quarter of
 -- the level; no other word may stand there. The last says whether a distance is written as it passes
 unfoldable pub sliced_track : Word → Word → Word → List Word → Bool → Result Job WordsFault
 sliced_track system track threshold more live =

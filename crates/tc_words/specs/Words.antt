@@ -26,6 +26,7 @@ use Rattle.tc_words.specs.Flight.{flight_in}
 use Rattle.tc_words.specs.Help.{help}
 use Rattle.tc_words.specs.LabelRun.{labels}
 use Rattle.tc_words.specs.LtcMake.{striped}
+use Rattle.tc_words.specs.LumaVitc.{fields_of}
 use Rattle.tc_words.specs.PcmLtc.{sliced}
 use Rattle.tc_words.specs.PcmPath.{is_path, path_of_samples}
 use Rattle.tc_words.specs.WavPath.{is_track_path, path_of_track}
@@ -112,6 +113,11 @@ unfoldable pub ltc_pcm : List Word → Result Job WordsFault
 ltc_pcm (level ∷ []) = value_or 1 (between 1 MAX_LEVEL level) (λ n. Ok (jobs.LtcPcm n))
 ltc_pcm _ = Err CountOfWords
 
+-- `luma-vitc SYSTEM WIDTH HEIGHT FIRST ROWS`
+unfoldable pub luma_vitc : List Word → Result Job WordsFault
+luma_vitc (system ∷ width ∷ height ∷ first ∷ rows ∷ []) = fields_of system width height first rows
+luma_vitc _ = Err CountOfWords
+
 -- `vitc-make COUNT LABEL FRAMES LENGTH`
 unfoldable pub vitc_make : List Word → Result Job WordsFault
 vitc_make (count ∷ label ∷ frames ∷ length ∷ []) =
@@ -153,6 +159,7 @@ job_of command values =
     else if bytes_eq command (codes "wav-ltc") then wav_ltc values
     else if bytes_eq command (codes "ltc-pcm") then ltc_pcm values
     else if bytes_eq command (codes "vitc-read") then no_values jobs.VitcRead values
+    else if bytes_eq command (codes "luma-vitc") then luma_vitc values
     else if bytes_eq command (codes "vitc-make") then vitc_make values
     else if bytes_eq command (codes "number") then number values
     else if bytes_eq command (codes "label") then label_of values

@@ -11,8 +11,8 @@
 //!
 //! Read `words` and `values`, with `specs/Words.antt` and `specs/Values.antt` beside them: `words` and
 //! `Words.antt` have the same rows. Behind them come the files of the commands of many words: `flight`,
-//! `help`, `label_run`, `ltc_chase`, `ltc_make`, `vitc_make`, `live`, `pcm_ltc`, `pcm_path`, `wav_ltc` and `wav_path`. The
-//! tasks themselves stand in `tc_job`.
+//! `help`, `label_run`, `ltc_chase`, `ltc_make`, `luma_vitc`, `vitc_make`, `live`, `pcm_ltc`, `pcm_path`, `wav_ltc` and
+//! `wav_path`. The tasks themselves stand in `tc_job`.
 //!
 //! A later command joins in these places, once it stands in `tc_job`:
 //! - its row in `job_of`, in `words` and in `specs/Words.antt`: its word, and `no_values` with its job where it
@@ -28,6 +28,7 @@ pub mod laws;
 mod live;
 mod ltc_chase;
 mod ltc_make;
+mod luma_vitc;
 pub mod page_laws;
 mod pcm_ltc;
 mod pcm_path;

@@ -1,7 +1,7 @@
 //! The tables of the pages of help, letter by letter.
 ghost use Rattle.std.specs.Prelude.{◌≡◌, ℕ, List, [], ◌∷◌, ◌++◌, codes, map};
 ghost use Rattle.tc_job.specs.declared.pages.TheConstants.{EXAMPLES, EXIT_NUMBERS, SAID, VALUES_OF_LABELS};
-ghost use Rattle.tc_job.specs.declared.pages.TheConstants.{VALUES_OF_RECORDINGS, VALUES_OF_SOUND};
+ghost use Rattle.tc_job.specs.declared.pages.TheConstants.{VALUES_OF_RECORDINGS, VALUES_OF_SIGNALS};
 
 /// What the page of each command says of it.
 pub fn what_each_command_does_is_this()
@@ -27,7 +27,8 @@ pub fn what_each_command_does_is_this()
         ∷ (codes "ltc-jam", codes "Writes the frames of a recording anew as an interval file, in cells of one\n"
             ++ codes "length. User bits and flags are lost, and so are the gaps.\n"
             ++ codes "Standard input is an interval file; a sound file goes through wav-ltc first.")
-        ∷ (codes "ltc-convert", codes "Writes an interval file in the version that is asked for, with the same system,\n"
+        ∷ (codes "ltc-convert",
+            codes "Writes an interval file in the version that is asked for, with the same system,\n"
             ++ codes "tick rate and intervals. Standard input is an interval file.")
         ∷ (codes "pcm-ltc", codes "Writes an interval file of the crossings of sound. Standard input is raw\n"
             ++ codes "samples: 16 bits with a sign, the less significant byte first, one channel.\n"
@@ -37,7 +38,7 @@ pub fn what_each_command_does_is_this()
             ++ codes "to ltc-read.")
         ∷ (codes "ltc-pcm", codes "Writes a recording as raw samples of one size, to be played at its tick rate.\n"
             ++ codes "Standard input is an interval file; a sound file goes through wav-ltc first.")
-        ∷ (codes "ltc-make", codes "Writes an interval file of so many frames from a label on. Nothing is read.")
+        ∷ (codes "ltc-make", codes "Writes an interval file of FRAMES frames, from LABEL on. Nothing is read.")
         ∷ (codes "ltc-load", codes "Makes a recording of varying speed by chance, reads it, and writes one line on\n"
             ++ codes "what was read. Nothing is read from standard input.")
         ∷ (codes "mtc-read", codes "Writes a line for each address in MIDI bytes: of full messages, and of eight\n"
@@ -49,7 +50,9 @@ pub fn what_each_command_does_is_this()
             ++ codes "Standard input is an interval file; a sound file goes through wav-ltc first.")
         ∷ (codes "vitc-read", codes "Writes a line for each field: the word on which its lines agree, two words in\n"
             ++ codes "conflict, or why no line says one. Standard input is a line file.")
-        ∷ (codes "vitc-make", codes "Writes a line file of so many frames from a label on: two fields a frame, of\n"
+        ∷ (codes "luma-vitc", codes "Writes a line file of what the rows of a picture say. Standard input is fields\n"
+            ++ codes "of gray pixels, a byte each, row behind row; 255 is white.")
+        ∷ (codes "vitc-make", codes "Writes a line file of FRAMES frames, from LABEL on: two fields a frame, of\n"
             ++ codes "two equal lines each. Nothing is read.")
         ∷ (codes "number", codes "Writes how many labels of the count stand before the label in a day.")
         ∷ (codes "label", codes "Writes the label of a number in the day of the count.")
@@ -114,8 +117,8 @@ pub fn the_values_of_each_command_are_these()
         ∷ (codes "ltc-chase", codes "  ", codes "firm",
             codes ": a word needs a witness: a sync word of another one beside it", 7, 7)
         ∷ [] }
-    ensures sound { map {B = List ℕ × List ℕ × List ℕ × List ℕ × ℕ × ℕ}
-        (λ row. (row.0.now, row.1.0.now, row.1.1.now, row.1.2.now, row.1.3, row.1.4)) VALUES_OF_SOUND
+    ensures signals { map {B = List ℕ × List ℕ × List ℕ × List ℕ × ℕ × ℕ}
+        (λ row. (row.0.now, row.1.0.now, row.1.1.now, row.1.2.now, row.1.3, row.1.4)) VALUES_OF_SIGNALS
         ≡ (codes "pcm-ltc", codes "  SYSTEM ", codes "24|25|30",
             codes ": frames a second", 1, 1)
         ∷ (codes "pcm-ltc", codes "  RATE ", codes "1 to 100000000",
@@ -129,7 +132,7 @@ pub fn the_values_of_each_command_are_these()
         ∷ (codes "pcm-ltc", codes "  ", codes "follow|deep",
             codes ": the threshold follows the level, at a half or a quarter of it", 5, 5)
         ∷ (codes "pcm-ltc", codes "  SMOOTH ", codes "1 to 16",
-            codes ": sums of so many samples are sliced", 6, 6)
+            codes ": sums of this many samples are sliced", 6, 6)
         ∷ (codes "pcm-ltc", codes "  ", codes "live",
             codes ": a long distance is written in pieces as it passes; the last word", 4, 7)
         ∷ (codes "wav-ltc", codes "  SYSTEM ", codes "24|25|30",
@@ -141,13 +144,23 @@ pub fn the_values_of_each_command_are_these()
         ∷ (codes "wav-ltc", codes "  ", codes "path",
             codes ": the best path through the sound, where it is too noisy to slice", 4, 4)
         ∷ (codes "wav-ltc", codes "  SMOOTH ", codes "1 to 16",
-            codes ": sums of so many samples are sliced", 4, 4)
+            codes ": sums of this many samples are sliced", 4, 4)
         ∷ (codes "wav-ltc", codes "  ", codes "deep",
             codes ": the threshold is a quarter of the level of the sound", 5, 5)
         ∷ (codes "wav-ltc", codes "  ", codes "live",
             codes ": a long distance is written in pieces as it passes; the last word", 4, 6)
         ∷ (codes "ltc-pcm", codes "  LEVEL ", codes "1 to 32767",
             codes ": the size of each sample", 1, 1)
+        ∷ (codes "luma-vitc", codes "  SYSTEM ", codes "25|30",
+            codes ": frames a second", 1, 1)
+        ∷ (codes "luma-vitc", codes "  WIDTH ", codes "360 to 4096",
+            codes ": pixels a row", 2, 2)
+        ∷ (codes "luma-vitc", codes "  HEIGHT ", codes "1 to 4096",
+            codes ": rows a field", 3, 3)
+        ∷ (codes "luma-vitc", codes "  FIRST ", codes "0 to HEIGHT-1",
+            codes ": the first row that is looked at; the top row is 0", 4, 4)
+        ∷ (codes "luma-vitc", codes "  ROWS ", codes "1 to 40",
+            codes ": how many rows are looked at; FIRST + ROWS is at most HEIGHT", 5, 5)
         ∷ [] }
     ensures labels { map {B = List ℕ × List ℕ × List ℕ × List ℕ × ℕ × ℕ}
         (λ row. (row.0.now, row.1.0.now, row.1.1.now, row.1.2.now, row.1.3, row.1.4)) VALUES_OF_LABELS
@@ -198,9 +211,9 @@ pub fn the_values_of_each_command_are_these()
         ∷ (codes "labels", codes "  WAY ", codes "number|label|seconds",
             codes ": what is written of each", 2, 3)
         ∷ (codes "labels", codes "  WAY ", codes "plus|minus",
-            codes ": the label that is so many labels further on or back", 2, 3)
+            codes ": the label that is N labels further on or back", 2, 3)
         ∷ (codes "labels", codes "  N ", codes "0 to 4294967295",
-            codes ": so many, behind plus or minus", 3, 4)
+            codes ": how many labels, behind plus or minus", 3, 4)
         ∷ (codes "labels", codes "  WAY ", codes "since",
             codes ": the shortest way from a label, and how far ahead of it it is", 2, 3)
         ∷ (codes "labels", codes "  LABEL ", codes "HH:MM:SS:FF",
@@ -209,12 +222,14 @@ pub fn the_values_of_each_command_are_these()
             codes ": the label that another count shows then, in thousandths too", 2, 3)
         ∷ (codes "labels", codes "  COUNT ", codes "24|25|30|30d",
             codes ": that count, behind to; ntsc may follow 24 or 30", 3, 4)
-        ∷ (codes "help", codes "  COMMAND ", codes "ltc-read|ltc-worn|ltc-rough|ltc-fly|ltc-spans|ltc-mtc|ltc-jam",
-            codes ": read", 1, 1)
-        ∷ (codes "help", codes "  COMMAND ", codes "ltc-convert|pcm-ltc|wav-ltc|ltc-pcm|ltc-make|ltc-load",
-            codes ": files", 1, 1)
-        ∷ (codes "help", codes "  COMMAND ", codes "mtc-read|chase|ltc-chase|vitc-read|vitc-make",
-            codes ": others", 1, 1)
+        ∷ (codes "help", codes "  COMMAND ", codes "ltc-read|ltc-worn|ltc-rough",
+            codes ": the words of a recording", 1, 1)
+        ∷ (codes "help", codes "  COMMAND ", codes "ltc-fly|ltc-spans|ltc-mtc|ltc-jam|ltc-chase",
+            codes ": its frames", 1, 1)
+        ∷ (codes "help", codes "  COMMAND ", codes "pcm-ltc|wav-ltc|ltc-pcm|ltc-convert|ltc-make|ltc-load",
+            codes ": recordings", 1, 1)
+        ∷ (codes "help", codes "  COMMAND ", codes "mtc-read|vitc-read|luma-vitc|vitc-make|chase",
+            codes ": MIDI, pictures, scripts", 1, 1)
         ∷ (codes "help", codes "  COMMAND ", codes "number|label|labels|help|version",
             codes ": labels, and tc itself", 1, 1)
         ∷ (codes "help", codes "  ", codes "statuses",
@@ -232,22 +247,30 @@ pub fn the_examples_of_each_command_are_these()
         ∷ (codes "ltc-rough", codes "Example: tc ltc-rough", codes "", codes " < tape.ltci")
         ∷ (codes "ltc-rough", codes "Example: tc wav-ltc 25 1 250 < tape.wav | tc ltc-rough", codes " firm", codes "")
         ∷ (codes "ltc-fly", codes "Example: tc ltc-fly", codes " 2 rough", codes " < tape.ltci")
-        ∷ (codes "ltc-spans", codes "Example: tc wav-ltc 25 1 250 < tape.wav | tc ltc-spans", codes " 2 rough", codes "")
+        ∷ (codes "ltc-spans", codes "Example: tc wav-ltc 25 1 250 < tape.wav | tc ltc-spans", codes " 2 rough",
+            codes "")
         ∷ (codes "ltc-mtc", codes "Example: tc ltc-mtc", codes " 2 rough", codes " < tape.ltci > tape.mtc")
-        ∷ (codes "ltc-jam", codes "Example: tc ltc-jam", codes " 2 24 48000 rough", codes " < tape.ltci > clean.ltci")
+        ∷ (codes "ltc-jam", codes "Example: tc ltc-jam", codes " 2 24 48000 rough",
+            codes " < tape.ltci > clean.ltci")
         ∷ (codes "ltc-convert", codes "Example: tc ltc-convert", codes " 2", codes " < tape.ltci > short.ltci")
-        ∷ (codes "pcm-ltc", codes "Example: tc pcm-ltc", codes " 25 48000 250 16 follow 2", codes " < tape.raw > tape.ltci")
-        ∷ (codes "pcm-ltc", codes "Example: tc pcm-ltc", codes " 25 48000 250 16 path", codes " < tape.raw > tape.ltci")
+        ∷ (codes "pcm-ltc", codes "Example: tc pcm-ltc", codes " 25 48000 250 16 follow 2",
+            codes " < tape.raw > tape.ltci")
+        ∷ (codes "pcm-ltc", codes "Example: tc pcm-ltc", codes " 25 48000 250 16 path",
+            codes " < tape.raw > tape.ltci")
         ∷ (codes "wav-ltc", codes "Example: tc wav-ltc", codes " 25 1 250 2 deep", codes " < tape.wav > tape.ltci")
         ∷ (codes "wav-ltc", codes "Example: tc wav-ltc", codes " 25 1 250", codes " < tape.wav | tc ltc-rough")
         ∷ (codes "ltc-pcm", codes "Example: tc ltc-pcm", codes " 8192", codes " < tape.ltci > tape.raw")
-        ∷ (codes "ltc-make", codes "Example: tc ltc-make", codes " 25 forward 01:00:00:00 1500 24 48000", codes " > tape.ltci")
-        ∷ (codes "ltc-make", codes "Example: tc ltc-make", codes " 25 forward 01:00:00:00 1500 24 48000 48 1", codes " > slower.ltci")
+        ∷ (codes "ltc-make", codes "Example: tc ltc-make", codes " 25 forward 01:00:00:00 1500 24 48000",
+            codes " > tape.ltci")
+        ∷ (codes "ltc-make", codes "Example: tc ltc-make", codes " 25 forward 01:00:00:00 1500 24 48000 48 1",
+            codes " > slower.ltci")
         ∷ (codes "ltc-load", codes "Example: tc ltc-load", codes " 53 100", codes "")
         ∷ (codes "mtc-read", codes "Example: tc mtc-read", codes "", codes " < tape.mtc")
         ∷ (codes "chase", codes "Example: tc chase", codes " 25 01:00:00:00", codes " < script.csv")
         ∷ (codes "ltc-chase", codes "Example: tc ltc-chase", codes " 25 01:00:00:00 2 1 8 rough", codes " < tape.ltci")
         ∷ (codes "vitc-read", codes "Example: tc vitc-read", codes "", codes " < tape.vitl")
+        ∷ (codes "luma-vitc", codes "Example: tc luma-vitc", codes " 25 720 288 0 40",
+            codes " < fields.gray > tape.vitl")
         ∷ (codes "vitc-make", codes "Example: tc vitc-make", codes " 25 01:00:00:00 100 1728", codes " > tape.vitl")
         ∷ (codes "number", codes "Example: tc number", codes " 25 01:00:00:00", codes "")
         ∷ (codes "label", codes "Example: tc label", codes " 25 90000", codes "")

@@ -1,14 +1,14 @@
 //! The values of `pcm-ltc` with `path`, word by word. Read next: `tc_job/src/path_slicing.rt`, which holds them.
 ghost use Rattle.std.specs.Prelude.{◌≡◌, ◌≤◌, ◌*◌, ◌^◌, Some, IfSome, codes, map};
 ghost use Rattle.std.specs.Str.{bytes_eq};
-ghost use Rattle.path_front.specs.Grid.{IsGrid};
+ghost use Rattle.step_grid.specs.Grid.{IsGrid};
 ghost use Rattle.tc_job.specs.PathGrid.{grid_for, step_ticks};
 ghost use Rattle.tc_words.specs.PcmPath.{fineness_with_ticks, is_path, path_of_samples, rate_with_grid};
 
 use crate::pcm_ltc::fineness_in;
 use crate::values::{between, system_in, word_at};
 use limits::MAX_TICK_RATE;
-use path_front::Grid;
+use step_grid::Grid;
 use tc_address::System;
 use tc_job::{Job, MAX_FINENESS, MAX_LEVEL, PathSlicing, WordsFault, grid_for, step_ticks};
 

@@ -13,7 +13,8 @@ ghost use Rattle.tc_words.specs.LabelRun.{labels};
 ghost use Rattle.tc_words.specs.Values.{map_ok};
 ghost use Rattle.tc_words.specs.Words.{answer_to, without_dashes, IsRefusedAtOnce, job_of, no_values};
 ghost use Rattle.tc_words.specs.Words.{ltc_rough, ltc_jam, ltc_chase, number, label_of, ltc_make};
-ghost use Rattle.tc_words.specs.Words.{ltc_convert, pcm_ltc, wav_ltc, ltc_pcm, task_of, chase, ltc_load, vitc_make};
+ghost use Rattle.tc_words.specs.Words.{ltc_convert, pcm_ltc, wav_ltc, ltc_pcm, task_of, chase, ltc_load, luma_vitc};
+ghost use Rattle.tc_words.specs.Words.{vitc_make};
 
 use crate::flight::flight_in;
 use crate::help::help;
@@ -21,6 +22,7 @@ use crate::label_run::labels;
 use crate::live::without_live;
 use crate::ltc_chase::chased;
 use crate::ltc_make::striped;
+use crate::luma_vitc::fields_of;
 use crate::pcm_ltc::sliced;
 use crate::pcm_path::{is_path, path_of_samples};
 use crate::values::{
@@ -126,6 +128,7 @@ fn job_of(command: &str, values: &[&str]) -> Result<Job, WordsFault>
         "wav-ltc" => wav_ltc(values),
         "ltc-pcm" => ltc_pcm(values),
         "vitc-read" => no_values(values, Job::VitcRead),
+        "luma-vitc" => luma_vitc(values),
         "vitc-make" => vitc_make(values),
         "number" => number(values),
         "label" => label_of(values),
@@ -333,6 +336,17 @@ fn ltc_pcm(values: &[&str]) -> Result<Job, WordsFault>
     Ok(Job::LtcPcm {
         level: SoundLevel::new(level as u16),
     })
+}
+
+// `luma-vitc SYSTEM WIDTH HEIGHT FIRST ROWS`
+#[tactic(auto, unfolding(crate::specs::Words::luma_vitc))]
+fn luma_vitc(values: &[&str]) -> Result<Job, WordsFault>
+    ensures { result ≡ luma_vitc (map (λ v. v.now) values.now) }
+{
+    match values {
+        [system, width, height, first, rows] => fields_of(system, width, height, first, rows),
+        _ => Err(WordsFault::CountOfWords),
+    }
 }
 
 // `vitc-make COUNT LABEL FRAMES LENGTH`

@@ -66,7 +66,7 @@ IsRunFault n runs (Run i) = (good : AreGoodUpTo n runs i) × ((k : ℕ) → ¬ I
 IsRunFault n runs (TooLong i) =
     (good : AreGoodUpTo n runs i) × (k : ℕ) × IsCells n good.run k × (90 < total good.cells + k)
 
--- the runs of so many cells each, where cell i begins at tick `i * n / 115`, rounded down
+-- the runs with these numbers of cells, where cell i begins at tick `i * n / 115`, rounded down
 abbrev pub runs_from : ℕ → ℕ → List ℕ → List ℕ
 runs_from n at [] = []
 runs_from n at (k ∷ cells) = ((at + k) * n / 115 - at * n / 115) ∷ runs_from n (at + k) cells

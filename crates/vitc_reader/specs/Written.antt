@@ -8,7 +8,7 @@ abbrev pub run_length : Bool → ℕ → ℕ
 run_length true bits = trailing_ones w128 bits
 run_length false bits = trailing_zeros w128 bits
 
--- the numbers of cells of the runs of bits, the lowest of which has this level: so many runs at most
+-- the numbers of cells of the runs of bits, the lowest of which has this level: at most this many runs
 unfoldable pub cells_in : ℕ → Bool → ℕ → List ℕ
 cells_in zero level bits = []
 cells_in (suc most) level bits =

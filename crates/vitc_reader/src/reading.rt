@@ -13,7 +13,8 @@ use byteorder::{BigEndian, ByteOrder};
 const CELLS: u32 = 90;
 
 /// What a number is multiplied with in place of a division by four times the length of a line: the
-/// quotient stands in the upper 64 bits of the product.
+/// quotient is the upper 64 bits of the product.
+// With a quotient and two shifts of 128 bits a run, these took three quarters of the time of `vitc-read`.
 pub(crate) fn factor_of(length: u32) -> u64
     requires { IsLineLength length }
     ensures value { result ≡ factor_on length }

@@ -55,6 +55,7 @@ data_with place None format = Err (fault.Ds64 place)
 data_with place (Some extent) None = Err (fault.Format place)
 data_with place (Some extent) (Some format) = Ok (chunk.Data format extent)
 
+-- the chunk of the samples at a place, or what is missing before it
 abbrev pub data_in : Notes → ℕ → ℕ → Result Chunk WaveFault
 data_in notes place size = data_with place (extent_of notes place size) notes.format
 

@@ -38,12 +38,15 @@ is_pcm body =
     (little_number 2 body == 1)
     || ((little_number 2 body == 65_534) && (nat_le 26 (length body) && (little_number 2 (drop 24 body) == 1)))
 
+-- a file may have this many tracks
 abbrev pub is_track_count : ℕ → Bool
 is_track_count tracks = nat_le 1 tracks && nat_le tracks MAX_TRACKS
 
+-- a file may have this many samples a second, and no fewer than are asked
 abbrev pub is_rate : ℕ → ℕ → Bool
 is_rate least rate = nat_le least rate && nat_le rate MAX_RATE
 
+-- a sample may have this many bits
 abbrev pub is_sample_size : ℕ → Bool
 is_sample_size bits = (bits == 8) || ((bits == 16) || ((bits == 24) || (bits == 32)))
 
@@ -59,6 +62,7 @@ field_fault asked place is_pcm format =
     else if nat_lt format.tracks asked.track then Some (fault.Track (place + 2))
     else None
 
+-- the value, unless there is a fault
 abbrev pub unless : {A : Type 0} → Option WaveFault → A → Result A WaveFault
 unless (Some f) value = Err f
 unless None value = Ok value
@@ -95,7 +99,7 @@ sample_in format asked block =
     if sample_width format == 1 then pos (256 * slice_index block (asked.track - 1)) -ℤ pos 32_768
     else cast_signed w16 (little_number 2 (drop (asked.track * sample_width format - 2) block))
 
--- the samples of so many blocks, one block after another
+-- the samples of this many blocks, one block after another
 unfoldable pub samples_at : WaveFormat → Asked → ℕ → List ℕ → List ℤ
 samples_at format asked zero bytes = []
 samples_at format asked (suc count) bytes =

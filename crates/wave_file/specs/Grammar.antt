@@ -35,7 +35,7 @@ abbrev pub value_of : Sample → ℤ
 value_of (Eight byte) = pos (256 * byte) -ℤ pos 32_768
 value_of (Wide below upper) = upper
 
--- it has so many bytes
+-- it has this many bytes
 abbrev pub IsOfWidth : ℕ → Sample → Type 0
 IsOfWidth width (Eight byte) = width ≡ 1
 IsOfWidth width (Wide below upper) = (width ≡ length below + 2) × FitsSigned w16 upper
@@ -44,6 +44,7 @@ IsOfWidth width (Wide below upper) = (width ≡ length below + 2) × FitsSigned 
 abbrev pub block_text : List Sample → List ℕ
 block_text block = flat_map sample_text block
 
+-- a block has one sample of each track, all of the format's width
 abbrev pub IsBlock : WaveFormat → List Sample → Type 0
 IsBlock format block = (length block ≡ format.tracks) × AllByRecursion (IsOfWidth (sample_width format)) block
 
@@ -70,6 +71,7 @@ pub record OtherChunk : Type 0 where
   pub letters : ℕ
   pub body : List ℕ
 
+-- a chunk that is not the samples, the format or the sizes of 64 bits
 pub record IsOther (chunk : OtherChunk) : Type 0 where
   pub letters : chunk.letters < 2 ^ 32
   pub size : length chunk.body < 2 ^ 32
@@ -77,6 +79,7 @@ pub record IsOther (chunk : OtherChunk) : Type 0 where
   pub no_format : chunk.letters ≢ FORMAT
   pub no_sizes : chunk.letters ≢ SIZES
 
+-- the bytes of some chunks, one after another
 abbrev pub others_text : List OtherChunk → List ℕ
 others_text chunks = flat_map (λ chunk. chunk_text chunk.letters chunk.body) chunks
 

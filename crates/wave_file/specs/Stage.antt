@@ -15,7 +15,7 @@ use Rattle.wave_file.specs.Wave.{wave_at}
 use Rattle.tc_io.specs.Verdict.{good}
 use Rattle.wave_file.specs.declared.format.Asked.{Asked}
 
--- no block of the data is left: so many bytes of them, and what follows
+-- no block of the data is left: this many bytes of them, and what follows
 abbrev pub tail_at : WaveFormat → ℕ → List ℕ → Reading
 tail_at format left bytes =
     record { format = Some format; samples = []; verdict = good; may_end = nat_le left (length bytes) }
@@ -58,15 +58,16 @@ IsWaiting (Chunk skip) = skip ≡ 0
 IsWaiting (Tail format left) = ⊥
 IsWaiting stage = ⊤
 
--- so many of the bytes are there
+-- this many of the bytes are there
 abbrev pub HasBytes : ℕ → Extent → Type 0
 HasBytes count (extent.Announced left) = count ≤ left
 HasBytes count extent.Open = ⊤
 
+-- one more block is announced, or the size is not known
 abbrev pub HasBlock : WaveFormat → Extent → Type 0
 HasBlock format extent = HasBytes format.block extent
 
--- how far data go behind so many of their bytes
+-- how far data go behind this many of their bytes
 abbrev pub extent_behind : Extent → ℕ → Extent
 extent_behind (extent.Announced left) count = extent.Announced (left - count)
 extent_behind extent.Open count = extent.Open
@@ -87,7 +88,7 @@ IsStage asked place (Sizes size) = 16 ≤ size
 IsStage asked place (Data format extent room) = IsTakenFor asked format × HasBlock format extent × (room ≤ MAX_SAMPLES)
 IsStage asked place (Tail format left) = IsTakenFor asked format
 
--- so many of the bytes belong to no piece, and the stage behind them is the other one
+-- this many of the bytes belong to no piece, and the stage behind them is the other one
 pub record IsPassed (old : Stage) (most : ℕ) (count : ℕ) (new : Stage) : Type 0 where
   pub some : 1 ≤ count
   pub within : count ≤ most

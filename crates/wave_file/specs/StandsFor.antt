@@ -30,6 +30,7 @@ pub record Decoding : Type 0 where
   pub stage : Stage
   pub part : List ℕ
 
+-- a decoder, by its parts
 abbrev pub decoding_of : Asked → Notes → ℕ → Stage → List ℕ → Decoding
 decoding_of asked notes place stage part =
     record { asked = asked; notes = notes; place = place; stage = stage; part = part }
@@ -65,7 +66,7 @@ pub record StandsFor (d : Decoding) (bytes : List ℕ) (samples : List ℤ) : Ty
 
 -- ---- what a call answers
 
--- so many of the bytes were taken, and these samples given
+-- this many of the bytes were taken, and these samples given
 pub record Adds (old new : Decoding) (bytes : List ℕ) (count : ℕ) (more : List ℤ) : Type 0 where
   pub some : 1 ≤ count
   pub within : count ≤ length bytes
@@ -74,12 +75,12 @@ pub record Adds (old new : Decoding) (bytes : List ℕ) (count : ℕ) (more : Li
   pub stands : (front : List ℕ) (samples : List ℤ) → StandsFor old front samples
       → StandsFor new (front ++ take count bytes) (samples ++ more)
 
--- how many of so many bytes are data
+-- how many of `count` bytes are data
 abbrev pub data_among : Extent → ℕ → ℕ
 data_among (extent.Announced n) count = min n count
 data_among extent.Open count = count
 
--- how many whole blocks are taken at the front of so many bytes, with so many places for their samples: all that are
+-- how many whole blocks are taken at the front of this many bytes, with this much room for their samples: all that are
 -- data
 -- and within both limits, and none inside a block
 abbrev pub blocks_at : ℕ → Stage → ℕ → ℕ → ℕ → ℕ
@@ -115,7 +116,7 @@ StopsAt d bytes samples (Fault f) =
 StopsAt d bytes samples Limit =
     (more : List ℕ) → IsTold (reading_of d.asked (bytes ++ more)) (format_in_decoding d) samples past_limit
 
--- the blocks in so many of the bytes were taken, none or more, and these samples given
+-- the blocks in this many of the bytes were taken, none or more, and these samples given
 pub record AddsBlocks (old new : Decoding) (bytes : List ℕ) (count : ℕ) (more : List ℤ) : Type 0 where
   pub taken : bytes_taken new ≡ bytes_taken old + count
   pub asked : new.asked ≡ old.asked

@@ -31,10 +31,11 @@ pub record Reading : Type 0 where
 abbrev pub unfinished : Reading
 unfinished = record { format = None; samples = []; verdict = good; may_end = false }
 
+-- a file that is refused for this fault before it has a format
 abbrev pub bad : WaveFault → Reading
 bad f = record { format = None; samples = []; verdict = refused f; may_end = false }
 
--- a piece of so many bytes, and what it brings: fewer bytes bring nothing yet
+-- a piece of this many bytes, and what it brings: fewer bytes bring nothing yet
 abbrev pub piece : ℕ → (List ℕ → List ℕ → Reading) → List ℕ → Reading
 piece width brings bytes =
     if nat_le width (length bytes) then brings (take width bytes) (drop width bytes) else unfinished
@@ -60,7 +61,7 @@ may_end_at block extent.Open bytes = length bytes % block == 0
 abbrev pub blocks_inside : WaveFormat → Extent → List ℕ → ℕ
 blocks_inside format extent bytes = bytes_inside extent bytes / format.block
 
--- the samples of the whole blocks, at most so many
+-- the samples of the whole blocks, at most this many
 abbrev pub data_at : Asked → WaveFormat → Extent → ℕ → List ℕ → Reading
 data_at asked format extent room bytes = record {
   format = Some format;
@@ -97,7 +98,7 @@ chunk_at asked notes place (chunk.Other size) next bytes = next size notes
 abbrev pub padded : ℕ → ℕ
 padded size = size + size % 2
 
--- so many bytes that belong to a chunk, and then chunks: four letters, a size, and its bytes
+-- this many bytes that belong to a chunk, and then chunks: four letters, a size, and its bytes
 unfoldable pub chunks_at : Asked → ℕ → Notes → ℕ → List ℕ → Reading
 chunks_at asked (suc skip) notes place (byte ∷ more) = chunks_at asked skip notes (place + 1) more
 chunks_at asked zero notes place (a ∷ b ∷ c ∷ d ∷ e ∷ f ∷ g ∷ h ∷ more) =
@@ -114,10 +115,12 @@ wave_at asked is_long bytes =
     piece 8 (λ wave rest. if big_number 4 (drop 4 wave) == WAVE
     then chunks_at asked 0 (no_notes is_long (little_number 4 wave)) 12 rest else bad (fault.Wave 8)) bytes
 
+-- what comes behind the form of the file; bytes without a form are refused
 abbrev pub behind_form : Asked → Option Bool → List ℕ → Reading
 behind_form asked None bytes = bad (fault.Riff 0)
 behind_form asked (Some is_long) bytes = wave_at asked is_long bytes
 
+-- what bytes say of a sound file, from the first byte on
 abbrev pub file_at : Asked → List ℕ → Reading
 file_at asked bytes = piece 4 (λ letters rest. behind_form asked (form_of (big_number 4 letters)) rest) bytes
 

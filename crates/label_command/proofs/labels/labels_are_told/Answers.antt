@@ -1,6 +1,9 @@
-use Rattle.label_command.specs.Labels.{along_labels}
-use Rattle.tc_command.specs.ToldLemmas.{meaning_is_told}
+use Rattle.label_command.proofs.LinesTold.{lines_are_told}
 use Rattle.label_command.proofs.labels.labels_are_told.Goals as goal
 
 pub returns : goal.returns
-returns c = λ run. meaning_is_told (along_labels run) (c.labels_are_lawful.ensures run)
+returns c = λ run.
+    lines_are_told (record {
+      text = c.a_text_is_read_as_its_label.ensures.only;
+      number = c.number_and_label_are_inverse.ensures.number;
+    }) run (c.labels_are_lawful.ensures run)

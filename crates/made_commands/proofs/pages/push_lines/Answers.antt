@@ -10,12 +10,16 @@ push_row-requires c =
     let text : Bor (List ℕ) = record { ref_ptr = (0, 0); now = [] } in
     let none : Bor (List ℕ) × (Bor (List ℕ) × Bor (List ℕ) × Bor (List ℕ) × ℕ × ℕ) = (text, (text, text, text, 0, 0)) in
     let topic = c.args.topic.now in
+    let rows = c.args.rows.now in
+    let more = drop c.rows.told-index rows in
+    let left = page_lines topic (map (λ row. (row.0.now, row.1.0.now, row.1.1.now, row.1.2.now)) more) in
+    let all = page_lines topic (map (λ row. (row.0.now, row.1.0.now, row.1.1.now, row.1.2.now)) rows) in
     omega (
       arith,
       ap length c.rows.invariant,
-      length-append c.rows.room.items
-          (page_lines topic (map (λ row. (row.0.now, row.1.0.now, row.1.1.now, row.1.2.now)) (drop c.rows.told-index c.args.rows.now))),
-      length-append c.args.room.now.items (page_lines topic (map (λ row. (row.0.now, row.1.0.now, row.1.1.now, row.1.2.now)) c.args.rows.now)),
-      a_row_fits topic (λ row. (row.0.now, row.1.0.now, row.1.1.now, row.1.2.now)) c.args.rows.now c.rows.told-index none c.rows-test.true,
+      length-append c.rows.room.items left,
+      length-append c.args.room.now.items all,
+      a_row_fits topic (λ row. (row.0.now, row.1.0.now, row.1.1.now, row.1.2.now)) rows c.rows.told-index none
+          c.rows-test.true,
       c.requires,
     )

@@ -1,5 +1,5 @@
 use Rattle.std.proofs.Common.{◌≡◌, suc, ◌+◌, ap, drop, sym, ◌∙◌, arith}
-use Rattle.path_front.specs.declared.grid.Grid.TheVariants.{Repeat}
+use Rattle.step_grid.specs.declared.grid.Grid.TheVariants.{Repeat}
 use Rattle.tc_job.specs.PathGrid.{first_fit, grids}
 use Rattle.tc_job.proofs.FirstFit.{first_behind, first_here}
 use Rattle.tc_job.proofs.path_grid.grid_for.Goals as goal

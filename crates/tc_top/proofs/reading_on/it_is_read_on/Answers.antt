@@ -33,4 +33,5 @@ returns c = read_on (record {
     followed = c.a_sound_is_sliced_at_a_threshold_that_follows.ensures.follow;
     behind = c.a_sound_is_sliced_at_a_threshold_that_follows.ensures.behind;
   };
+  again = c.answers_are_answered_again.ensures.again;
 }) c.args.job.now c.has_a_level_of_samples.ensures

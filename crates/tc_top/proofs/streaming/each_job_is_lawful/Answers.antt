@@ -32,6 +32,7 @@ returns c = lawful
         meaning_is_lawful _ (c.each_signal_makes_a_command.ensures.track_paths path) (λ input spent. spent)
     lawful jobs.MtcRead = c.midi_is_lawful.ensures
     lawful jobs.VitcRead = c.fields_are_lawful.ensures
+    lawful (jobs.LumaVitc run) = c.pixels_are_lawful.ensures run
     lawful (jobs.VitcMake stripe) = c.line_stripes_are_lawful.ensures stripe
     lawful (jobs.Number label) = c.numbers_are_lawful.ensures label
     lawful (jobs.LabelOf label) = c.names_are_lawful.ensures label

@@ -5,5 +5,5 @@ use Rattle.tc_words.proofs.help.row_of.Goals as goal
 
 pub returns : goal.returns
 returns c =
-    position_from_yields_List (λ usage. bytes_eq c.args.word.now usage.0.now) _ _ c.position.result c.position.ensures.ran
-    (YieldsList-from_slice _ c.iter.ensures.rest) (λ x b q k. search (rules, tests))
+    position_from_yields_List (λ usage. bytes_eq c.args.word.now usage.0.now) _ _ c.position.result
+    c.position.ensures.ran (YieldsList-from_slice _ c.iter.ensures.rest) (λ x b q k. search (rules, tests))

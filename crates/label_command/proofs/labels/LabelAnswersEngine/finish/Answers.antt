@@ -1,6 +1,7 @@
 use Rattle.std.proofs.Common.{◌++◌, [], List, ℕ, ap, refl, sym, ◌∙◌, append-nil, append_assoc}
 use Rattle.std.proofs.KnownBytes.{Appends-nil}
 use Rattle.std.specs.Option.{option_map}
+use Rattle.label_command.specs.KeptLabels.{all_written}
 use Rattle.label_command.specs.Labels.{answers}
 use Rattle.label_lines.specs.Answer.{answer_line}
 use Rattle.label_text.specs.declared.reader.LineRead.{LineRead}
@@ -23,7 +24,7 @@ returns-in-Label-clause-ends g c =
       line,
       pushed,
       ends_so s bytes written stands (said.Label label) is refl,
-      ap (λ (l : List ℕ). l ++ line) stands.are
+      ap (λ (l : List ℕ). l ++ line) (all_written _ _ _ c.requires.settled stands)
           ∙ sym (answers_last s.run (reading_of s.run.base bytes).labels label)
           ∙ ap (answers s.run) (sym (written_so s bytes written stands (said.Label label) is)),
     ))
@@ -50,7 +51,7 @@ returns-in-Label-clause-stops g c =
             f.1.0,
             ap (answers s.run) (written_so s bytes written stands (said.Label label) is)
                 ∙ answers_last s.run (reading_of s.run.base bytes).labels label
-                ∙ ap (λ (l : List ℕ). l ++ line) (sym stands.are)
+                ∙ ap (λ (l : List ℕ). l ++ line) (sym (all_written _ _ _ c.requires.settled stands))
                 ∙ ap (λ (l : List ℕ). written ++ l) f.1.1 ∙ sym (append_assoc written f.0 f.1.0),
           ),
         ),
@@ -66,7 +67,7 @@ returns-in-Fault-clause-stops g c = λ bytes written stands. (
     record { is = good_too Labels _ stands.is_good; unspent = λ spent. spent },
     ap (λ (r : LineRead). option_map Labels (fault_said r))
         (ap at_end stands.place ∙ sym c.finish.ensures.said ∙ c.in-Fault.is),
-    append-nil written ∙ stands.are,
+    append-nil written ∙ (all_written _ _ _ c.requires.settled stands),
   ),
 )
 
@@ -78,7 +79,7 @@ returns-in-Nothing-clause-ends g c = λ bytes written stands.
       [],
       Appends-nil _,
       ends_so s bytes written stands said.Nothing is refl,
-      append-nil written ∙ stands.are
+      append-nil written ∙ (all_written _ _ _ c.requires.settled stands)
           ∙ ap (answers s.run) (sym (append-nil (reading_of s.run.base bytes).labels)
           ∙ sym (written_so s bytes written stands said.Nothing is)),
     )
@@ -90,7 +91,7 @@ returns-in-Limit-clause-ends g c = λ bytes written stands.
       [],
       Appends-nil _,
       ends_so s bytes written stands said.Limit is refl,
-      append-nil written ∙ stands.are
+      append-nil written ∙ (all_written _ _ _ c.requires.settled stands)
           ∙ ap (answers s.run) (sym (append-nil (reading_of s.run.base bytes).labels)
           ∙ sym (written_so s bytes written stands said.Limit is)),
     )

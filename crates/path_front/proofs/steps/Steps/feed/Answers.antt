@@ -1,6 +1,6 @@
 use Rattle.std.proofs.Common.{rules, ◌≡◌, ◌∷◌, FitsSigned, to_z-of_z, ap, subst, sym, ◌∙◌}
 use Rattle.std.specs.Int.{w16, w32}
-use Rattle.path_front.specs.declared.grid.Grid.TheVariants.{Repeat, Sum}
+use Rattle.step_grid.specs.declared.grid.Grid.TheVariants.{Repeat, Sum}
 use Rattle.path_front.specs.declared.group.Sounds.{Sounds}
 use Rattle.path_front.specs.Steps.{StepsState, StepsStandFor}
 use Rattle.path_front.proofs.StepsNext.{brings_mean, brings_none, brings_repeats, fed}

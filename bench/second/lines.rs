@@ -1,0 +1,137 @@
+//! `labels`: a text of lines that say labels, and what is printed of each.
+use crate::labels::{Count, Label, Part};
+use crate::run::{End, Run};
+
+/// A count, and whether its frames run at 1000/1001 of their rate.
+#[derive(Clone, Copy)]
+pub struct Base {
+    pub count: Count,
+    pub is_pulled: bool,
+}
+
+/// What is printed of a label.
+pub enum Printed {
+    Number,
+    Text,
+    Step(i64),
+    Since(Label),
+    Seconds,
+    Under(Base),
+}
+
+impl Base {
+    /// So many frames pass, in so many seconds.
+    fn rate(self) -> (u128, u128) {
+        let frames = self.count.rate() as u128;
+        match self.is_pulled || self.count == Count::Drop {
+            true => (1_000 * frames, 1_001),
+            false => (frames, 1),
+        }
+    }
+
+    /// The label that so many frames after midnight begins, around the day.
+    fn label(self, frames: u128) -> Label {
+        Label::at(self.count, (frames % self.count.day() as u128) as u64)
+    }
+
+    fn label_of_the_day(self, frames: u128) -> Option<Label> {
+        (frames < self.count.day() as u128).then(|| self.label(frames))
+    }
+}
+
+/// The whole number nearest to a fraction, and the greater one of two.
+fn nearest(over: u128, under: u128) -> u128 {
+    let is_nearer_above = 2 * (over % under) >= under;
+    over / under + is_nearer_above as u128
+}
+
+fn digits(bytes: &[u8]) -> Option<u128> {
+    let are_digits = !bytes.is_empty() && bytes.iter().all(u8::is_ascii_digit);
+    are_digits.then(|| bytes.iter().fold(0, |value, digit| 10 * value + (digit - b'0') as u128))
+}
+
+/// The milliseconds of one to five digits, a point and three digits.
+fn milliseconds(line: &[u8]) -> Option<u128> {
+    let point = line.iter().position(|byte| *byte == b'.')?;
+    let (whole, behind) = (digits(&line[..point])?, digits(&line[point + 1..])?);
+    (point <= 5 && line.len() == point + 4).then_some(1_000 * whole + behind)
+}
+
+/// How many bytes of a line fit a form, in which a 0 stands for each digit.
+fn fitting(form: &str, line: &[u8]) -> usize {
+    let fits = |(place, byte): &(u8, &u8)| if *place == b'0' { byte.is_ascii_digit() } else { place == *byte };
+    form.bytes().zip(line).take_while(fits).count()
+}
+
+fn label_form(count: Count) -> &'static str {
+    if count == Count::Drop { "00:00:00;00" } else { "00:00:00:00" }
+}
+
+/// The column of the part that no label of the count has.
+fn wrong_part(count: Count, line: &[u8]) -> usize {
+    let two = |at: usize| digits(&line[at..at + 2]).expect("these are digits") as u64;
+    let label = Label { count, hours: two(0), minutes: two(3), seconds: two(6), frames: two(9) };
+    match label.wrong().expect("it is no label") {
+        Part::Hours => 1,
+        Part::Minutes => 4,
+        Part::Seconds => 7,
+        Part::Frames | Part::Dropped => 10,
+    }
+}
+
+/// The label that a line says, or the first column that does not fit.
+fn said(base: Base, line: &[u8]) -> Result<Label, usize> {
+    if let Some(number) = digits(line).filter(|_| line.len() <= 7) {
+        return base.label_of_the_day(number).ok_or(1);
+    }
+    if let Some(milliseconds) = milliseconds(line) {
+        let (frames, seconds) = base.rate();
+        return base.label_of_the_day(nearest(milliseconds * frames, 1_000 * seconds)).ok_or(1);
+    }
+    if let Some(label) = std::str::from_utf8(line).ok().and_then(|text| Label::read(base.count, text)) {
+        return Ok(label);
+    }
+    if line.len() == 11 && fitting(label_form(base.count), line) == 11 {
+        return Err(wrong_part(base.count, line));
+    }
+    let forms = [label_form(base.count), "0000000", "0.000", "00.000", "000.000", "0000.000", "00000.000"];
+    Err(1 + forms.into_iter().map(|form| fitting(form, line)).max().expect("there are forms"))
+}
+
+fn printed(base: Base, what: &Printed, label: Label) -> String {
+    let (frames, seconds) = base.rate();
+    let number = label.number();
+    match what {
+        Printed::Number => number.to_string(),
+        Printed::Text => label.text(),
+        Printed::Step(by) => label.step(*by).text(),
+        Printed::Since(from) => {
+            let day = label.count.day() as i64;
+            let ahead = (number as i64 - from.number() as i64).rem_euclid(day);
+            format!("{} {ahead}", if 2 * ahead > day { ahead - day } else { ahead })
+        }
+        Printed::Seconds => {
+            let milliseconds = nearest(1_000 * number as u128 * seconds, frames);
+            format!("{}.{:03}", milliseconds / 1_000, milliseconds % 1_000)
+        }
+        Printed::Under(other) => {
+            let (there, apart) = other.rate();
+            let (over, under) = (number as u128 * seconds * there, frames * apart);
+            format!("{} {}", other.label(over / under).text(), 1_000 * over / under - 1_000 * (over / under))
+        }
+    }
+}
+
+/// A line for each line of a text, up to the first that says no label.
+pub fn along_text(base: Base, what: &Printed, input: &[u8]) -> Run {
+    let mut output = String::new();
+    let ended = input.strip_suffix(b"\n").unwrap_or(input);
+    let lines = ended.split(|byte| *byte == b'\n').take(if input.is_empty() { 0 } else { usize::MAX });
+    for (place, line) in lines.enumerate() {
+        match said(base, line) {
+            Ok(label) => output += &(printed(base, what, label) + "\n"),
+            Err(column) => return Run::text(output, End::Refused(format!("line {} column {column}", place + 1))),
+        }
+    }
+    Run::text(output, End::Done)
+}

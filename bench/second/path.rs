@@ -1,0 +1,339 @@
+//! `path`: the cells of the best path through a sound, the whole sound at once.
+use crate::sound::Slicing;
+
+const JUMP: usize = 3;
+const EARLY: i64 = 1 << 28;
+
+/// The lengths of a cell, in steps.
+fn lengths() -> Vec<usize> {
+    (4..25).chain((26..49).step_by(2)).chain((52..97).step_by(4)).collect()
+}
+
+/// How many steps a sample stands for, and how many samples are summed in one step.
+#[derive(Clone, Copy)]
+pub struct Grid {
+    repeats: u64,
+    summed: u64,
+}
+
+/// The grid of a rate, unless a cell at play speed has too few samples.
+pub fn grid(system: u64, rate: u64) -> Option<Grid> {
+    let steps = 14..=27;
+    let finer = [8, 4, 2, 1].into_iter().map(|repeats| Grid { repeats, summed: 1 });
+    let coarser = (1..=12).map(|power| Grid { repeats: 1, summed: 1 << power });
+    finer.chain(coarser).find(|it| steps.contains(&(rate * it.repeats / (80 * system * it.summed))))
+}
+
+impl Grid {
+    /// The ticks of a step, if they are a whole number from 2 to 65,536.
+    pub fn ticks(self, fineness: u64) -> Option<u64> {
+        let ticks = fineness * self.summed / self.repeats;
+        (fineness % self.repeats == 0 && (2..=65_536).contains(&ticks)).then_some(ticks)
+    }
+}
+
+/// The sum of the latest 512 sizes divided by their number, at each, with a factor before the division.
+fn latest_means(sizes: &[i64], factor: i64) -> Vec<i64> {
+    (1..=sizes.len())
+        .map(|end| {
+            let latest = &sizes[end.saturating_sub(512)..end];
+            factor * latest.iter().sum::<i64>() / latest.len() as i64
+        })
+        .collect()
+}
+
+/// Each sample clipped, and held.
+fn held(samples: &[i64], threshold: i64) -> Vec<(i64, i64)> {
+    let sizes: Vec<i64> = samples.iter().map(|s| s.abs()).collect();
+    let (mut peak, mut sum, mut side) = (0i64, 0i64, 0i64);
+    let clip = |(sample, most): (&i64, i64)| (*sample).clamp(-most, most);
+    let hold = |clipped: i64| {
+        let size = clipped.abs();
+        peak += if size > peak { (size - peak + 3) / 4 } else { -((peak + 1_023) / 1_024) };
+        sum += size - sum / 1_024;
+        let m = sum / 1_024;
+        let is_far = size >= 3 * (peak - m).max(0) / 8 && size >= threshold;
+        side = if is_far { clipped.signum() } else { side };
+        (clipped, clipped + side * (m / 2))
+    };
+    samples.iter().zip(latest_means(&sizes, 3)).map(clip).map(hold).collect()
+}
+
+/// The sound of each step, and the held sound.
+fn on_grid(pairs: &[(i64, i64)], grid: Grid) -> Vec<(i64, i64)> {
+    if grid.summed == 1 {
+        return pairs.iter().flat_map(|pair| (0..grid.repeats).map(|_| *pair)).collect();
+    }
+    let mean = |of: &[(i64, i64)]| {
+        let sum = of.iter().fold((0, 0), |sum, it| (sum.0 + it.0, sum.1 + it.1));
+        // (a quotient of numbers with a sign is rounded towards zero)
+        (sum.0 / of.len() as i64, sum.1 / of.len() as i64)
+    };
+    pairs.chunks_exact(grid.summed as usize).map(mean).collect()
+}
+
+/// A cell of a path: its end and length in steps, its sign at the end (0 for plus), and whether a jump is before it.
+#[derive(Clone, Copy)]
+struct Cell {
+    end: usize,
+    length: usize,
+    is_one: bool,
+    sign: usize,
+    jumps: bool,
+}
+
+impl Cell {
+    fn begin(&self) -> i64 {
+        self.end as i64 - self.length as i64
+    }
+
+    /// The sign with which it begins.
+    fn first_sign(&self) -> usize {
+        if self.is_one { 1 - self.sign } else { self.sign }
+    }
+}
+
+/// For each length and sign at its end.
+type Table<T> = Vec<[T; 2]>;
+
+/// The best paths to each step.
+struct Paths {
+    lengths: Vec<usize>,
+    /// The held sound so far, summed.
+    sums: Vec<i64>,
+    /// By step, and the length and the sign before: the worth of the best that a cell from there can have before it, and how it follows.
+    starts: Vec<Table<(i64, usize)>>,
+    ones: Vec<Table<bool>>,
+    best: Vec<(i64, usize, usize)>,
+}
+
+impl Paths {
+    fn of(held: &[i64], sizes: &[i64]) -> Paths {
+        let mut sums = vec![0];
+        for sound in held {
+            sums.push(sums[sums.len() - 1] + sound);
+        }
+        let lengths = lengths();
+        let first = vec![[(0, JUMP); 2]; lengths.len()];
+        let mut paths = Paths { lengths, sums, starts: vec![first], ones: vec![Vec::new()], best: vec![(0, 0, 0)] };
+        for end in 1..=held.len() {
+            paths.step(end, sizes[end - 1]);
+        }
+        paths
+    }
+
+    /// The held sound from one step to another; there is none before the first.
+    fn sound(&self, from: i64, to: i64) -> i64 {
+        self.sums[to.max(0) as usize] - self.sums[from.max(0) as usize]
+    }
+
+    /// What a cell is worth that ends there with plus.
+    fn worth(&self, end: i64, length: i64, is_one: bool) -> i64 {
+        match is_one {
+            false => self.sound(end - length, end),
+            true => self.sound(end - length / 2, end) - self.sound(end - length, end - length + length / 2),
+        }
+    }
+
+    fn step(&mut self, end: usize, size: i64) {
+        let (mut scores, mut ones): (Table<i64>, Table<bool>) = (Vec::new(), Vec::new());
+        let mut best: Option<(i64, usize, usize)> = None;
+        for (place, length) in self.lengths.iter().enumerate() {
+            let before = |sign: usize| match end.checked_sub(*length) {
+                Some(first) => self.starts[first][place][sign].0,
+                None => -EARLY,
+            };
+            let worth = |is_one| self.worth(end as i64, *length as i64, is_one);
+            let (mut pair, mut kinds) = ([0; 2], [false; 2]);
+            for sign in 0..2 {
+                let factor = 1 - 2 * sign as i64;
+                let (zero, one) = (factor * worth(false) + before(1 - sign), factor * worth(true) + before(sign));
+                (pair[sign], kinds[sign]) = (zero.max(one), one > zero);
+                if best.is_none_or(|it| pair[sign] > it.0) {
+                    best = Some((pair[sign], place, sign));
+                }
+            }
+            scores.push(pair);
+            ones.push(kinds);
+        }
+        let best = best.expect("there are lengths");
+        self.starts.push((0..scores.len()).map(|place| [0, 1].map(|sign| self.way(&scores, best.0, place, sign, size))).collect());
+        self.ones.push(ones);
+        self.best.push(best);
+    }
+
+    /// The best that a cell of a length can have before it, of a sign: in the same length, behind a shorter one, a
+    /// longer one, in a jump.
+    fn way(&self, scores: &Table<i64>, best: i64, place: usize, sign: usize, size: i64) -> (i64, usize) {
+        let length = |place: usize| self.lengths[place] as i64;
+        let neighbour = |other: usize| scores[other][sign] - size * (length(other) - length(place)).abs();
+        let mut ways = vec![(scores[place][sign], 0)];
+        if place > 0 {
+            ways.push((neighbour(place - 1), 1));
+        }
+        if place + 1 < scores.len() {
+            ways.push((neighbour(place + 1), 2));
+        }
+        ways.push((best - 3 * length(place) * size, JUMP));
+        ways.into_iter().reduce(|a, b| if b.0 > a.0 { b } else { a }).expect("a jump is one")
+    }
+
+    /// The cells of the best path to a step, in order.
+    fn cells(&self, mut end: usize) -> Vec<Cell> {
+        let (mut cells, (_, mut place, mut sign)) = (Vec::new(), self.best[end]);
+        while end > 0 {
+            let (length, is_one) = (self.lengths[place], self.ones[end][place][sign]);
+            let before = if is_one { sign } else { 1 - sign };
+            let first = end.saturating_sub(length);
+            let way = if first > 0 { self.starts[first][place][before].1 } else { JUMP };
+            cells.push(Cell { end, length, is_one, sign, jumps: way == JUMP });
+            (place, sign) = match way {
+                0 => (place, before),
+                1 => (place - 1, before),
+                2 => (place + 1, before),
+                _ => (self.best[first].1, self.best[first].2),
+            };
+            end = first;
+        }
+        cells.reverse();
+        cells
+    }
+
+    /// The decided cells, each with whether it jumps.
+    fn decided(&self, count: usize, is_ended: bool) -> Vec<Cell> {
+        let mut turns: Vec<(usize, usize)> = (2_048..=count).step_by(1_024).map(|end| (end, end - 800)).collect();
+        if is_ended && count > 0 {
+            turns.push((count, count));
+        }
+        let mut cells: Vec<Cell> = Vec::new();
+        for (end, limit) in turns {
+            let done = cells.last().map_or(0, |it| it.end);
+            cells.extend(self.cells(end).iter().filter(|it| it.end > done + it.length / 4 && it.end <= limit));
+        }
+        for place in (0..cells.len()).rev() {
+            let cell = cells[place];
+            cells[place].jumps |= match place.checked_sub(1).map(|before| cells[before]) {
+                None => true,
+                Some(before) => {
+                    let apart = (cell.begin() - before.end as i64).unsigned_abs() as usize;
+                    apart > cell.length / 4 || cell.first_sign() == before.sign
+                }
+            };
+        }
+        cells
+    }
+}
+
+/// What is measured of a half.
+struct Half {
+    s: i64,
+    q: i64,
+}
+
+impl Half {
+    /// Of the steps without the middle one of an odd cell, and of those with it, both added.
+    fn of(sound: &[i64], sign: usize, parts: [(i64, i64); 2]) -> Half {
+        let steps = parts.iter().flat_map(|(from, to)| &sound[from.max(&0).unsigned_abs() as usize..*to.max(&0) as usize]);
+        let factor = 1 - 2 * sign as i64;
+        let (sum, q) = steps.fold((0, 0), |(sum, q), it| (sum + it, q + it * it));
+        Half { s: factor * sum, q }
+    }
+
+    /// Its spread, and its outside of a range.
+    fn fit(&self, length: i64, low: i64, high: i64) -> (i64, i64) {
+        let v = 64 * self.s.abs() / length;
+        let signed = v * self.s.signum();
+        let far = (low - signed).max(signed - high).max(0);
+        ((64 * (64 * self.q / length) - v * v).max(0), far * far)
+    }
+}
+
+struct Measured {
+    cell: Cell,
+    first: Half,
+    second: Half,
+    level: i64,
+}
+
+fn measured(sound: &[i64], cell: &Cell) -> Measured {
+    let (begin, end, length) = (cell.begin(), cell.end as i64, cell.length as i64);
+    let (less, more) = (length / 2, length - length / 2);
+    let first = Half::of(sound, cell.first_sign(), [(begin, begin + less), (begin, begin + more)]);
+    let second = Half::of(sound, cell.sign, [(end - less, end), (end - more, end)]);
+    let level = (32 * (first.s + second.s) / length).max(0);
+    Measured { cell: *cell, first, second, level }
+}
+
+fn mean(of: &[Measured]) -> i64 {
+    of.iter().map(|it| it.level).sum::<i64>() / of.len() as i64
+}
+
+/// What is usual of the spreads and outsides of cells.
+type Usual = Option<(i64, i64)>;
+
+/// Whether code breaks in front of a cell.
+fn breaks(cells: &[Measured], place: usize, slow: i64, usual: &mut Usual, threshold: i64) -> bool {
+    let it = &cells[place];
+    let before = &cells[place.saturating_sub(8)..place];
+    let Some(last) = before.last() else { return true };
+    let own = &cells[place..cells.len().min(place + 8)];
+    let behind = &cells[place + 1..cells.len().min(place + 9)];
+    let (length, mean_before) = (it.cell.length as i64, mean(before));
+    let floor = (mean_before.min(mean(own)) / 4).max(slow / 16).max(16 * threshold);
+    let heard = 64 * (last.second.s + it.first.s).max(0);
+    let is_faint = heard < floor * (last.cell.length as i64 + length);
+    let other = if behind.is_empty() { mean_before } else { mean(behind) };
+    let (low, high) = (mean_before.min(other), mean_before.max(other));
+    let (one, two) = (it.first.fit(length, low, high), it.second.fit(length, low, high));
+    let base = high * high / 64 * 64;
+    let is_odd = usual.is_some_and(|(spread, outside)| {
+        one.0.max(two.0) > 4 * (spread / 2) + base || one.1.max(two.1) > 16 * (outside / 2) + base
+    });
+    if !it.cell.jumps {
+        let (spread, outside) = (one.0 + two.0, one.1 + two.1);
+        *usual = Some(match *usual {
+            None => (spread.max(1), outside),
+            Some(old) => ((31 * old.0 + spread.min(4 * old.0)) / 32, (31 * old.1 + outside.min(4 * high * high)) / 32),
+        });
+    }
+    it.cell.jumps || is_faint || is_odd
+}
+
+/// The intervals of the best path, or, if more samples may come, those that are written so far.
+pub fn intervals(s: &Slicing, grid: Grid, samples: &[i64], is_ended: bool) -> Vec<u64> {
+    let ticks = grid.ticks(s.fineness).expect("the words were read");
+    let threshold = s.least as i64;
+    let steps = on_grid(&held(samples, threshold), grid);
+    let (sound, held): (Vec<i64>, Vec<i64>) = steps.into_iter().unzip();
+    let sizes = latest_means(&sound.iter().map(|it| it.abs()).collect::<Vec<_>>(), 1);
+    let decided = Paths::of(&held, &sizes).decided(sound.len(), is_ended);
+    let cells: Vec<Measured> = decided.iter().map(|cell| measured(&sound, cell)).collect();
+    let written = if is_ended { cells.len() } else { cells.len().saturating_sub(8) };
+    let (mut slow, mut usual, mut done, mut intervals) = (None, None, 0, Vec::new());
+    for place in 0..written {
+        let it = &cells[place];
+        let now = slow.map_or(it.level, |slow: i64| (31 * slow + it.level) / 32);
+        slow = Some(now);
+        let is_broken = breaks(&cells, place, now, &mut usual, threshold);
+        write(&it.cell, (it.cell.end - done) as u64 * ticks, ticks, is_broken, &mut intervals);
+        done = it.cell.end;
+    }
+    intervals
+}
+
+/// A cell that lasts so many ticks.
+fn write(cell: &Cell, whole: u64, ticks: u64, is_broken: bool, intervals: &mut Vec<u64>) {
+    let half = (cell.length as u64 * ticks).div_ceil(2);
+    let (second, is_short) = match cell.is_one {
+        true => (half.min(whole - 2), whole < half + 2),
+        false => (0, false),
+    };
+    let first = whole - second;
+    match is_broken || is_short {
+        true => intervals.extend([1, first - 1]),
+        false => intervals.push(first),
+    }
+    if cell.is_one {
+        intervals.push(second);
+    }
+}

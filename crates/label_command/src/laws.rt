@@ -1,0 +1,93 @@
+//! What follows from the definitions alone: that a text is answered line by line, and what is answered to answers.
+ghost use Rattle.std.specs.Prelude.{◌≡◌, ℕ, ◌+◌, ◌*◌, ◌<◌, ◌≤◌, List, [], ◌∷◌, ◌++◌, Option, Some};
+ghost use Rattle.std.specs.Prelude.{codes, decimal, length};
+ghost use Rattle.label_command.specs.AnsweredAgain.{IsAnsweredAgain, Writes};
+ghost use Rattle.label_command.specs.Labels.{IsRefusedAtALine, along_labels, answers};
+ghost use Rattle.label_command.specs.ThereAndBack.{BeginBefore, BeginTogether, IsAsFast, IsLabelOf};
+ghost use Rattle.label_command.specs.TextLines.{HasLines, IsFirstRefused, SayLabels};
+ghost use Rattle.label_lines.specs.declared.timebase.Timebase.{Timebase};
+ghost use Rattle.label_lines.specs.declared.way.Way.TheVariants.{Label, Plus, To};
+ghost use Rattle.label_lines.specs.Answer.{answer, label_from_midnight};
+ghost use Rattle.label_lines.specs.Timebase.{rate_of};
+ghost use Rattle.label_text.specs.declared.fault.LineFault.{LineFault};
+ghost use Rattle.label_text.specs.declared.reader.TheConstants.{MAX_LINES};
+ghost use Rattle.real_time.specs.Moment.{shown_at};
+ghost use Rattle.tc_address.specs.Label.{Address, IsLabel};
+ghost use Rattle.tc_address.specs.Numbering.{number_of};
+ghost use Rattle.tc_address.specs.Spelling.{text_of};
+ghost use Rattle.tc_command.specs.Meaning.{IsInput, Meaning};
+ghost use Rattle.tc_command.specs.Stops.{StopsAlong};
+ghost use Rattle.tc_command.specs.declared.input_fault.InputFault.{InputFault};
+ghost use Rattle.tc_command.specs.declared.input_fault.InputFault.TheVariants.{Labels};
+ghost use Rattle.tc_command.specs.declared.stop.Stop.TheVariants.{Limit, Refused};
+ghost use Rattle.tc_job.specs.LabelRun.{LabelRunning};
+
+use label_lines::laws::what_is_written_is_read;
+use real_time::laws::a_frame_comes_back_from_a_faster_rate;
+use tc_address::laws::{
+    a_step_moves_the_number, a_text_is_read_as_its_label, number_and_label_are_inverse,
+    steps_add_up,
+};
+
+/// Each text has a list of lines, and no other.
+pub fn a_text_has_its_lines()
+    ensures some { (text : List ℕ) → (lines : List (List ℕ)) × HasLines text lines }
+    ensures one { (text : List ℕ) (a b : List (List ℕ)) → HasLines text a → HasLines text b → a ≡ b }
+{}
+
+/// Lines are answered one by one: all of them where each says a label, those before the first that says none, whose
+/// place is told, and as many as are read.
+pub fn lines_are_answered_one_by_one()
+    ensures whole { (run : LabelRunning) (text : List ℕ) (lines : List (List ℕ)) (labels : List Address)
+        → HasLines text lines → length lines ≤ MAX_LINES → SayLabels run.base lines labels
+        → IsInput (along_labels run) text × Meaning.output (along_labels run) text (answers run labels) }
+    ensures refused { (run : LabelRunning) (text : List ℕ) (lines : List (List ℕ)) (labels : List Address)
+        (fault : LineFault) → HasLines text lines → IsFirstRefused run.base lines labels fault
+        → fault.line ≤ MAX_LINES
+        → StopsAlong (along_labels run) (Refused (Labels fault)) (Some []) text (answers run labels) }
+    ensures told { (run : LabelRunning) (text written : List ℕ) (lines : List (List ℕ)) (left : Option (List ℕ))
+        (fault : InputFault) → HasLines text lines
+        → StopsAlong (along_labels run) (Refused fault) left text written
+        → IsRefusedAtALine run lines fault written }
+    ensures limit { (run : LabelRunning) (text : List ℕ) (lines before behind : List (List ℕ)) (line : List ℕ)
+        (labels : List Address) → HasLines text lines → lines ≡ before ++ line ∷ behind
+        → SayLabels run.base before labels → length before ≡ MAX_LINES
+        → StopsAlong (along_labels run) Limit (Some []) text (answers run labels) }
+{
+    a_text_is_read_as_its_label();
+    number_and_label_are_inverse();
+}
+
+/// What is answered in one way is answered again in another as a third way answers the text itself: sums add up, and
+/// the same sum is undone. A sum of nothing is the label itself.
+pub fn answers_are_answered_again()
+    ensures again { (run : LabelRunning) (bytes written : List ℕ) → IsInput (along_labels run) bytes
+        → Meaning.output (along_labels run) bytes written → IsAnsweredAgain run bytes written }
+    ensures nothing { (base : Timebase) (bytes written : List ℕ) → Writes base Label bytes written
+        → Writes base (Plus 0) bytes written }
+{
+    what_is_written_is_read();
+    a_step_moves_the_number();
+    steps_add_up();
+    a_text_is_read_as_its_label();
+    number_and_label_are_inverse();
+}
+
+/// A label lies as many frames after midnight as its number says. By `to`, it comes back from another count: from the
+/// label that begins at the same moment, and, where the frames of that count run as fast or faster, from the one behind
+/// that which is shown there, if that began before.
+pub fn a_label_comes_back_from_a_faster_count()
+    ensures midnight { (label : Address) → IsLabel label → label_from_midnight label.count (number_of label) ≡ label }
+    ensures together { (base other : Timebase) (label there : Address) → IsLabelOf base label → IsLabelOf other there
+        → BeginTogether other (number_of there) base (number_of label)
+        → answer other (To base) there ≡ text_of label ++ codes " " ++ decimal 0 }
+    ensures behind { (base other : Timebase) (label there : Address) → IsLabelOf base label → IsLabelOf other there
+        → IsAsFast base other → (shown : ℕ) → number_of there ≡ shown + 1
+        → shown ≡ shown_at (rate_of base) (number_of label) (rate_of other)
+        → BeginBefore other shown base (number_of label)
+        → (passed : ℕ) × (answer other (To base) there ≡ text_of label ++ codes " " ++ decimal passed) }
+{
+    a_frame_comes_back_from_a_faster_rate();
+    a_step_moves_the_number();
+    number_and_label_are_inverse();
+}

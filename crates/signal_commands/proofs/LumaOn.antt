@@ -1,0 +1,287 @@
+-- With some bytes more a row is longer, or a field is whole and its lines are pushed or gathered.
+use Rattle.std.proofs.Common.{◌≡◌, ◌≢◌, ℕ, ◌+◌, ◌*◌, ◌%◌, ◌==◌, ◌<◌, ◌≤◌, ◌⊎◌, inl, inr, Bool, cond, Some, None, List}
+use Rattle.std.proofs.Common.{[], ◌∷◌}
+use Rattle.std.proofs.Common.{◌++◌, length, map, take, refl, sym, ◌∙◌, ap, ap₂, subst, append_assoc, append-nil}
+use Rattle.std.proofs.Common.{length-append, arith}
+use Rattle.std.specs.Prelude.{IfNone, IfSome}
+use Rattle.std.specs.declared.option.Option.{Option}
+use Rattle.std.specs.List.{concat, All, AllZip}
+use Rattle.std.proofs.Math.Nat.{mul-le-mul_right}
+use Rattle.std.proofs.lemmas.Bool.{ne_eqb}
+use Rattle.std.proofs.lemmas.List.{take-append-le, take_all}
+use Rattle.std.proofs.lemmas.List.Elements.{All-push}
+use Rattle.std.proofs.lemmas.List.Folds.{concat-append}
+use Rattle.line_file.specs.declared.decoder.TheConstants.{MAX_FIELDS}
+use Rattle.line_file.specs.Grammar.{field_bytes, file_of}
+use Rattle.luma_field.specs.KeptReader.{FieldReading, StandsFor}
+use Rattle.luma_field.specs.Parts.{whole_parts}
+use Rattle.luma_field.specs.Raster.{size_of, RasterSize}
+use Rattle.luma_field.specs.Rows.{SaysLines}
+use Rattle.tc_command.specs.declared.gathered.Gathered.{Gathered}
+use Rattle.tc_command.specs.declared.input_fault.InputFault.TheVariants.{HalfField}
+use Rattle.tc_command.specs.declared.stop.Stop.{Stop}
+use Rattle.tc_command.specs.declared.stop.Stop.TheVariants as stops
+use Rattle.tc_command.specs.Stops.{Stops}
+use Rattle.tc_io.specs.Sink.{AppendsFront}
+use Rattle.tc_job.specs.LumaRun.{LumaReading}
+use Rattle.signal_commands.specs.declared.luma_vitc.ReadPixels.{ReadPixels}
+use Rattle.signal_commands.specs.KeptLuma.{Stands}
+use Rattle.signal_commands.specs.KeptStops.{StopsBehind, of_both}
+use Rattle.signal_commands.specs.LumaVitc.{along_pixels, cut_field, luma_header, most_pixels, written_lines, IsLumaFile}
+use Rattle.signal_commands.proofs.LumaIsCommand.{longer_file}
+use Rattle.signal_commands.proofs.MidiLimit.{is_past}
+
+-- parts of one length that were joined are taken apart again
+abbrev pub TakenApart : Type 0
+TakenApart = (size : ℕ) (parts : List (List ℕ)) (rest : List ℕ) → All (λ part. length part ≡ size) parts
+    → length rest < size → whole_parts size (concat parts ++ rest) ≡ parts
+
+-- what is said of an option, where it is known
+pub at_some : {X : Type 0} (P : X → Type 0) (o : Option X) (x : X) → o ≡ Some x → IfSome o P → P x
+at_some {X} P o x is says = subst (λ (it : Option X). IfSome it P) is says
+
+pub at_none : {X : Type 0} (Q : Type 0) (o : Option X) → o ≡ None → IfNone o Q → Q
+at_none {X} Q o is says = subst (λ (it : Option X). IfNone it Q) is says
+
+-- ---- what stands
+
+-- the part of bytes within the limit
+pub part_of : (s : ReadPixels) (bytes written : List ℕ) (stands : Stands s bytes written)
+    → IsLumaFile s.run (whole_parts (size_of s.run.raster) (take (most_pixels s.run) bytes))
+    (written ++ s.gathered.room.items)
+part_of s bytes written stands =
+    let most = most_pixels s.run in
+    let long : length bytes ≡ s.taken = ap length stands.are ∙ sym stands.has.taken in
+    let all : stands.fields ≡ whole_parts (size_of s.run.raster) (take most bytes) =
+    sym stands.whole ∙ ap (λ (l : List ℕ). whole_parts (size_of s.run.raster) l)
+    (sym (take_all most bytes (omega (arith, long, stands.has.within)))) in
+    record {
+      lines = stands.lines;
+      say = subst (λ (fs : List (List ℕ)). AllZip (SaysLines s.run.raster) fs stands.lines) all stands.say;
+      file = stands.file;
+    }
+
+-- what is gathered was not taken
+pub gathered_fails : (s : ReadPixels) (bytes written more : List ℕ) (old new : Option (List ℕ)) → Stands s bytes written
+    → AppendsFront old new s.gathered.room.items
+    → Stops (along_pixels s.run) stops.WriteFault old new (bytes ++ more) written
+gathered_fails s bytes written more old new stands f = (
+  f.0,
+  f.2,
+  (
+    bytes,
+    written ++ s.gathered.room.items,
+    (more, refl),
+    part_of s bytes written stands,
+    (f.1.0, ap (λ (l : List ℕ). written ++ l) f.1.1 ∙ sym (append_assoc written f.0 f.1.0)),
+  ),
+)
+
+-- at the limit: what is gathered was pushed, and is the part of the bytes; or it was not
+pub at_limit : (s : ReadPixels) (bytes written more : List ℕ) (stop : Stop) (old new : Option (List ℕ))
+    → Stands s bytes written → s.taken ≡ most_pixels s.run → 0 < length more
+    → StopsBehind stops.Limit old new s.gathered.room.items stop
+    → Stops (along_pixels s.run) stop old new (bytes ++ more) written
+at_limit s bytes written more stop old new stands full some behind =
+    let most = most_pixels s.run in
+    let size = size_of s.run.raster in
+    let long : length bytes ≡ s.taken = ap length stands.are ∙ sym stands.has.taken in
+    let both = length-append bytes more in
+    let front : take most (bytes ++ more) ≡ take most bytes =
+    take-append-le most bytes more (omega (arith, long, full)) in
+    of_both (λ (x : Stop). Stops (along_pixels s.run) x old new (bytes ++ more) written) stops.Limit stop
+    old new s.gathered.room.items behind
+    (λ pushed. (
+      s.gathered.room.items,
+      pushed,
+      inl (
+        record { is = is_past most (bytes ++ more) (omega (arith, long, full, both, some)); unspent = λ spent. spent },
+        subst (λ (l : List ℕ). IsLumaFile s.run (whole_parts size l) (written ++ s.gathered.room.items)) (sym front)
+            (part_of s bytes written stands),
+      ),
+    ))
+    (gathered_fails s bytes written more old new stands)
+
+-- ---- bytes more
+
+-- there is room for a whole field where there is room for a byte
+room_for_one : (count most size part : ℕ) → count * size + part < most * size → count * size + size ≤ most * size
+room_for_one count most size part fits =
+    let cases : (count + 1 ≤ most) ⊎ (most ≤ count) = grind arith in
+    elim cases [
+      | inl room ↦ let m = mul-le-mul_right size room in omega (arith, m)
+      | inr full ↦ let m = mul-le-mul_right size full in absurd (omega (arith, m, fits))
+    ]
+
+-- how long parts of one length are that were joined
+abbrev pub AreAsLong : Type 0
+AreAsLong = (size : ℕ) (parts : List (List ℕ)) → All (λ part. length part ≡ size) parts
+    → length (concat parts) ≡ length parts * size
+
+-- a field that has begun goes on
+pub row_longer : TakenApart → AreAsLong → (s : ReadPixels) (r : FieldReading) (t : ℕ) (bytes written more : List ℕ)
+    (stands : Stands s bytes written) → r.raster ≡ s.reader.raster → t ≡ s.taken + length more
+    → s.taken < most_pixels s.run → StandsFor r (stands.part ++ more)
+    → Stands (record s { reader = r; taken = t }) (bytes ++ more) written
+row_longer apart long s r t bytes written more stands same count room begun =
+    let raster = same ∙ stands.has.raster in
+    let size = size_of s.run.raster in
+    let part = stands.part ++ more in
+    let all = concat stands.fields ++ part in
+    let are : bytes ++ more ≡ all =
+    ap (λ (l : List ℕ). l ++ more) stands.are ∙ append_assoc (concat stands.fields) stands.part more in
+    let few : length part < size = subst (λ (x : ℕ). length part < x) (ap size_of raster) begun.few in
+    let fields = long size stands.fields stands.has.sizes in
+    let before = length-append (concat stands.fields) stands.part in
+    let now = length-append (concat stands.fields) part in
+    let more_of = length-append stands.part more in
+    let fits = room_for_one (length stands.fields) MAX_FIELDS size (length stands.part)
+    (omega (arith, fields, before, stands.has.taken, room)) in
+    record {
+      fields = stands.fields;
+      part = part;
+      has = record {
+        raster = raster;
+        taken = omega (arith, count, stands.has.taken, before, now, more_of);
+        within = omega (arith, count, stands.has.taken, before, more_of, fields, few, fits);
+        sizes = stands.has.sizes;
+        begun = begun;
+      };
+      are = are;
+      whole = ap (whole_parts size) are ∙ apart size stands.fields part stands.has.sizes few;
+      lines = stands.lines;
+      say = stands.say;
+      file = stands.file;
+    }
+
+one_more_says : (R : List ℕ → List ℕ → Type 0) (fields lines : List (List ℕ)) (field line : List ℕ)
+    → AllZip R fields lines → R field line → AllZip R (fields ++ field ∷ []) (lines ++ line ∷ [])
+one_more_says R [] [] field line all is = (is, tt)
+one_more_says R [] (l ∷ lines) field line all is = absurd all
+one_more_says R (f ∷ fields) [] field line all is = absurd all
+one_more_says R (f ∷ fields) (l ∷ lines) field line all is = (all.0, one_more_says R fields lines field line all.1 is)
+
+one_more_field : (fields : List (List ℕ)) (field : List ℕ)
+    → concat (fields ++ field ∷ []) ++ [] ≡ concat fields ++ field
+one_more_field fields field =
+    append-nil (concat (fields ++ field ∷ [])) ∙ concat-append fields (field ∷ [])
+    ∙ ap (λ (l : List ℕ). concat fields ++ l) (append-nil field)
+
+-- its lines behind those before
+file_with : (luma : LumaReading) (lines : List (List ℕ)) (line written first pushed room : List ℕ)
+    → written ++ first ≡ file_of (luma_header luma) (map written_lines lines)
+    → first ++ field_bytes (written_lines line) ≡ pushed ++ room
+    → (written ++ pushed) ++ room ≡ file_of (luma_header luma) (map written_lines (lines ++ line ∷ []))
+file_with luma lines line written first pushed room are put =
+    let new = field_bytes (written_lines line) in
+    append_assoc written pushed room ∙ ap (λ (l : List ℕ). written ++ l) (sym put)
+    ∙ sym (append_assoc written first new)
+    ∙ ap (λ (l : List ℕ). l ++ new) are
+    ∙ ap (λ (l : List ℕ). file_of (luma_header luma) (map written_lines lines) ++ l) (sym (append-nil new))
+    ∙ sym (longer_file luma lines (line ∷ []))
+
+-- a field is whole
+pub field_whole : TakenApart → AreAsLong → (s next : ReadPixels) (bytes written more line pushed : List ℕ)
+    (stands : Stands s bytes written) → next.run ≡ s.run → next.reader.raster ≡ s.reader.raster
+    → next.taken ≡ s.taken + length more → s.taken < most_pixels s.run
+    → length (stands.part ++ more) ≡ size_of s.reader.raster → SaysLines s.reader.raster (stands.part ++ more) line
+    → StandsFor next.reader []
+    → s.gathered.room.items ++ field_bytes (written_lines line) ≡ pushed ++ next.gathered.room.items
+    → Stands next (bytes ++ more) (written ++ pushed)
+field_whole apart long s next bytes written more line pushed stands run same count room whole says begun put =
+    let here = stands.has.raster in
+    let size = size_of s.run.raster in
+    let field = stands.part ++ more in
+    let fields = stands.fields ++ field ∷ [] in
+    let is_whole : length field ≡ size = whole ∙ ap size_of here in
+    let are : bytes ++ more ≡ concat fields ++ [] =
+    ap (λ (l : List ℕ). l ++ more) stands.are ∙ append_assoc (concat stands.fields) stands.part more
+    ∙ sym (one_more_field stands.fields field) in
+    let sizes = All-push (λ f. length f ≡ size) stands.fields field stands.has.sizes is_whole in
+    let few : 0 < size = subst (λ (x : ℕ). 0 < x) (ap size_of (same ∙ here)) begun.few in
+    let before = length-append (concat stands.fields) stands.part in
+    let of_fields = long size stands.fields stands.has.sizes in
+    let more_of = length-append stands.part more in
+    let all : length (concat fields ++ []) ≡ length (concat stands.fields) + length field =
+    ap length (one_more_field stands.fields field) ∙ length-append (concat stands.fields) field in
+    let fits = room_for_one (length stands.fields) MAX_FIELDS size (length stands.part)
+    (omega (arith, of_fields, before, stands.has.taken, room)) in
+    let now : Stands (record next { run = s.run }) (bytes ++ more) (written ++ pushed) = record {
+      fields = fields;
+      part = [];
+      has = record {
+        raster = same ∙ here;
+        taken = omega (arith, count, stands.has.taken, before, all, more_of);
+        within = omega (arith, count, stands.has.taken, before, more_of, of_fields, is_whole, fits);
+        sizes = sizes;
+        begun = begun;
+      };
+      are = are;
+      whole = ap (whole_parts size) are ∙ apart size fields [] sizes few;
+      lines = stands.lines ++ line ∷ [];
+      say = one_more_says (SaysLines s.run.raster) stands.fields stands.lines field line stands.say
+          (subst (λ (x : RasterSize). SaysLines x field line) here says);
+      file = file_with s.run stands.lines line written s.gathered.room.items pushed next.gathered.room.items
+          stands.file put;
+    } in
+    subst (λ (x : LumaReading). Stands (record next { run = x }) (bytes ++ more) (written ++ pushed)) (sym run) now
+
+-- what was gathered was pushed
+pub all_pushed : (s : ReadPixels) (g : Gathered) (bytes written : List ℕ) → Stands s bytes written → g.room.items ≡ []
+    → Stands (record s { gathered = g }) bytes (written ++ s.gathered.room.items)
+all_pushed s g bytes written stands empty = record {
+  fields = stands.fields;
+  part = stands.part;
+  has = record {
+    raster = stands.has.raster;
+    taken = stands.has.taken;
+    within = stands.has.within;
+    sizes = stands.has.sizes;
+    begun = stands.has.begun;
+  };
+  are = stands.are;
+  whole = stands.whole;
+  lines = stands.lines;
+  say = stands.say;
+  file = ap (λ (l : List ℕ). (written ++ s.gathered.room.items) ++ l) empty
+      ∙ append-nil (written ++ s.gathered.room.items) ∙ stands.file;
+}
+
+-- or it was not
+pub push_fails : (s : ReadPixels) (bytes written : List ℕ) (old new : Option (List ℕ)) → Stands s bytes written
+    → AppendsFront old new s.gathered.room.items → Stops (along_pixels s.run) stops.WriteFault old new bytes written
+push_fails s bytes written old new stands f =
+    subst (λ (l : List ℕ). Stops (along_pixels s.run) stops.WriteFault old new l written) (append-nil bytes)
+    (gathered_fails s bytes written [] old new stands f)
+
+-- ---- the end
+
+-- the lines of all fields were written
+pub all_fields : (s : ReadPixels) (bytes written : List ℕ) → s.gathered.room.items ≡ [] → Stands s bytes written
+    → IsLumaFile s.run (whole_parts (size_of s.run.raster) bytes) written
+all_fields s bytes written settled stands = record {
+  lines = stands.lines;
+  say = subst (λ (fs : List (List ℕ)). AllZip (SaysLines s.run.raster) fs stands.lines) (sym stands.whole) stands.say;
+  file = sym (append-nil written) ∙ ap (λ (l : List ℕ). written ++ l) (sym settled) ∙ stands.file;
+}
+
+pub length-taken : (s : ReadPixels) (bytes written : List ℕ) → Stands s bytes written → length bytes ≡ s.taken
+length-taken s bytes written stands = ap length stands.are ∙ sym stands.has.taken
+
+-- what is behind the whole fields
+rest_of : (luma : LumaReading) (bytes : List ℕ) (taken size : ℕ) → length bytes ≡ taken → size ≡ size_of luma.raster
+    → length bytes % size_of luma.raster ≡ taken % size
+rest_of luma bytes taken size long is = ap₂ (λ (n m : ℕ). n % m) long (sym is)
+
+-- nothing is, or it is a part of a field
+pub whole_end : (luma : LumaReading) (bytes : List ℕ) (taken size : ℕ) → length bytes ≡ taken
+    → size ≡ size_of luma.raster → taken % size ≡ 0 → cut_field luma bytes ≡ None
+whole_end luma bytes taken size long is none =
+    ap (λ (n : ℕ). cond (n == 0) None (Some (HalfField (length bytes)))) (rest_of luma bytes taken size long is ∙ none)
+
+pub cut_end : (luma : LumaReading) (bytes : List ℕ) (taken size : ℕ) → length bytes ≡ taken
+    → size ≡ size_of luma.raster → taken % size ≢ 0 → cut_field luma bytes ≡ Some (HalfField taken)
+cut_end luma bytes taken size long is some =
+    ap (λ (n : ℕ). cond (n == 0) None (Some (HalfField (length bytes)))) (rest_of luma bytes taken size long is)
+    ∙ ap (λ (b : Bool). cond b None (Some (HalfField (length bytes)))) (ne_eqb (taken % size) 0 some)
+    ∙ ap (λ (n : ℕ). Some (HalfField n)) long

@@ -1,0 +1,150 @@
+//! The engine of `luma-vitc`: a line file of what the rows of fields of pixels say. Read next:
+//! `luma_field/src/reader.rt`, and then `luma_lines`.
+ghost use Rattle.std.specs.Prelude.{◌≡◌, ◌≤◌, ◌^◌, []};
+ghost use Rattle.tc_command.specs.Told.{IsLawful, IsTold, WorksAsTold};
+ghost use Rattle.tc_job.specs.LumaRun.{LumaReading};
+ghost use Rattle.signal_commands.specs.KeptLuma.{IsGoing, Stands};
+ghost use Rattle.signal_commands.specs.LumaVitc.{most_pixels, told_luma_vitc};
+ghost use Rattle.luma_field.specs.Raster.{size_of};
+
+use crate::luma_lines::{LINE_LENGTH, field_of};
+use crate::stopping::push_before;
+use line_file::laws::{a_file_is_read_as_it_was_written, runs_of_a_line_fit_the_file};
+use line_file::{LineHeader, MAX_FIELDS, line_header};
+use luma_field::PixelReader;
+use luma_field::laws::{a_field_says_its_lines, joined_parts_are_taken_apart};
+use tc_command::{Engine, Gathered, InputFault, Stop, work};
+use tc_io::{Sink, Source};
+use tc_job::LumaRun;
+use vitc_reader::laws::each_line_has_its_runs;
+
+/// Works `luma-vitc`: a line file of the rows of fields.
+pub fn read_pixels<S: Source, K: Sink>(
+    run: &LumaRun,
+    source: &mut S,
+    out: &mut K,
+) -> Result<(), Stop>
+    ensures { WorksAsTold (told_luma_vitc run.now) S.left S.ends S.faults K.written K.faults source.old source.new
+        out.old out.new result }
+{
+    pixels_are_told(run);
+    work(&mut ReadPixels::new(run), source, out)
+}
+
+/// What is told of `luma-vitc` holds: the file that it writes is read as the lines of its rows.
+fn pixels_are_told(run: &LumaRun)
+    ensures { IsTold (told_luma_vitc run.now) }
+{
+    let _system = run.system();
+    let _size = size(run);
+    pixels_are_lawful();
+    a_field_says_its_lines();
+    each_line_has_its_runs();
+    runs_of_a_line_fit_the_file();
+    a_file_is_read_as_it_was_written();
+}
+
+/// What is told of `luma-vitc` is lawful.
+pub fn pixels_are_lawful()
+    ensures { (luma : LumaReading) → IsLawful (told_luma_vitc luma) }
+{
+    a_field_says_its_lines();
+    joined_parts_are_taken_apart();
+}
+
+/// Pixels on their way into lines.
+#[derive(Drop)]
+struct ReadPixels {
+    run: LumaRun,
+    reader: PixelReader,
+    /// Bytes so far.
+    taken: u64,
+    gathered: Gathered,
+}
+
+/// The bytes of a field.
+fn size(run: &LumaRun) -> u64
+    ensures size { result ≡ size_of run.now.raster }
+    ensures some { 1 ≤ result }
+    ensures most { result ≤ 2 ^ 24 }
+{
+    let raster = run.raster();
+    u64::from(raster.width()) * u64::from(raster.height())
+}
+
+/// The bytes of as many fields as are taken.
+fn most(run: &LumaRun) -> u64
+    ensures value { result ≡ most_pixels run.now }
+    ensures bound { result ≤ 2 ^ 51 }
+{
+    u64::from(MAX_FIELDS) * size(run)
+}
+
+impl ReadPixels {
+    /// Before the first byte. The header stands already.
+    fn new(run: &LumaRun) -> ReadPixels
+        ensures run { result.run ≡ run.now }
+        ensures going { IsGoing result }
+        ensures stands { Stands result [] [] }
+    {
+        joined_parts_are_taken_apart();
+        let header = line_header(&LineHeader {
+            system: run.system(),
+            length: LINE_LENGTH,
+        });
+        ReadPixels {
+            run: *run,
+            reader: PixelReader::new(&run.raster()),
+            taken: 0,
+            gathered: Gathered::holding(&header),
+        }
+    }
+}
+
+impl Engine for ReadPixels {
+    ghost use Rattle.std.specs.Prelude.{◌-◌, ◌+◌, ◌≡◌, []};
+    ghost use Rattle.signal_commands.specs.KeptLuma.{IsGoing, Stands, stands_well};
+    ghost use Rattle.signal_commands.specs.LumaVitc.{along_pixels, most_pixels};
+
+    type Choice = LumaRun;
+
+    ghost meaning = { λ luma. along_pixels luma };
+
+    ghost choice = { λ s. s.run };
+
+    ghost is_going = { λ s. IsGoing s };
+
+    ghost stands = { λ s bytes written. Stands s bytes written };
+
+    ghost is_settled = { λ s. s.gathered.room.items ≡ [] };
+
+    ghost budget = { λ s. most_pixels s.run + 1 - s.taken };
+
+    ghost stands_well = { λ s bytes written settled stands. stands_well s bytes written settled stands };
+
+    fn take<K: Sink>(&mut self, bytes: &[u8], out: &mut K) -> Result<usize, Stop> {
+        joined_parts_are_taken_apart();
+        a_field_says_its_lines();
+        if self.taken == most(&self.run) {
+            return Err(push_before(Stop::Limit, &mut self.gathered, out));
+        }
+        let (count, lines) = self.reader.take(bytes);
+        self.taken += count as u64;
+        if let Some(lines) = lines {
+            self.gathered.put(field_of(&lines).as_slice(), out)?;
+        }
+        Ok(count)
+    }
+
+    fn flush<K: Sink>(&mut self, out: &mut K) -> Result<(), Stop> {
+        self.gathered.push(out)
+    }
+
+    fn finish<K: Sink>(&mut self, _out: &mut K) -> Result<(), Stop> {
+        let rest = self.taken % size(&self.run);
+        if rest == 0 {
+            return Ok(());
+        }
+        Err(Stop::Refused(InputFault::HalfField(self.taken)))
+    }
+}
