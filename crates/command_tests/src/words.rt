@@ -160,6 +160,7 @@ fn other_jobs_without_values_are_read(rt: HostRuntime) -> Result<(), Fail> {
     assert!(rt; matches!(job_in(alloc, "mtc-read")?, Job::MtcRead));
     assert!(rt; matches!(job_in(alloc, "help")?, Job::Help));
     assert!(rt; matches!(job_in(alloc, "help ltc-read")?, Job::HelpOf { page: 0 }));
+    assert!(rt; matches!(job_in(alloc, "help luma-vitc")?, Job::HelpOf { page: 17 }));
     assert!(rt; matches!(job_in(alloc, "help version")?, Job::HelpOf { page: 23 }));
     assert!(rt; matches!(job_in(alloc, "help statuses")?, Job::HelpStatuses));
     assert!(rt; matches!(job_in(alloc, "version")?, Job::Version));

@@ -123,7 +123,7 @@ pub const SMOOTH: PageLine = (
 pub const LIVE: PageLine = (
     "  ",
     "live",
-    ": a long distance is written in pieces as it passes; the last word",
+    ": a long distance is written in pieces as it passes; always the last",
     4,
     7,
 );
@@ -165,7 +165,7 @@ pub const DEEP: PageLine = (
 pub const LIVE_OF_TRACK: PageLine = (
     "  ",
     "live",
-    ": a long distance is written in pieces as it passes; the last word",
+    ": a long distance is written in pieces as it passes; always the last",
     4,
     6,
 );
@@ -249,7 +249,7 @@ pub const STEP: PageLine = (
 pub const SEED: PageLine = (
     "  SEED ",
     "0 to 18446744073709551615",
-    ": one seed, one recording",
+    ": the same seed makes the same recording",
     1,
     1,
 );

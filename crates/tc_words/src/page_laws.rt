@@ -134,7 +134,7 @@ pub fn the_values_of_each_command_are_these()
         ∷ (codes "pcm-ltc", codes "  SMOOTH ", codes "1 to 16",
             codes ": sums of this many samples are sliced", 6, 6)
         ∷ (codes "pcm-ltc", codes "  ", codes "live",
-            codes ": a long distance is written in pieces as it passes; the last word", 4, 7)
+            codes ": a long distance is written in pieces as it passes; always the last", 4, 7)
         ∷ (codes "wav-ltc", codes "  SYSTEM ", codes "24|25|30",
             codes ": frames a second", 1, 1)
         ∷ (codes "wav-ltc", codes "  TRACK ", codes "1 to 64",
@@ -148,7 +148,7 @@ pub fn the_values_of_each_command_are_these()
         ∷ (codes "wav-ltc", codes "  ", codes "deep",
             codes ": the threshold is a quarter of the level of the sound", 5, 5)
         ∷ (codes "wav-ltc", codes "  ", codes "live",
-            codes ": a long distance is written in pieces as it passes; the last word", 4, 6)
+            codes ": a long distance is written in pieces as it passes; always the last", 4, 6)
         ∷ (codes "ltc-pcm", codes "  LEVEL ", codes "1 to 32767",
             codes ": the size of each sample", 1, 1)
         ∷ (codes "luma-vitc", codes "  SYSTEM ", codes "25|30",
@@ -181,7 +181,7 @@ pub fn the_values_of_each_command_are_these()
         ∷ (codes "ltc-make", codes "  STEP ", codes "0 to CELL/8",
             codes ": ticks from cell to cell; at most an eighth of the lesser", 8, 8)
         ∷ (codes "ltc-load", codes "  SEED ", codes "0 to 18446744073709551615",
-            codes ": one seed, one recording", 1, 1)
+            codes ": the same seed makes the same recording", 1, 1)
         ∷ (codes "ltc-load", codes "  WORDS ", codes "1 to 100000",
             codes ": how many words are made", 2, 2)
         ∷ (codes "chase", codes "  COUNT ", codes "24|25|30|30d",
