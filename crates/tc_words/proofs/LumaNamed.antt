@@ -36,7 +36,9 @@ held true false n is = absurd cc
 held false b n is = absurd cc
 
 within : (a b : Bool) (n : ℕ) → a ≡ true → b ≡ true → is_some (if a && b then Some n else None) ≡ true
-within a b n low high = rw (low, high) refl
+within true true n low high = refl
+within true false n low high = high
+within false b n low high = low
 
 -- and those of a wider range hold then
 wider : (least less greatest : ℕ) (read : Option ℕ) → less ≤ greatest
