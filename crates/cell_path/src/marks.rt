@@ -66,7 +66,7 @@ impl Marks {
         self.ring[self.count as usize % KEPT] = marks;
     }
 
-    /// The marks of the step so long ago.
+    /// The marks of the step `ago` steps before the latest.
     fn ago(&self, ago: usize) -> &StepMarks
         requires { ago < 4_096 }
         ensures value { result.now ≡ marks_ago self.now ago }

@@ -41,7 +41,7 @@ impl Rows {
         Rows { ring, count: 0 }
     }
 
-    /// The number of the step so long ago.
+    /// The number that the step `ago` steps before the latest has in a place, with a sign.
     pub(crate) fn ago(&self, ago: usize, place: usize, sign: Sign) -> i64
         requires ago { ago ≤ 96 }
         requires place { place < 45 }

@@ -34,7 +34,7 @@ impl Start {
     }
 }
 
-/// A number less so many times the mean size.
+/// A number less `times` times the mean size.
 fn less(number: i64, times: usize, level: u32) -> i64
     requires number { IsWithin (2 ^ 62 + 2 ^ 40) number }
     requires times { times ≤ 288 }

@@ -4,7 +4,7 @@ ghost use Rattle.direction_reader.specs.Boundaries.{with_tick};
 
 use std::marker::Model;
 
-/// A window has so many boundaries: one before each of its 80 cells, and the one at its end.
+/// The boundaries of a window: one before each of its 80 cells, and the one at its end.
 pub const BOUNDARIES: usize = 81;
 
 /// The latest 81 ticks that it was given, the oldest first, with zeros for those before the first. They

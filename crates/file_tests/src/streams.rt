@@ -71,7 +71,7 @@ impl Write for Told {
     }
 }
 
-/// A sink that takes so many bytes of a piece at most, of which one push fails, and which notes what
+/// A sink that takes at most `most` bytes of a piece, of which one push fails, and which notes what
 /// it was asked.
 #[derive(Drop)]
 struct Noting {
@@ -189,7 +189,7 @@ fn memory_is_had_for_a_long_input(rt: HostRuntime) -> Result<(), Fail> {
     Ok(())
 }
 
-/// The first of the bytes, so many, are pulled from each source and pushed to a sink, for which memory is had.
+/// The first `len` bytes are pulled from each source and pushed to a sink, for which there is memory.
 fn goes_through(alloc: Global, bytes: &[u8], len: usize) -> Result<bool, Fail> {
     let Some(piece) = bytes.get(..len) else {
         return Ok(false);
@@ -307,7 +307,7 @@ fn a_push_is_one_write(rt: HostRuntime) {
     }
 }
 
-/// Pushes a piece in parts of at most so many bytes, of which one push fails: no push comes behind it,
+/// Pushes a piece in parts of at most `most` bytes, of which one push fails: no push comes after it,
 /// and none that was not needed.
 fn push_in_parts(rt: &impl Abort, piece: &[u8], most: usize, failing: u64)
     requires part { 1 ≤ most }

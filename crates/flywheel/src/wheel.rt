@@ -48,7 +48,7 @@ impl Flywheel {
         }
     }
 
-    /// A flywheel that has invented so many frames since a word.
+    /// A flywheel that has invented `invented` frames since a word.
     fn since(limit: u8, word: HeardWord, invented: u32) -> Flywheel
         requires range { IsInRange word }
         requires within { invented ≤ limit }

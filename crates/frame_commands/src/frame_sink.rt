@@ -75,7 +75,7 @@ pub(crate) trait FrameSink: Drop {
         ensures going { result ≡ false → (choice : Self.Choice) (header : IntervalHeader) (frames : List Frame)
             → given self.now choice header frames → ¬ AreTooMany (FrameText.most (made choice)) frames };
 
-    /// Writes what stands last, behind so many intervals, whose sum is so many ticks. `frames` has counted what
+    /// Writes what comes last, after `intervals` intervals, whose sum is `ticks`. `frames` has counted what
     /// was given.
     fn finish<K: Sink>(
         &self,

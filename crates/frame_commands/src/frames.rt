@@ -40,7 +40,7 @@ pub(crate) struct Frames {
 }
 
 impl Frames {
-    /// Before the first word, with at most so many invented frames in a row.
+    /// Before the first word, with at most `limit` invented frames in a row.
     pub(crate) fn new(limit: u8) -> Frames
         ensures { BeginsFlight result limit }
     {
@@ -103,7 +103,7 @@ impl Frames {
         !self.wheel.due(until)
     }
 
-    /// The line that counts what was given, behind so many intervals, whose sum is so many ticks.
+    /// The line that counts what was given, after `intervals` intervals, whose sum is `ticks`.
     pub(crate) fn end_text(&self, intervals: u64, ticks: u64) -> Text
         requires fits { FitsFlight self.now (2 * MAX_INTERVALS + 2) }
         requires intervals { intervals < 2 ^ 40 }

@@ -101,7 +101,7 @@ impl Counts {
         }
     }
 
-    /// The last line of a report of so many intervals, whose sum is so many ticks.
+    /// The last line of a report of `intervals` intervals, whose sum is `ticks`.
     pub(crate) fn end_text(&self, intervals: u64, ticks: u64) -> Text
         requires counts { counts_in self.now ≤ 3 * MAX_INTERVALS + 3 }
         requires intervals { intervals < 2 ^ 40 }

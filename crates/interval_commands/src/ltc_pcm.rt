@@ -79,7 +79,7 @@ fn sample_bytes(sample: i16) -> [u8; 2]
     bytes
 }
 
-/// The bytes of so many equal samples.
+/// The bytes of `RUN` equal samples.
 fn run_of(sample: i16) -> Run
     ensures { result.items ≡ bytes_of (replicate 512 sample) }
 {
@@ -93,7 +93,7 @@ fn run_of(sample: i16) -> Run
     run
 }
 
-/// Puts so many samples, of which the run has as many as are put at once.
+/// Puts `samples` equal samples, up to `RUN` of them at once.
 #[inline(always)]
 fn put_run<K: Sink>(
     run: &Run,

@@ -50,7 +50,7 @@ pub trait Behind: Drop {
     /// What it writes.
     ghost printing: { Self.Choice → Printing };
 
-    /// What it keeps fits the intervals that it was given, so many.
+    /// What it keeps fits the number of intervals that it was given.
     ghost fits: { Self → ℕ → Type 0 };
 
     /// It was begun with this choice and this header, was given these intervals, and wrote this.

@@ -165,7 +165,7 @@ impl IntervalDecoder {
         taken
     }
 
-    /// Passes over so many bytes of whole intervals, all of them in range.
+    /// Passes over `count` bytes of whole intervals, all of them in range.
     pub fn pass_over(&mut self, count: usize)
         requires between { IsBetween self.old }
         requires whole { MayBeWhole self.old.version count }
@@ -311,7 +311,7 @@ fn piece_taken(place: u64, version: FileVersion, system: Option<System>, piece: 
     }
 }
 
-/// What a whole interval says that ends with so many bytes.
+/// What the whole interval `piece` says, which ends `taken` bytes into the file.
 fn whole_interval(version: FileVersion, taken: u64, piece: &[u8]) -> Taken
     requires begins { IsWholeAt version taken piece.now }
     requires below { taken < 2 ^ 63 }

@@ -24,7 +24,7 @@ pub const LEAST_LONG: u32 = 65_536;
 pub enum Next {
     /// No whole interval.
     Short,
-    /// An interval, in ticks, of so many bytes.
+    /// An interval, in ticks, and the number of its bytes.
     Interval { ticks: u32, width: usize },
     /// An interval out of range.
     Fault(IntervalFileFault),
@@ -109,7 +109,7 @@ pub(crate) fn interval_in(
     }
 }
 
-/// An interval of so many ticks, which begins at this byte place, where it has at least the least and is in
+/// An interval of `ticks` ticks, which begins at this byte place, if it is at least `least` and in
 /// range.
 #[inline(always)]
 fn in_range(place: u64, least: u32, ticks: u32) -> Result<u32, IntervalFileFault>

@@ -11,10 +11,10 @@ use label_lines::{Timebase, read_line, wrong_column};
 use std::marker::Model;
 use tc_address::Label;
 
-/// A line has so many bytes, at most, without its newline.
+/// The most bytes of a line, without its newline.
 pub const MAX_LINE: usize = 64;
 
-/// So many lines are read, at most.
+/// The most lines that are read.
 pub const MAX_LINES: u64 = 1_000_000_000;
 
 /// What a byte completes, or the end of a text.

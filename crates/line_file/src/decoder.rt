@@ -47,7 +47,7 @@ pub enum Taken {
 pub(crate) enum Piece {
     /// The header.
     Header(LineHeader),
-    /// A field of so many bytes, with its answer.
+    /// A field, with its answer and the number of its bytes.
     Field { answer: FieldAnswer, width: usize },
     /// The first bytes of either.
     Short,
@@ -151,8 +151,8 @@ impl LineDecoder {
     }
 }
 
-/// What stands at the front of the bytes that are kept and of these, behind so many fields. They are kept too where
-/// that is less than a whole piece. Where nothing is kept, no byte of a whole piece is copied.
+/// What the bytes that are kept and these begin with, after `fields` fields. They are kept too if
+/// that is less than a whole piece. If nothing is kept, no byte of a whole piece is copied.
 fn take_piece(
     header: Option<LineHeader>,
     place: u64,
@@ -216,7 +216,7 @@ fn piece_behind(
     piece
 }
 
-/// What stands at the front of bytes behind so many fields.
+/// What bytes begin with after `fields` fields.
 fn piece_in(header: Option<LineHeader>, place: u64, fields: u32, bytes: &[u8]) -> Piece
     requires header { IfSome header IsHeader }
     requires place { place < 2 ^ 62 }

@@ -24,7 +24,7 @@ pub const MAX_RUNS: u8 = 89;
 /// What stands at the front of bytes behind the header.
 #[derive(Clone, Copy)]
 pub(crate) enum FoundField {
-    /// A field of so many bytes, with the answer of its lines.
+    /// A field, with the answer of its lines and the number of its bytes.
     Whole { answer: FieldAnswer, width: usize },
     /// The first bytes of one.
     Short,
@@ -70,7 +70,7 @@ pub(crate) fn field_in(header: &LineHeader, place: u64, bytes: &[u8]) -> FoundFi
     }
 }
 
-/// Whether the last bytes before this place, so many of them, stand again behind it.
+/// Whether the `last` bytes before this place come again behind it.
 fn stands_again(bytes: &[u8], at: usize, last: usize) -> bool
     requires at { at ≤ length bytes.now }
     requires last { last ≤ at }
@@ -108,7 +108,7 @@ fn line_in(place: u64, bytes: &[u8], reader: &mut FieldReader) -> Found
     tried_runs(place, count, bytes)
 }
 
-/// Whether so many runs, each of a tick or more, stand behind the first byte.
+/// Whether `count` runs, each of a tick or more, follow the first byte.
 fn tried_runs(place: u64, count: u8, bytes: &[u8]) -> Found
     requires place { place < 2 ^ 63 }
     requires some { 0 < length bytes.now }
@@ -128,14 +128,14 @@ fn tried_runs(place: u64, count: u8, bytes: &[u8]) -> Found
     Found::Whole
 }
 
-/// How many bytes a line of so many runs has.
+/// How many bytes a line of `count` runs has.
 fn line_width(count: u8) -> usize
     ensures { result ≡ 1 + 2 * count }
 {
     1 + 2 * count as usize
 }
 
-/// Whether a line may have so many runs.
+/// Whether a line may have `count` runs.
 fn is_run_count(count: u8) -> bool
     ensures { result ≡ is_run_count count }
 {

@@ -122,7 +122,7 @@ fn header_with(system: Option<System>, length: u32) -> FoundHeader
     }
 }
 
-/// Whether a line may last so many ticks.
+/// Whether a line may last `length` ticks.
 fn is_line_length(length: u32) -> bool
     ensures { result ≡ is_line_length length }
 {

@@ -33,8 +33,8 @@ impl Model for Front {
 }
 
 impl Front {
-    /// Before the first sample. A step has so many ticks, and the threshold of the hold is never below
-    /// the least.
+    /// Before the first sample. A step has `ticks` ticks, and the threshold of the hold is never below
+    /// `least`.
     pub fn new(grid: Grid, ticks: u32, least: u32) -> Front
         requires grid { IsGrid grid }
         requires least_ticks { 2 ≤ ticks }

@@ -5,7 +5,7 @@ ghost use Rattle.path_front.specs.KeptSizes.{SizesStandFor};
 
 use std::marker::Model;
 
-/// A mean size is that of so many sounds: some twenty cells at play speed.
+/// Of how many sounds a mean size is: some twenty cells at play speed.
 pub const MEANS: usize = 512;
 
 /// The sizes of the latest 512 sounds, in a ring.

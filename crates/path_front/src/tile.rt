@@ -30,7 +30,7 @@ fn cut_off(breaks: bool, first: u32, second: Option<u32>) -> Tiles
     tiles
 }
 
-/// The intervals of a cell, where a step has so many ticks.
+/// The intervals of a cell, if a step has `ticks` ticks.
 pub fn tiled(ticks: u32, judged: &Judged) -> Tiles
     requires least { 2 ≤ ticks }
     requires most { ticks ≤ MAX_TICKS }

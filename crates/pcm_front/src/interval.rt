@@ -12,7 +12,7 @@ pub struct Intervals {
     pub whole: u64,
     /// Then the rest of a distance, where one ended.
     pub rest: Option<u32>,
-    /// And so many whole pieces of one that has not ended.
+    /// And the number of whole pieces of one that has not ended.
     pub begun: u64,
 }
 

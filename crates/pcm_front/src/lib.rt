@@ -4,7 +4,7 @@
 //! the high side of a threshold to the low one, or back, it has a crossing; the distances of
 //! neighbouring crossings are the intervals of the recording. With a fineness of one they are counted
 //! in whole samples. A finer slicer places each crossing on the straight line from sample to sample,
-//! in so many ticks a sample, which keeps the shape of cells that have few samples. A threshold is
+//! `fineness` ticks a sample, which keeps the shape of cells that have few samples. A threshold is
 //! fixed, or follows the level of the sound, at a half or a quarter of its height. Sums of the latest
 //! samples may be sliced in place of the samples, against hiss. The first distance begins at the first
 //! crossing, or at tick 0, the place of the first sample. The finer form, the thresholds that follow

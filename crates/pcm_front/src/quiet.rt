@@ -87,7 +87,7 @@ fn first_set(bits: u64, count: usize) -> usize
     }
 }
 
-/// The samples in so many places.
+/// The `LANES` samples from a place on.
 fn lanes_at<S: Samples>(samples: &S, at: usize) -> i16x32
     requires within { at + LANES ≤ length (S.list samples.now) }
     requires room { at + LANES < 2 ^ 64 }
@@ -113,7 +113,7 @@ fn outside(band: Band, lanes: i16x32) -> u64
     (is_below | is_above).to_bitmask()
 }
 
-/// How many of so many samples from a place on lie in a band, before the first one that does not.
+/// How many of the `LANES` samples from a place on are in a band, before the first one that is not.
 fn run_in<S: Samples>(samples: &S, at: usize, band: Band) -> usize
     requires within { at + LANES ≤ length (S.list samples.now) }
     requires room { at + LANES < 2 ^ 64 }

@@ -48,7 +48,7 @@ impl Slicer {
         Slicer::summing(fineness, threshold, 1)
     }
 
-    /// A slicer of sums of so many samples, from 1 to `MAX_SMOOTH`, from the first crossing. The
+    /// A slicer of sums of `smooth` samples, from 1 to `MAX_SMOOTH`, from the first crossing. The
     /// threshold is that of the sums.
     pub fn summing(fineness: u32, threshold: Threshold, smooth: u32) -> Slicer
         requires least { 1 ≤ fineness }

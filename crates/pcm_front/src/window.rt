@@ -62,7 +62,7 @@ fn moved(sum: i32, comes: i16, goes: i16) -> i32
     sum + i32::from(comes) - i32::from(goes)
 }
 
-/// The place behind, in a ring of so many but one.
+/// The place after this one, in a ring of `smooth - 1` places.
 fn place_after(smooth: u32, place: usize) -> usize
     requires { place + 2 ≤ smooth }
     ensures { result ≡ cond (place + 2 == smooth) 0 (place + 1) }

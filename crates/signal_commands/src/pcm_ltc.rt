@@ -161,7 +161,7 @@ impl SlicedSound {
     }
 }
 
-/// The bytes of at most so many samples.
+/// The bytes of the first `samples` samples, or all if there are fewer.
 fn within(bytes: &[u8], samples: u64) -> &[u8]
     requires some { 1 ≤ samples }
     requires most { samples ≤ MAX_SAMPLES }

@@ -35,7 +35,7 @@ pub(crate) fn spell<K: Sink>(
     spell_whole(gathered, intervals.length, intervals.begun, out)
 }
 
-/// Spells so many intervals of a length.
+/// Spells `count` intervals of a length.
 #[inline(always)]
 fn spell_whole<K: Sink>(
     gathered: &mut Gathered,

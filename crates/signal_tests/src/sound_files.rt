@@ -50,7 +50,7 @@ struct Told {
     end: Result<(), WaveFault>,
 }
 
-/// What a decoder tells of bytes that come in pieces of so many, by whole runs where it is asked.
+/// What a decoder reads from bytes that come in pieces of `piece` bytes, by whole runs if `by_runs`.
 fn read_in_pieces(track: u32, bytes: &[u8], piece: usize, by_runs: bool) -> Told
     requires least { 1 ≤ track }
     requires most { track ≤ 64 }

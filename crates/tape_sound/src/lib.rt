@@ -9,7 +9,7 @@
 //!
 //! What this crate promises, all of it by laws:
 //! - The cells of a steady tape, as they are found, keep the tolerance, and have the bits of the tape
-//!   (`specs/Late.antt`, `IsSteady` and `AreFoundAs`). A cell has to outlast so many drifts and so many
+//!   (`specs/Late.antt`, `IsSteady` and `AreFoundAs`). A cell has to outlast a number of drifts and of
 //!   delays together, so that steadiness and delay trade against each other (`Outlasts`). Where nothing
 //!   drifts by more than a hundredth, 40 delays are enough under the normal tolerance, 28 under the worn
 //!   and 11 under the rough one; 38, 27 and 10 are not. Under the rough one 12 drifts and 9 delays are

@@ -10,8 +10,8 @@ ghost use Rattle.tc_bits.specs.Fields.{FieldValues, Says, fields_of};
 ghost use Rattle.tc_bits.specs.Fault.{first_field_fault};
 ghost use Rattle.tc_bits.specs.declared.names.TheConstants as names;
 
-/// Numbers that fit places which share out the bits of a register stand each in its place of their sum
-/// by weights, and of no other register of so many bits.
+/// Numbers that fit places which share out the bits of a register are each in its place of their sum
+/// by weights, and in no other register of this width.
 pub fn a_row_is_its_sum()
     ensures holds { SumHolds }
     ensures only { OnlySumHolds }

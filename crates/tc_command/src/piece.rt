@@ -14,7 +14,7 @@ pub type Piece = ArrayVec<u8, PIECE>;
 /// How many bytes it takes.
 pub const PIECE: usize = 4096;
 
-/// Puts an interval, of so many ticks, as an interval file of version 1 has it: four bytes, the most
+/// Puts an interval of `ticks` ticks, as an interval file of version 1 has it: four bytes, the most
 /// significant one first.
 pub fn put_interval(room: &mut Piece, ticks: u32)
     requires { array_vec_len room.old + 4 ≤ PIECE }

@@ -77,8 +77,8 @@ fn numbers_of(alloc: Global, cell: &str) -> Result<Vec<usize>, AllocError> {
 }
 
 impl Case {
-    /// The run whose pulls give so many bytes, and in which nothing else fails than what the row says: where
-    /// nothing may be pulled the first pull fails, and where the status is a read fault the one behind the input.
+    /// The run whose pulls give `piece` bytes each, and in which nothing else fails than what the row says: if
+    /// nothing may be pulled the first pull fails, and if the status is a read fault the one behind the input.
     pub fn trial<'a>(&'a self, pieces: &'a [usize; 1]) -> Trial<'a> {
         let [piece] = *pieces;
         let failing_pull = if self.is_unread {
@@ -100,7 +100,7 @@ impl Case {
     }
 }
 
-/// The number of the pull behind so many bytes.
+/// The number of the pull behind `length` bytes.
 pub fn pull_behind(length: usize, piece: usize) -> u64 {
     (length.div_ceil(piece.clamp(1, LONGEST_PULL)) as u64).saturating_add(1)
 }

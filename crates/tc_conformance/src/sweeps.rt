@@ -115,7 +115,7 @@ fn in_pieces(runner: &mut Runner, case: &Case) -> Verdict {
     Ok(None)
 }
 
-/// What stands where the pull behind so many bytes fails, which came in pulls as long as they can be.
+/// What is written if the pull behind `length` bytes fails, which came in pulls as long as they can be.
 fn behind(runner: &mut Runner, case: &Case, length: usize) -> Result<Ended, AllocError> {
     let input = case.input.get(..length).unwrap_or(&case.input);
     runner.run(&Trial {

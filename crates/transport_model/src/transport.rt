@@ -26,7 +26,7 @@ impl Model for Transport {
     ghost inverse = { λ s. record { count = s.count; position = s.position } };
 }
 
-/// The place so many places further on a circle of `day` places, or back where `steps` is negative.
+/// The place `steps` places further on a circle of `day` places, or back if `steps` is negative.
 fn moved(day: u32, place: u32, steps: i64) -> u32
     requires some { 1 ≤ day }
     requires inside { place < day }

@@ -99,7 +99,7 @@ impl Model for FieldReader {
 }
 
 impl FieldReader {
-    /// A reader of a field of the system, 25 or 30 frames, whose lines last so many ticks, from 460 to
+    /// A reader of a field of the system, 25 or 30 frames, whose lines last `length` ticks, from 460 to
     /// 65,535.
     pub fn new(system: System, length: u32) -> FieldReader
         requires system { HasLines system }

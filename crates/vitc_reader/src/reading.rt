@@ -23,7 +23,7 @@ pub(crate) fn factor_of(length: u32) -> u64
     ((1 << 43) / (4 * length as u64) + 1) << 21
 }
 
-/// How many cells a run of so many ticks is: it is within a quarter of a cell of them.
+/// How many cells a run of `run` ticks is: it is within a quarter of a cell of them.
 #[inline(always)]
 fn cells_of(length: u32, factor: u64, run: u16) -> Option<u32>
     requires length { IsLineLength length }

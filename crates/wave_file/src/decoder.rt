@@ -109,7 +109,7 @@ impl WaveDecoder {
         self.take_piece(want, bytes)
     }
 
-    /// Takes the next piece, of which so many of the bytes are wanted.
+    /// Takes the rest of the next piece: the first `want` of the bytes.
     #[inline(always)]
     fn take_piece(&mut self, want: usize, bytes: &[u8]) -> Taken
         requires some { 1 ≤ want }
@@ -291,7 +291,7 @@ fn within(room: u64, length: usize) -> usize
     }
 }
 
-/// How many of so many bytes are data and within the limit.
+/// How many of `length` bytes are data and within the limit.
 fn bytes_inside(extent: Extent, room: u64, length: usize) -> usize
     ensures length { result ≤ length }
     ensures room { result ≤ room }
@@ -309,7 +309,7 @@ fn bytes_inside(extent: Extent, room: u64, length: usize) -> usize
     }
 }
 
-/// How many whole blocks are in so many bytes, where there are so many places and so many are left.
+/// How many whole blocks are in `inside` bytes, if there are `places` places and `left` blocks are left.
 fn whole_blocks(inside: usize, block: usize, places: usize, left: u64) -> usize
     requires { 1 ≤ block }
     ensures inside { result * block ≤ inside }

@@ -101,21 +101,21 @@ fn field_fault(asked: Asked, place: u64, is_pcm: bool, format: &WaveFormat) -> O
     }
 }
 
-/// Whether a file may have so many tracks.
+/// Whether a file may have `tracks` tracks.
 fn is_track_count(tracks: u16) -> bool
     ensures { result ≡ is_track_count tracks }
 {
     1 <= tracks && u32::from(tracks) <= MAX_TRACKS
 }
 
-/// Whether a file may have so many samples a second, where so many are asked at least.
+/// Whether a file may have `rate` samples a second, if at least `least` are asked for.
 fn is_rate(least: u32, rate: u32) -> bool
     ensures { result ≡ is_rate least rate }
 {
     least <= rate && rate <= MAX_RATE
 }
 
-/// Whether a sample may have so many bits.
+/// Whether a sample may have `bits` bits.
 fn is_sample_size(bits: u16) -> bool
     ensures { result ≡ is_sample_size bits }
 {

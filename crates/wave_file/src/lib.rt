@@ -1,7 +1,7 @@
 //! The sound file: the samples of one track, as they come.
 //!
 //! A sound file is RIFF/WAVE (BWF among it, EBU Tech 3285), or RF64 or BW64 (ITU-R BS.2088), which have
-//! sizes of 64 bits. Behind its first twelve bytes stand chunks: four letters, a size, and so many bytes.
+//! sizes of 64 bits. Behind its first twelve bytes come chunks: four letters, a size, and that number of bytes.
 //! `fmt ` gives the format, `data` the samples. They are read in any pieces, in fixed memory.
 //!
 //! What this crate promises:

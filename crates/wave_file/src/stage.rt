@@ -117,8 +117,8 @@ pub(crate) fn data_stage(format: WaveFormat, extent: Extent, room: u64) -> Stage
     }
 }
 
-/// How many of so many bytes are passed over, and what the bytes behind them are; or none, where a piece
-/// is waited for.
+/// How many of `length` bytes are passed over, and what the bytes behind them are; or none, if the decoder
+/// waits for a piece.
 pub(crate) fn passed(stage: &Stage, length: usize) -> Option<(usize, Stage)>
     requires { 1 ≤ length }
     ensures passed { IfSome result (λ passed. IsPassed stage.now length passed.0 passed.1) }
@@ -314,7 +314,7 @@ fn long_size_in(body: &[u8]) -> u64
     LittleEndian::read_u64(&body[8..])
 }
 
-/// How far data go behind so many of their bytes.
+/// How far data go behind `count` of their bytes.
 pub(crate) fn behind(extent: Extent, count: u64) -> Extent
     requires { HasBytes count extent }
     ensures { result ≡ extent_behind extent count }
