@@ -85,7 +85,7 @@ def rows_in(out):
 
 
 def killed_at(rows, *words):
-    """Kills a run, with all that it started, when so many rows stand, and says how many stood then."""
+    """Kills a run, with all that it started, when `rows` rows are written, and says how many were written then."""
     run = subprocess.Popen(words, stdout=subprocess.DEVNULL, stderr=subprocess.DEVNULL, start_new_session=True)
     while rows_in(words[2]) < rows and run.poll() is None:
         time.sleep(0.02)

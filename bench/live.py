@@ -60,7 +60,7 @@ def run(program, words, data=b""):
 
 
 def code(program, label):
-    """The samples of so many frames of code from a label on, as bytes."""
+    """The samples of FRAMES frames of code from a label on, as bytes."""
     words = ["ltc-make", str(SYSTEM), "forward", label, str(FRAMES), str(RATE // SYSTEM // 80), str(RATE)]
     return run(program, ["ltc-pcm", "8000"], run(program, words))
 

@@ -62,7 +62,7 @@ class Row:
 
     @staticmethod
     def at(place, eighths):
-        """Where so many eighths of a cell of the word end."""
+        """Where `eighths` eighths of a cell of the word end."""
         first, last = place
         return (640 * first + eighths * (last - first) - 8 * (last - first)) // 640
 

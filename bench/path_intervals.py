@@ -34,7 +34,7 @@ def word(system, number):
 
 
 def edges(system, rate, total, speed):
-    """Where the level changes, and to which sign, as far as so many samples."""
+    """Where the level changes, and to which sign, in the first `total` samples."""
     number, bits, sign, place = random.randrange(86400 * system), [], 1, 0.0
     while place < total:
         if not bits:

@@ -130,7 +130,7 @@ def wanted(data, flight):
 # ---- frames, from the words of a report
 
 def moved(label, steps, rate):
-    """The label so many further, or back."""
+    """The label `steps` labels further, or back."""
     day = day_of(rate, ";" in label)
     number = (day[tuple(int(part) for part in label.replace(";", ":").split(":"))] + steps) % len(day)
     if (rate, ";" in label) not in LISTS:

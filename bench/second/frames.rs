@@ -21,7 +21,7 @@ struct Wheel {
     is_gone: bool,
 }
 
-/// The frames of these events, those that are due by a tick, with at most so many invented in a row.
+/// The frames of these events, those that are due by a tick, with at most `limit` invented in a row.
 pub fn frames(limit: u64, events: &[Event], until: u64) -> Vec<Frame> {
     let (mut frames, mut wheel) = (Vec::new(), None);
     for event in events {

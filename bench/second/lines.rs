@@ -20,7 +20,7 @@ pub enum Printed {
 }
 
 impl Base {
-    /// So many frames pass, in so many seconds.
+    /// How many frames pass, and in how many seconds.
     fn rate(self) -> (u128, u128) {
         let frames = self.count.rate() as u128;
         match self.is_pulled || self.count == Count::Drop {
@@ -29,7 +29,7 @@ impl Base {
         }
     }
 
-    /// The label that so many frames after midnight begins, around the day.
+    /// The label that begins `frames` frames after midnight, around the day.
     fn label(self, frames: u128) -> Label {
         Label::at(self.count, (frames % self.count.day() as u128) as u64)
     }

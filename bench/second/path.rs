@@ -321,7 +321,7 @@ pub fn intervals(s: &Slicing, grid: Grid, samples: &[i64], is_ended: bool) -> Ve
     intervals
 }
 
-/// A cell that lasts so many ticks.
+/// A cell that lasts `whole` ticks.
 fn write(cell: &Cell, whole: u64, ticks: u64, is_broken: bool, intervals: &mut Vec<u64>) {
     let half = (cell.length as u64 * ticks).div_ceil(2);
     let (second, is_short) = match cell.is_one {

@@ -27,7 +27,7 @@ struct Words<'a> {
 type Read<T> = Result<T, String>;
 
 impl<'a> Words<'a> {
-    /// Between so many and so many words behind the command.
+    /// Between `least` and `most` words behind the command.
     fn of(words: &'a [String], least: usize, most: usize) -> Read<Words<'a>> {
         match (least..=most).contains(&(words.len() - 1)) {
             true => Ok(Words { words, at: 0 }),

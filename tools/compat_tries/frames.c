@@ -1,4 +1,4 @@
-/* What libltc's calls for words make of so many words at random: a line each, for tools/try_compat.
+/* What libltc's calls for words make of COUNT words at random: a line each, for tools/try_compat.
  *
  *     frames COUNT SEED
  *

@@ -1,4 +1,4 @@
-/* Reads samples of 16 bits from standard input, in pieces of a length, with room for so many events a call, and writes
+/* Reads samples of 16 bits from standard input, in pieces of PIECE, with room for ROOM events a call, and writes
  * the events as they lie in memory:
  *
  *     pieces SYSTEM TOLERANCE FOLLOWS THRESHOLD FINENESS SMOOTH PACE PIECE ROOM [MOVE]

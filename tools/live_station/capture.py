@@ -43,7 +43,7 @@ class Capture:
         os.set_blocking(descriptor, False)
 
     def read(self) -> bytes | None:
-        """Whole samples of all tracks that have come, and nothing at the end; None where there are not so many."""
+        """Whole samples of all tracks that have come; nothing at the end; None if no whole sample has come."""
         if self.left == 0:
             return b""
         try:
@@ -93,7 +93,7 @@ class Streamed(Capture):
 
 
 class Played(Capture):
-    """A file at its own pace, or so many times that."""
+    """A file at its own pace, or at a multiple of it."""
 
     def __init__(
         self, name: str, form: Form, source: Input, left: int | None, pace: float, begun: bytes = b""

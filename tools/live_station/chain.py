@@ -21,7 +21,7 @@ from .loop import Loop
 HEADER, INTERVAL = 12, 4
 TOLERANCE = "rough"
 PIECE = 8_192
-# A process that takes nothing for so many seconds is given up.
+# The seconds after which a process that takes nothing is given up.
 PATIENCE = 5.0
 
 

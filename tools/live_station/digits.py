@@ -38,7 +38,7 @@ def scale_for(columns: int, lines: int) -> int:
 
 
 def big(label: str, scale: int) -> list[str]:
-    """The lines of a label, each square so many columns wide and so many half lines high."""
+    """The lines of a label, each square `scale` columns wide and `scale` half lines high."""
     squares = [" ".join(SHAPES[sign][row] for sign in label) for row in range(HIGH)]
     wide = ["".join(scale * square for square in row) for row in squares]
     high = [row for row in wide for _ in range(scale)]

@@ -53,7 +53,7 @@ class Feed:
         return len(self.kept) > MOST_KEPT and not self.is_broken
 
     def is_stuck(self, patience: float) -> bool:
-        """It takes nothing, for so many seconds."""
+        """It has taken nothing for `patience` seconds."""
         return self.is_broken and not self.is_ending or bool(self.kept) and time.monotonic() - self.moved > patience
 
     def end(self) -> None:

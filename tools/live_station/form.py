@@ -17,7 +17,7 @@ MOST_TRACKS, MOST_RATE = 64, 6_250_000
 
 @dataclass(frozen=True)
 class Form:
-    """How samples lie: so many a second, of so many tracks, of so many bits."""
+    """The format of samples: their rate, the number of tracks, and the bits of each sample."""
 
     rate: int
     tracks: int

@@ -5,7 +5,7 @@ from .system import System
 
 # Below these levels there is nothing, and little.
 SILENT, QUIET = -60.0, -40.0
-# A track that is so much louder is named.
+# A track that is this much louder is named.
 LOUDER = 12.0
 
 

@@ -6,12 +6,12 @@ from tape_report.levels import words_of
 
 from .form import Form
 
-# So long a peak stands, and so long its mark, in seconds of sound.
+# How long a peak is shown, and its mark, in seconds of sound.
 NOW, MARK = 0.3, 3.0
 FULL = 32_768
-# What is at least so high was cut off.
+# A sample of this size or more was clipped.
 CLIPPED = 32_767
-# The lowest level that is told.
+# The lowest level that is shown.
 FLOOR = -96.0
 
 

@@ -26,7 +26,7 @@ class Loop:
         return descriptor in self.selector.get_map()
 
     def wait(self, seconds: float) -> None:
-        """Calls those whose bytes have come, after so long at most."""
+        """Calls those whose bytes have come, after `seconds` at most."""
         for key, _ in self.selector.select(min(seconds, SLOWLY) if self.pushing else seconds):
             # One that came before may have closed it.
             if self.is_watched(key.fd):

@@ -20,13 +20,13 @@ from .feed import Feed
 from .form import Form
 from .loop import Loop
 
-# So often a port that is not there is tried, and so long a process may take nothing, in seconds. A port that failed
-# is there again when it has taken what came for so long.
+# How often a port that is not there is tried, and how long a process may take nothing, in seconds. A port that failed
+# is there again when it has taken what came for the third of these times.
 AGAIN, PATIENCE, SURE = 1.0, 2.0, 2.0
 
 
 def refuse(path: str) -> None:
-    """Raises where something of this name stands that is no port: it would be harmed."""
+    """Raises if a file of this name exists that is no port: it would be harmed."""
     with contextlib.suppress(FileNotFoundError):
         refuse_mode(path, os.stat(path).st_mode)
 

@@ -10,7 +10,7 @@ from .form import MOST_RATE, MOST_TRACKS
 from .page import LOOPBACK
 
 CARD_RATE = 48_000
-# A machine runs on over so many frames that are missing, and then stops.
+# How many frames may be missing while a machine runs on, before it stops; and the least height of code.
 LIMIT, THRESHOLD = 5, 250
 
 
@@ -36,9 +36,9 @@ def parser() -> argparse.ArgumentParser:
     words.add_argument(
         "--threshold", type=number_from(1, 32_767), default=THRESHOLD, help=f"the least height of code ({THRESHOLD})"
     )
-    words.add_argument("--smooth", type=number_from(1, 16), default=1, help="sums of so many samples, for hiss (1)")
+    words.add_argument("--smooth", type=number_from(1, 16), default=1, help="sums of this many samples, for hiss (1)")
     words.add_argument("--deep", action="store_true", help="a lower threshold, for dull tapes and hum")
-    words.add_argument("--pace", type=pace, default=1.0, help="plays a file so many times as fast (1)")
+    words.add_argument("--pace", type=pace, default=1.0, help="plays a file this many times as fast (1)")
     words.add_argument("--midi", metavar="DEVICE", help="sends MIDI Time Code to a raw MIDI device or a FIFO")
     words.add_argument("--page", metavar="PORT", type=number_from(1, 65_535), help="serves the display to browsers")
     words.add_argument("--bind", metavar="ADDRESS", help=f"the address of the page ({LOOPBACK})")

@@ -23,7 +23,7 @@ from .shown import HISTORY_RATE, HISTORY_SECONDS, Shown
 LOOPBACK = "127.0.0.1"
 # More readers than these are refused.
 MOST_READERS = 200
-# Messages are so far apart at least, and their readers are looked at so often, in seconds.
+# The least time between messages, and how often their readers are looked at, in seconds.
 APART, LOOKED_AT = 0.015, 0.5
 EVENTS = 8
 HTML, JSON = "text/html; charset=utf-8", "application/json"

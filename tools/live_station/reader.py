@@ -3,11 +3,11 @@ import contextlib
 import socket
 import time
 
-# A request is so long at most, and takes so many seconds at most.
+# The most bytes of a request, and the most seconds that it may take.
 MOST_ASKED, ASKING_SECONDS = 8_192, 5.0
-# One that takes nothing for so long is dropped, and so much is kept for it by the system.
+# A reader that takes nothing for these seconds is dropped; and the bytes that the system keeps for it.
 STALLED_SECONDS, KEPT = 5.0, 32_768
-# After an answer, so long is what it still sends passed over, so that the answer comes whole.
+# After an answer, what the reader still sends is passed over for these seconds, so that the answer comes whole.
 LEAVING_SECONDS = 1.0
 PIECE = 4_096
 ASKING, ANSWERED, FOLLOWING, LEAVING, GONE = range(5)

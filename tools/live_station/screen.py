@@ -28,7 +28,7 @@ class Style:
 
 
 def cut(text: str, columns: int) -> str:
-    """The text, in so many columns at most. Nothing in it moves the cursor."""
+    """The text, in at most `columns` columns. Nothing in it moves the cursor."""
     text = "".join(letter if letter.isprintable() else "?" for letter in text)
     return text if len(text) <= columns else text[: max(0, columns - 1)] + ("~" if columns else "")
 

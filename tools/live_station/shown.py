@@ -5,7 +5,7 @@ from .events import Event
 
 # What the station itself adds to the states of the code.
 WAITING, CARD_LOST, ENDED = "waiting", "card lost", "ended"
-# The speed is kept so often a second, for so many seconds.
+# How many speeds are kept a second, and for how many seconds.
 HISTORY_RATE, HISTORY_SECONDS = 2, 300
 
 

@@ -26,11 +26,11 @@ from .supply import Opened, Supply
 from .system import System
 from .terminal import Display, display
 
-# What has a time is looked after so often; the levels of all tracks, while nothing is heard, so often, in seconds.
+# How often timed work is done; and how often the levels of all tracks are shown, while nothing is heard, in seconds.
 LOOKED_AFTER, LEVELS_SECONDS = 0.1, 1.0
-# A reading that ended is begun again after so long; what was read at the end is waited for so long at most.
+# When a reading that ended is begun again; and how long what was read at the end is waited for, in seconds.
 AGAIN, END_SECONDS = 1.0, 10.0
-# What to do is told when nothing was heard for so long.
+# After these seconds without code the operator is told what to do.
 HINT_SECONDS = 1.0
 GIVES_WAY = 0.001
 BROKEN_PIPE = BY_SIGNAL + 13
@@ -90,7 +90,7 @@ class Station:
     def begin(self) -> None:
         options = self.options
         threading.excepthook = self.complain
-        # One who draws or serves gives way to the samples within so many seconds.
+        # A thread that draws or serves gives way to the samples within these seconds.
         sys.setswitchinterval(GIVES_WAY)
         if options.midi:
             told = partial(self.board.happen, events.MIDI, "")

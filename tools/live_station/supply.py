@@ -10,9 +10,9 @@ from .events import CARD, NOTE
 from .lines import Lines
 from .loop import Loop
 
-# A card that gives nothing for so long is lost, and is opened again after so long, in seconds.
+# A card that gives nothing for the first of these is lost, and is opened again after the second, in seconds.
 SILENT, AGAIN = 3.0, 1.0
-# So many lines that a program complains with are told in a minute.
+# How many lines in which a program complains are shown in a minute.
 NOTES = 10
 Opened = Callable[[], tuple[Capture, int]]
 

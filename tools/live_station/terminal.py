@@ -12,7 +12,7 @@ from .events import Event
 from .screen import Style, plain_line, rows
 from .shown import Shown
 
-# The display is drawn anew so often a second at most; and the time of day every so many seconds.
+# The display is redrawn at most this often a second; and plain output repeats the time of day after these seconds.
 REDRAWN = 25
 PLAIN_SECONDS = 1.0
 OUT = 1

@@ -97,7 +97,7 @@ def try_paths(room):
 
 
 def listened(there, seconds):
-    """What a follower gets for so long, and the messages with a label."""
+    """What a follower gets in `seconds`, and the messages with a label."""
     data, end = b"", time.monotonic() + seconds
     there.settimeout(0.2)
     while time.monotonic() < end:

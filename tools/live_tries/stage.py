@@ -21,7 +21,7 @@ SCREEN = {"TERM": "xterm", "LC_ALL": "C.UTF-8", "NO_COLOR": ""}
 
 
 def words(count, label, frames, direction="forward", rate=None):
-    """The samples of so many frames."""
+    """The samples of `count` frames."""
     return code(RATE, intervals(count, label, frames, direction, rate))
 
 

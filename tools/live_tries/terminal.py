@@ -96,7 +96,7 @@ class Terminal:
         self.size(self.handle, columns, lines)
 
     def look(self, seconds):
-        """Reads for so long, or until the program has ended."""
+        """Reads for `seconds`, or until the program has ended."""
         end = time.monotonic() + seconds
         while (left := end - time.monotonic()) > 0:
             if not select.select([self.handle], [], [], left)[0]:

@@ -2,7 +2,7 @@
 from .clips import Clip, by_form, clips_of
 from .row import Told
 
-# A tape's name there may have so many letters.
+# The most letters that a tape's name may have there.
 TAPE_LETTERS = 32
 COLUMNS = ["Name", "Tracks", "Start", "End", "Tape", "Source File", "Comments"]
 

@@ -10,19 +10,19 @@ from .sound import Sound
 from .spans import Reading, words_in
 
 SYSTEMS = (24, 25, 30)
-# Of so few intervals nothing is concluded: they are clicks.
+# From fewer intervals nothing is concluded: they are clicks.
 FEW_INTERVALS = 400
-# Hum has so many intervals a second at most.
+# The most intervals a second that hum has.
 HUM_INTERVALS = 500
-# A tape is heard well where so much of the code that is seen is heard.
+# A tape is heard well if at least this part of the code that is seen is heard.
 WELL = 0.9
-# Labels that go on over so many frames are code, and no chance.
+# From this number of frames on, labels that go on are code, and not chance.
 FRAMES_OF_CODE = 3
 # A frame has 80 intervals and one more a bit that is set, 13 of them in its sync word; a common one in all.
 CELLS, SYNC_ONES, COMMON_INTERVALS = 80, 13, 105
-# So many words tell how many intervals a frame has.
+# How many words are read to find how many intervals a frame has.
 WORDS_ASKED = 50
-# Of a sound of many tracks so many are tried by other front ends: those of which most is heard by the plain one.
+# How many of many tracks are tried by other front ends: those of which the plain one hears most.
 MOST_TRACKS_TRIED = 8
 
 

@@ -5,12 +5,12 @@ from collections import defaultdict
 from collections.abc import Sequence
 from dataclasses import dataclass
 
-# A half cell is shared out into so many places. A line is drawn through the samples of a place where there are so many
-# or more; where more than such a part of all samples is in no such place, nothing is known.
+# How many places a half cell is shared out into. A line is drawn through the samples of a place that has at least LEAST
+# of them; if more than the part RARE of all samples is in places with fewer, nothing is known.
 PLACES, LEAST, RARE = 32, 8, 0.1
-# A line says nothing of a sample that is so many deviations away from the mean place of the others.
+# A line says nothing of a sample that is more deviations than these away from the mean place of the others.
 ASIDE = 2
-# The clock of the tape is that of so many half cells, and of so many on both sides of them.
+# The clock of the tape is worked out for CLOCK half cells at a time, from these and AROUND more on both sides.
 CLOCK, AROUND = 16, 24
 # Of fewer crossings there is no mean.
 LEAST_CROSSINGS = 1000

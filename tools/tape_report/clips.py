@@ -37,7 +37,7 @@ class Clip:
 
 
 def reels_of(files: Iterable[str], most: int) -> dict[str, str]:
-    """A name for each file, of letters and digits, so many at most, no two the same."""
+    """A name for each file, of at most `most` letters and digits, no two the same."""
     reels: dict[str, str] = {}
     for file in files:
         stem = file.rsplit("/", 1)[-1].rsplit(".", 1)[0]

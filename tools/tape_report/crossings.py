@@ -6,7 +6,7 @@ from .front_ends import FrontEnd
 
 
 def sums_of(samples: Sequence[int], count: int) -> list[int]:
-    """The sums of the latest samples, so many."""
+    """The sums of the latest `count` samples, at each sample."""
     if count == 1:
         return list(samples)
     totals = list(itertools.accumulate(samples, initial=0))

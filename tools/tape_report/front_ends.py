@@ -6,14 +6,14 @@ from dataclasses import dataclass
 
 THRESHOLD = 250
 LOW_THRESHOLD, LOWEST_THRESHOLD = 50, 20
-# Sums take so many samples at this rate: at 48,000 three.
+# A sum has a sample for each 16,000 of the rate: at 48,000 three.
 RATE_OF_A_SUM = 16_000
 MOST_SUMS = 16
 # Hum and its harmonics lie below, code above.
 HIGH_PASS_HERTZ = 300
-# So many ticks has a sample, with every front end.
+# The ticks of a sample, with every front end.
 FINENESS = 16
-# The best path needs so many samples a second, for any system.
+# The least samples a second for the best path, for any system.
 PATH_RATE = 4_200
 
 

@@ -17,7 +17,7 @@ from .work import tape_read
 
 # The word with which a job begins.
 JOB = "--job"
-# A job has so many tapes at most, and each place for jobs has so many of them one after another at least.
+# The most tapes of a job; and how many jobs, at least, each place for jobs does one after another.
 MOST_OF_A_JOB, JOBS_EACH = 8, 8
 # Above this status parallel itself failed, and not its jobs.
 MOST_FAILED_JOBS = 101

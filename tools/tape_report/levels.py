@@ -7,7 +7,7 @@ from typing import IO
 
 from .sound import Sound
 
-# The level is that of so many seconds.
+# The level is measured over these seconds.
 LEVEL_SECONDS = 600
 PIECE_BLOCKS = 65_536
 DECODED_BITS = 24
@@ -105,7 +105,7 @@ def level_there(sound: Sound, track: int, seconds: int) -> Level:
 
 
 def samples_of(sound: Sound, track: int, first: int, count: int) -> array.array:
-    """So many samples of a track of a file that `tc` reads itself, from one on."""
+    """`count` samples of a track of a file that `tc` reads itself, from `first` on."""
     form = sound.wave.form if sound.wave else None
     data = sound.wave.data if sound.wave else None
     if data is None or form is None or not form.is_whole:
@@ -117,7 +117,7 @@ def samples_of(sound: Sound, track: int, first: int, count: int) -> array.array:
 
 
 def level_in(file: IO[bytes], bits: int, tracks: int, track: int, rate: int, left: int) -> Level:
-    """The level of so many blocks at most."""
+    """The level of `left` blocks at most."""
     peak, crossings, count = 0, 0, 0
     while left > 0:
         words = words_of(file.read(bits // 8 * tracks * min(PIECE_BLOCKS, left)), bits, tracks, track)

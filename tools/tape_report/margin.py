@@ -15,10 +15,10 @@ from .levels import samples_of
 from .sound import Sound
 from .spans import Reading
 
-# Two places are looked at, each of so many words: where the code begins, since the threshold has its level still to
-# find there, and further on, behind some words in which it finds it.
+# Two places are looked at, each of WORDS words: where the code begins, since the threshold still has to find its level
+# there, and further on, after WORDS_BEFORE words in which it finds it.
 WORDS, WORDS_BEFORE = 14, 3
-# In these seconds before the code the threshold finds the level of what stands there.
+# In these seconds before the code the threshold finds the level of what comes there.
 SECONDS_BEFORE = 0.2
 # A tape of fewer words is not judged.
 LEAST_WORDS = 25
@@ -52,7 +52,7 @@ def margin_of(sound: Sound, reading: Reading) -> int | None:
 
 @dataclass(frozen=True)
 class Piece:
-    """Samples from a first one on, of which so many stand before those that are judged."""
+    """`count` samples from a first one on, of which `before` come before those that are judged."""
 
     first: int
     count: int
@@ -71,7 +71,7 @@ def pieces_of(reading: Reading) -> list[Piece]:
 
 
 def margin_in(samples: Sequence[int], front: FrontEnd, half: float, before: int) -> int | None:
-    """The margin of a piece of sound with half cells of so many samples, from a sample on."""
+    """The margin of a piece of sound with half cells of `half` samples, from the sample `before` on."""
     moments = [moment for moment in crossings_of(samples, thresholds_of(samples, front)) if moment >= before]
     clean = clean_of(samples, moments, half)
     if clean is None:
@@ -95,7 +95,7 @@ def loudest(clean: Clean, noise: Sequence[float]) -> float:
 
 
 def holds(before: Sequence[int], clean: Clean, noise: Sequence[float], front: FrontEnd, times: float) -> bool:
-    """The premise holds for the clean sound with the noise so many times as loud."""
+    """The premise holds for the clean sound with the noise `times` times as loud."""
     louder = [mean + times * each for mean, each in zip(clean.samples, noise)]
     at = thresholds_of([*before, *louder], front)[len(before) :]
     delay = delay_of(clean, at, times * loudest(clean, noise))

@@ -45,7 +45,7 @@ def add_reading(words: argparse.ArgumentParser) -> None:
     words.add_argument("--limit", type=number_from(0, 255), default=2, help="frames that are bridged in a row (2)")
     words.add_argument("--all-words", action="store_true", help="words without a witness too")
     words.add_argument("--threshold", type=number_from(1, 32_767), help="the least height of code (250)")
-    words.add_argument("--smooth", type=number_from(1, 16), help="sums of so many samples, for hiss (1)")
+    words.add_argument("--smooth", type=number_from(1, 16), help="sums of this many samples, for hiss (1)")
     words.add_argument("--deep", action="store_true", help="a lower threshold, for dull tapes and hum")
     words.add_argument("--path", action="store_true", help="the best path through the sound, which is slow")
     words.add_argument("--json", action="store_true", help="a JSON object a tape, in place of the report")
@@ -73,7 +73,7 @@ def archive_parser() -> argparse.ArgumentParser:
         "--jobs",
         type=number_from(1, 4096),
         default=os.cpu_count(),
-        help="so many tapes at a time, on each host",
+        help="this many tapes at a time, on each host",
     )
     words.add_argument("--hosts", metavar="FILE", help="hosts, one a line, reached by ssh")
     words.add_argument("--resume", action="store_true", help="goes on where a run was killed")

@@ -11,9 +11,9 @@ from .front_ends import FINENESS
 from .labels import FRAMES, LABELS_A_DAY, NTSC, RATES, label_of, name_of, number_of
 from .spans import Reading, Span, Word, words_in
 
-# The first label is fixed by so many seconds of code that goes on.
+# How many seconds of code that goes on fix the first label.
 SECONDS_OF_CODE = 2
-# Code at play speed differs from nominal by so much at most.
+# By how much, at most, code at play speed differs from nominal.
 PLAY_SPEED = Fraction(1, 100)
 # The rates of which a system has two differ by 1/1001; a speed as near to one of them tells which.
 NEAR = Fraction(3, 10_000)
@@ -45,7 +45,7 @@ class Place:
         return self.reference - round(self.number * self.samples_a_second / self.rate)
 
     def label_at(self, seconds: Fraction, times: int) -> str:
-        """The label so long after the first sample, in pictures of which a frame has so many."""
+        """The label `seconds` after the first sample, in pictures of which a frame has `times`."""
         at = Fraction(self.reference, self.samples_a_second) + seconds
         number, picture = divmod(round(at * self.rate * times), times)
         label = label_of(self.count, number)

@@ -14,7 +14,7 @@ from .sound import Sound
 from .spans import Reading
 
 SPAN_ROW = "file track system span direction first last heard bridged begins ends speed gap relation".split()
-# Code has two to four crossings a cell of a frame's 80 bits; at 25 frames a second there are so many cells.
+# Code has two to four crossings a cell. A frame has 80 cells; these are the cells of a second at 25 frames.
 CELLS_A_SECOND = 80 * 25
 
 

@@ -21,7 +21,7 @@ from .spans import Reading, spans_in
 # each word is asked for a witness.
 READ, TOLERANCE, WITNESS = "ltc-rough", "rough", "firm"
 PIECE = 1 << 20
-# A decoder that ends so many seconds before the length that was said has ended early.
+# A decoder that ends at least these seconds before the length that was said has ended early.
 EARLY_SECONDS = 0.5
 Progress = Callable[[Input], None]
 
@@ -55,7 +55,7 @@ class Reader:
         return all([reader.wait() == 0 for reader in self.readers])
 
     def lines(self, number: int, last: int | None = None) -> list[str]:
-        """The lines of an output, or so many of the last ones."""
+        """The lines of an output, or the last `last` of them."""
         with open(self.outputs[number], encoding="ascii") as lines:
             return [line.rstrip("\n") for line in (lines if last is None else deque(lines, last))]
 

@@ -12,7 +12,7 @@ OPEN_TO_TC = range(0x7FFFF000, 0x80000000)
 # The same of writers that `tc` may not know: from GStreamer's to `arecord`'s.
 OPEN_SIZES = range(0x7FFF0000, 0x80000001)
 PCM, EXTENSIBLE = 1, 0xFFFE
-# No file has so many chunks; a header that says so is none.
+# No file has more chunks than this; a header that says so is no header.
 MOST_CHUNKS = 10_000
 
 

@@ -8,7 +8,7 @@ from .running import has, run, tape, want
 
 
 def video(room, name, made, rate="25", coded=("mpeg4", "pcm_s16le"), offset="0"):
-    """A video file with the code on its second sound, which begins so many seconds behind the picture."""
+    """A video file with the code on its second sound, which begins `offset` seconds behind the picture."""
     want("ffmpeg", "ffprobe")
     one = wav(os.path.join(room, "one.wav"), 48_000, [tone(len(made), 48_000)])
     two = wav(os.path.join(room, "two.wav"), 48_000, [made])

@@ -200,7 +200,7 @@ def try_early_headers(room):
 
 
 def many_tapes(room, count):
-    """A folder of so many short tapes."""
+    """A folder of `count` short tapes."""
     folder = os.path.join(room, "many")
     os.mkdir(folder)
     made = code(48_000, intervals("25", "10:00:00:00", 60))

@@ -126,7 +126,7 @@ def try_mode_and_time(room):
 
 @contextlib.contextmanager
 def small_disk(room, size):
-    """A disk of so many bytes."""
+    """A disk of `size` bytes."""
     place = os.path.join(room, "disk")
     os.mkdir(place)
     if run("mount", "-t", "tmpfs", "-o", f"size={size}", "none", place)[0] != 0:
@@ -151,7 +151,7 @@ def try_full_disk(room):
 
 
 def long_tape(room):
-    """Code, and then so much silence that its copy takes a while; the file has no such blocks on the disk."""
+    """Code, and then silence so long that its copy takes a while; the file has no such blocks on the disk."""
     path = wav(os.path.join(room, "long.wav"), 48_000, [code(48_000, intervals("25", "10:00:00:00", 60))])
     more = 32 << 20
     with open(path, "r+b") as file:

@@ -18,7 +18,7 @@ def intervals(count, label, frames, direction="forward", rate=None):
 
 
 def code(rate, ticks, lead=0, size=9000):
-    """The samples of code behind so many samples of silence: a sample in which the code changes sides lies between
+    """The samples of code behind `lead` samples of silence: a sample in which the code changes sides lies between
     them.
     """
     samples, side, tick, done = [0] * lead, 1, 0, 0
@@ -40,7 +40,7 @@ def tone(count, rate, hertz=440):
 
 
 def packed(tracks, bits):
-    """The samples of tracks, by turns, in so many bits."""
+    """The samples of tracks, by turns, in `bits` bits."""
     length = max(map(len, tracks))
     tracks = [track + [0] * (length - len(track)) for track in tracks]
     if bits == 16:

@@ -75,7 +75,7 @@ def margin_told(path, *words):
 
 
 def try_margin(room):
-    """The margin is told where every word was read, it shrinks as the noise grows, and the noise may grow so much."""
+    """The margin is reported if every word was read, it shrinks as the noise grows, and the noise may grow by it."""
     chance = random.Random(9)
     made = code(48_000, intervals("25", "10:00:00:00", 60), lead=2400)
     hiss = [chance.uniform(-1, 1) for _ in made]
@@ -211,7 +211,7 @@ def try_misread_frames(_room):
     frame = 30_720
 
     def breaks(*frames):
-        """The breaks of spans of one frame each, between two long ones: at so many frames, these labels."""
+        """The breaks of spans of one frame each, between two long ones: at each place of `frames`, its label."""
         lines, at, before = [], 100, 100
         for place, label in ((100, 100), *frames, (110, 110)):
             text = label_of("25", label)

@@ -168,7 +168,7 @@ def try_ixml(room):
 
 
 def label_and_count(out, frames):
-    """The label of the first sample and its count since midnight, both in samples at 25 frames a second or so many."""
+    """The label of the first sample and its count since midnight, both in samples at 25 frames a second or `frames`."""
     label, less, rest, count = re.search(
         r"first sample  (\S+)(?: (less|and) (\d+) samples?)?, (\d+) samples since", out
     ).groups()
