@@ -115,7 +115,7 @@ impl Label {
         }
     }
 
-    /// So many labels on, around the day.
+    /// The label `by` labels on, around the day.
     pub fn step(&self, by: i64) -> Label {
         let day = self.count.day() as i64;
         Label::at(self.count, (self.number() as i64 + by).rem_euclid(day) as u64)
@@ -155,7 +155,7 @@ impl Way {
         }
     }
 
-    /// So many labels as the tape runs.
+    /// `by` labels as the tape runs, with the sign of its direction.
     pub fn steps(self, by: i64) -> i64 {
         match self {
             Way::Forward => by,

@@ -9,7 +9,7 @@ from collections.abc import Callable, Sequence
 # Of prctl: the signal that a process gets when the thread that started it ends.
 PR_SET_PDEATHSIG = 1
 LIBC = ctypes.CDLL(None)
-# So long a process may take to end by itself, in seconds.
+# How long a process may take to end by itself, in seconds.
 PATIENCE = 0.5
 NOTHING = subprocess.DEVNULL
 PIPE = subprocess.PIPE

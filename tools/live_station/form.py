@@ -62,7 +62,7 @@ def form_in(chunk: bytes) -> Form:
 
 
 def whole(stream: IO[bytes], size: int) -> bytes:
-    """So many bytes of a stream, however it is cut."""
+    """`size` bytes of a stream, however it is cut."""
     data = b""
     while len(data) < size:
         piece = stream.read(size - len(data))

@@ -13,7 +13,7 @@ from .events import Event
 
 # The word by which the first line of a log is known.
 MARK = b" begins "
-# So many lines are written in a minute at most; what is more is counted.
+# How many lines are written in a minute at most; what is more is counted.
 LINES_A_MINUTE = 30
 MOST_WAITING = 1_000
 END_SECONDS = 2.0

@@ -3,7 +3,7 @@ import selectors
 from collections.abc import Callable
 
 Call = Callable[[], None]
-# So often those are tried again who take bytes slowly, in seconds.
+# How often those are tried again who take bytes slowly, in seconds.
 SLOWLY = 0.004
 
 

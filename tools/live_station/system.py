@@ -3,7 +3,7 @@ from tape_report.choice import SYSTEMS
 
 from .lines import Word
 
-# So many ends of a second that say otherwise change what was found.
+# How many ends of a second that say otherwise change what was found.
 AGAINST = 2
 # The system under which the label of each word is one.
 WIDEST = 30

@@ -16,7 +16,7 @@ use crate::numbers::PLACES;
 use crate::point::{Back, Point, point_before};
 use std::marker::Model;
 
-/// So many steps are kept of which a path can be followed back.
+/// How many steps are kept, through which a path can be followed back.
 pub const KEPT: usize = 4_096;
 
 /// The marks of the latest steps, in a ring.

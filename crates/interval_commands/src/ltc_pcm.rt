@@ -43,7 +43,7 @@ pub fn made_sound_is_lawful()
     what_is_printed_is_in_order();
 }
 
-/// So many equal samples are put at once, at most.
+/// How many equal samples are put at once, at most.
 const RUN: usize = 512;
 
 /// Their bytes.

@@ -316,7 +316,7 @@ impl<B: Behind> Along<B> {
     }
 
     /// Works on the whole intervals at the front of bytes that begin between two intervals, as long as
-    /// the widest one fits in what is left. So many intervals are within the limit.
+    /// the widest one fits in what is left. The limit has room for an interval for each byte.
     #[inline(always)]
     fn run<K: Sink>(
         &mut self,

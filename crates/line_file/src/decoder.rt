@@ -17,7 +17,7 @@ use std::marker::Model;
 use tc_io::put_bytes;
 use vitc_reader::FieldAnswer;
 
-/// So many fields are read, at most.
+/// How many fields are read, at most.
 pub const MAX_FIELDS: u32 = 100_000_000;
 
 /// The most bytes of a field: 20 lines of 89 runs.
@@ -32,9 +32,9 @@ type Part = ArrayVec<u8, FIELD_ROOM>;
 /// What bytes complete.
 #[derive(Clone, Copy)]
 pub enum Taken {
-    /// So many bytes, and no field.
+    /// The number of bytes taken; no field ends with them.
     Nothing(usize),
-    /// So many bytes, and with the last of them a field, which has this answer.
+    /// The number of bytes taken, and the answer of the field that ends with the last of them.
     Field { count: usize, answer: FieldAnswer },
     /// The first fault of the bytes so far.
     Fault(LineFileFault),

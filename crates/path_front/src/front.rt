@@ -16,7 +16,7 @@ use step_grid::{Grid, MAX_TICKS};
 #[derive(Drop)]
 pub struct Front {
     judging: Judging,
-    /// So many ticks has a step.
+    /// The ticks of a step.
     ticks: u32,
     /// Those intervals of the latest cell that are not given yet.
     tiles: Tiles,

@@ -15,7 +15,7 @@ use crate::measured::Measured;
 use arrayvec::ArrayVec;
 use std::marker::Model;
 
-/// So many cells before and behind are looked at.
+/// How many cells before and after a cell are looked at.
 pub const NEIGHBOURS: usize = 8;
 
 /// A cell, and whether the stretch of code breaks in front of it.

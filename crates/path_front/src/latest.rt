@@ -4,7 +4,7 @@ ghost use Rattle.path_front.specs.Latest.{part, sound_ago, sum_of, squares_of, L
 
 use std::marker::Model;
 
-/// So many steps of the sound are kept: what is decided began at most some 2,200 steps ago.
+/// How many steps of the sound are kept: what is decided began at most some 2,200 steps ago.
 pub const KEPT: usize = 4_096;
 
 /// The sound of the latest steps, in a ring.

@@ -20,7 +20,7 @@ pub struct Half {
 /// What the gate and the intervals need of a cell.
 #[derive(Clone, Copy, Debug, PartialEq, Eq)]
 pub struct Measured {
-    /// So many steps it ends behind the one before it, from 2 to 120.
+    /// How many steps it ends after the one before it, from 2 to 120.
     pub span: u32,
     /// In steps, from 4 to 96.
     pub length: u32,

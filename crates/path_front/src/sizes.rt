@@ -52,7 +52,7 @@ impl Sizes {
         self.ring[place] = size;
     }
 
-    /// So many times the mean size, where there was a sound.
+    /// `times` times the mean size, if there was a sound.
     pub(crate) fn mean_times(&self, times: u32) -> u32
         requires some { 0 < self.now.count }
         requires times { times ≤ 3 }

@@ -28,7 +28,7 @@ pub(crate) struct Steps {
     clip: Sizes,
     hold: Hold,
     group: Group,
-    /// So many steps of the latest sample, or of the latest mean, are not given yet.
+    /// How many steps of the latest sample, or of the latest mean, are not given yet.
     left: u32,
     latest: Sounds,
     levels: Sizes,

@@ -10,7 +10,7 @@ use crate::samples::Samples;
 use crate::side::Side;
 use std::simd::prelude::*;
 
-/// So many samples are looked at at once.
+/// How many samples are looked at at once.
 const LANES: usize = 32;
 
 /// The samples from the least to the most.

@@ -50,7 +50,7 @@ pub fn moments_by_hand()
     ensures last { IsShown R24 23 R25 23 958 }
 {}
 
-/// So many frames and milliseconds are asked about, at most: more than a day has at any rate.
+/// The most frames and milliseconds that may be asked about: more than a day has at any rate.
 pub fn the_limits_hold_a_day()
     ensures frames { MAX_FRAMES ≡ 4194304 }
     ensures milliseconds { MAX_MILLISECONDS ≡ 268435456 }

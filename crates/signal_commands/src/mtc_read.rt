@@ -24,7 +24,7 @@ use mtc_reader::{MtcEvent, MtcReader, mtc_end_text, push_mtc_text};
 use tc_command::{Engine, Stop, push_line, work};
 use tc_io::{Sink, Source};
 
-/// So many bytes are read, at most.
+/// How many bytes are read, at most.
 pub const MAX_BYTES: u64 = 1_000_000_000;
 
 /// Works `mtc-read`: a line for each label of MIDI Time Code in MIDI bytes, and the last line.

@@ -20,7 +20,7 @@ use tc_command::{Engine, Gathered, InputFault, Stop, work};
 use tc_io::{Sink, Source};
 use tc_job::Slicing;
 
-/// So many samples are taken, at most.
+/// How many samples are taken, at most.
 pub const MAX_SAMPLES: u64 = 1_000_000_000;
 
 /// Works `pcm-ltc`: an interval file of the distances between the crossings of samples.

@@ -31,10 +31,10 @@ use tc_job::WaveSlicing;
 use wave_file::laws::{a_file_is_read_as_it_was_written, samples_are_few_and_behind_a_format};
 use wave_file::{Asked, MAX_SAMPLES, Taken, WaveDecoder, WaveFormat};
 
-/// So many ticks has a sample.
+/// The ticks of a sample.
 const TICKS: u32 = 16;
 
-/// So many samples are decoded at once, at most.
+/// How many samples are decoded at once, at most.
 const ROOM: usize = 2_048;
 
 /// Works `wav-ltc`: an interval file of the distances between the crossings of a track.

@@ -27,10 +27,10 @@ use tc_job::laws::a_sound_file_has_steps_from_its_least_rate_on;
 use wave_file::laws::samples_are_few_and_behind_a_format;
 use wave_file::{Asked, Taken, WaveDecoder, WaveFormat};
 
-/// So many samples of a track are heard, at most: 33 days at 48,000 samples a second.
+/// How many samples of a track are heard, at most: 33 days at 48,000 samples a second.
 pub const MAX_PATH_SAMPLES: u64 = 137_438_953_472;
 
-/// So many samples are decoded at once, at most.
+/// How many samples are decoded at once, at most.
 const ROOM: usize = 2_048;
 
 /// Works `wav-ltc .. path`: an interval file of the cells of the best path through a track.

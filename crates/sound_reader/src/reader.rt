@@ -12,7 +12,7 @@ use limits::{MAX_INTERVAL, MAX_INTERVALS};
 use pcm_front::{Intervals, Slicer};
 use std::marker::Model;
 
-/// So many samples are taken at most: 2 to the 50th, seven hundred years of 48,000 a second.
+/// How many samples are taken, at most: 2 to the 50th, seven hundred years of 48,000 a second.
 pub const MAX_SAMPLES: u64 = 1_125_899_906_842_624;
 
 /// Reads the words of a sound, in either direction, some samples at a time.

@@ -12,7 +12,7 @@ pub enum Relation {
     Count,
     /// The tape runs the other way behind the gap.
     Turn,
-    /// So many labels lie from the one to the other, as the tape runs: 1 is the next label, and a
+    /// How many labels lie from the one to the other, as the tape runs: 1 is the next label, and a
     /// negative number leads back. Half a day is taken towards higher labels.
     Step(i32),
 }

@@ -56,7 +56,7 @@ pub struct Notes {
 /// How far data go.
 #[derive(Clone, Copy)]
 pub enum Extent {
-    /// So many bytes.
+    /// This number of bytes.
     Announced(u64),
     /// To the end of the input: their writer did not know.
     Open,

@@ -29,11 +29,11 @@ type Part = ArrayVec<u8, PIECE_ROOM>;
 /// What bytes complete.
 #[derive(Clone, Copy)]
 pub enum Taken {
-    /// So many bytes, and no sample.
+    /// The number of bytes taken; no sample ends with them.
     Nothing(usize),
-    /// So many bytes, behind which the data begin.
+    /// The number of bytes taken, behind which the data begin.
     Begin { count: usize, format: WaveFormat },
-    /// So many bytes, and with the last of them a sample of the track.
+    /// The number of bytes taken, and the sample of the track that ends with the last of them.
     Sample { count: usize, sample: i16 },
     /// The first fault of the bytes so far.
     Fault(WaveFault),
@@ -276,7 +276,7 @@ fn may_end(stage: &Stage) -> bool
     }
 }
 
-/// So many bytes, and no more than there is room for.
+/// `length` bytes, but no more than there is room for.
 fn within(room: u64, length: usize) -> usize
     requires room { 1 ≤ room }
     requires length { 1 ≤ length }

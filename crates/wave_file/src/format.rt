@@ -36,7 +36,7 @@ pub struct Asked {
     pub track: u32,
     /// A file of fewer samples a second is refused. From 1 on: of 1 none is.
     pub least_rate: u32,
-    /// So many samples of the track are read, at most.
+    /// How many samples of the track are read, at most.
     pub most_samples: u64,
 }
 
