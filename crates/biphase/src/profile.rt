@@ -2,8 +2,8 @@
 ghost use Rattle.std.specs.Prelude.{◌≡◌, ◌*◌, ◌<◌, ◌^◌, ◌↔◌, IsTrue};
 ghost use Rattle.biphase.specs.Profile.{equal_of, unequal_of, IsAtLeast, IsAtMost, IsWithin};
 
-// Each interval asks which one it is. The compiler asks for the first variant first, where another
-// one's arm stands first in a `match`.
+// Each interval looks up which one it is. The compiler tests the first variant first, unless another
+// one's arm comes first in a `match`.
 /// How much the cells of a recording may differ.
 #[derive(Clone, Copy, Debug, PartialEq, Eq)]
 pub enum Profile {

@@ -10,7 +10,7 @@ use crate::lengths::EARLY;
 use crate::numbers::Numbers;
 use std::marker::Model;
 
-/// The numbers of the latest 97 steps, in a ring: the best scores of what stands before a cell that
+/// The numbers of the latest 97 steps, in a ring: the best scores of what comes before a cell that
 /// begins there.
 #[derive(Drop)]
 pub(crate) struct Rows {

@@ -13,7 +13,7 @@ use crate::cell::{Sign, Way};
 use crate::lengths::{JUMP, length_at};
 use crate::numbers::{Numbers, PLACES};
 
-/// The best way to begin: the score of what stands before, less the costs, and the way.
+/// The best way to begin: the score of what comes before, less the costs, and the way.
 #[derive(Clone, Copy, Debug, PartialEq, Eq)]
 pub(crate) struct Start {
     pub(crate) number: i64,
@@ -103,7 +103,7 @@ impl Start {
     }
 }
 
-/// The best way to begin a cell of one length behind the latest step, where the cell before has to end
+/// The best way to begin a cell of one length behind the latest step, if the cell before has to end
 /// with this sign.
 #[inline(always)]
 pub(crate) fn best_start(ends: &Numbers, best: i64, level: u32, place: usize, sign: Sign) -> Start

@@ -37,7 +37,7 @@ pub fn chase<S: Source, K: Sink, N: Sink>(
     notes: &mut N,
 ) -> Status
     // What was pulled, what was written, and the note are those of the status. A trace that was written keeps its
-    // lock. Whatever the status, what was written is a front of the trace where the whole input is a script, and else
+    // lock. Whatever the status, what was written is a front of the trace if the whole input is a script, and else
     // nothing.
     ensures answer { (e : Exchange) × IsPulled (S.left source.old) (S.left source.new) e
         × Appends (K.written out.old) (K.written out.new) e.written
@@ -50,12 +50,12 @@ pub fn chase<S: Source, K: Sink, N: Sink>(
     ensures no_memory { result ≡ Status.Memory → out.new ≡ out.old }
     ensures unread { result ≡ Status.Memory → IsUnreadOrWhole S.ends source.old source.new }
 
-    // A read fault and a write fault come only where a count of faults rose, and the end of the input is seen once.
+    // A read fault and a write fault come only if a count of faults rose, and the end of the input is seen once.
     ensures source { SourceCause result (S.faults source.old) (S.faults source.new) }
     ensures once { ChaseSeesOneEnd result (S.ends source.old) (S.ends source.new) }
     ensures out { OutCause result (K.faults out.old) (K.faults out.new) }
 
-    // Where no count of faults rises, the whole input leaves one status, want of memory aside.
+    // If no count of faults rises, the whole input leaves one status, lack of memory aside.
     ensures status { (input : List ℕ) → S.left source.old ≡ Some input
         → ¬ Rose (S.faults source.old) (S.faults source.new) → ¬ Rose (K.faults out.old) (K.faults out.new)
         → (result ≡ chase_status_on label.now input) ⊎ (result ≡ Status.Memory) }
@@ -111,7 +111,7 @@ fn judge(alloc: Global, script: &[u8], count: Count) -> Result<Script, ChaseStop
     }
 }
 
-/// Pulls a whole script into memory, which is asked for before the first pull. At most a byte more is pulled than
+/// Pulls a whole script into memory, which is allocated before the first pull. At most a byte more is pulled than
 /// a script may have.
 fn gather<S: Source>(alloc: Global, source: &mut S) -> Result<Vec<u8>, ChaseStop>
     ensures whole { IfOk result (λ script. Consumes (S.left source.old) (S.left source.new) script.items

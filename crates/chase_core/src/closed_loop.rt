@@ -44,7 +44,7 @@ impl ClosedLoop {
         }
     }
 
-    /// Where the transport stands, in subframes.
+    /// The position of the transport, in subframes.
     pub fn position(&self) -> u32
         ensures value { result ≡ self.now.position }
         ensures day { IsOnTheDay self.now }

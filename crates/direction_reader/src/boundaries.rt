@@ -8,7 +8,7 @@ use std::marker::Model;
 pub const BOUNDARIES: usize = 81;
 
 /// The latest 81 ticks that it was given, the oldest first, with zeros for those before the first. They
-/// stand in a ring of 256 places, so that a byte which wraps is its next place, and nothing tests for its end.
+/// are in a ring of 256 places, so that a byte which wraps is its next place, and nothing tests for its end.
 #[derive(Drop)]
 pub struct Boundaries {
     ring: [u64; 256],

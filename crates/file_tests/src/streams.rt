@@ -17,7 +17,7 @@ enum Answer {
     Nothing,
     /// One byte.
     One,
-    /// All that was asked for.
+    /// All bytes that there was room for.
     All,
     /// The error of the operating system with this number.
     Fault(i32),
@@ -25,7 +25,7 @@ enum Answer {
     Kind(ErrorKind),
 }
 
-/// A reader or a writer that answers as it is told, one answer a call, and from the fourth call on
+/// A reader or a writer with given answers, one a call, and from the fourth call on
 /// with no byte. A byte that is read is the number of the call, from 1.
 #[derive(Drop)]
 struct Told {
@@ -71,8 +71,8 @@ impl Write for Told {
     }
 }
 
-/// A sink that takes at most `most` bytes of a piece, of which one push fails, and which notes what
-/// it was asked.
+/// A sink that takes at most `most` bytes of a piece, of which one push fails, and which notes
+/// how it was called.
 #[derive(Drop)]
 struct Noting {
     pushes: u64,

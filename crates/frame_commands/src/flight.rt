@@ -42,7 +42,7 @@ pub(crate) struct FlightTo<R: Hearing, T: FrameSink> {
 impl<R: Hearing, T: FrameSink> FlightTo<R, T> {
     /// Takes an interval of `x` ticks, and answers what it brought; for one that brought nothing and with which no
     /// frame is due, nothing. Nearly all are so.
-    // Whether a frame is due at the end of the interval is asked first, while that tick is at hand: 3 of 64
+    // Whether a frame is due at the end of the interval is tested first, while that tick is at hand: 3 of 64
     // instructions an interval in `ltc-fly`.
     #[inline(always)]
     fn hear(&mut self, x: u32) -> Option<R::Brought>
@@ -172,7 +172,7 @@ impl<R: Hearing, T: FrameSink> Behind for FlightTo<R, T> {
         self.sink.is_spent()
     }
 
-    /// The frames of the words that waited, and then what stands last.
+    /// The frames of the words that waited, and then what comes last.
     fn finish<K: Sink>(&mut self, out: &mut K) -> Result<(), Stop> {
         R::what_is_told_is_heard();
         let ticks = self.reader.ticks();

@@ -43,7 +43,7 @@ pub(crate) trait FrameSink: Drop {
     fn flight(choice: Self::Choice) -> Flight
         ensures { result ≡ flight choice };
 
-    /// Writes what stands first.
+    /// Writes what comes first.
     fn begin<K: Sink>(
         choice: Self::Choice,
         header: &IntervalHeader,

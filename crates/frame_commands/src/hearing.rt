@@ -1,4 +1,4 @@
-//! What hears the words of a recording: a reader of all words, or one that asks each for a witness. Read next:
+//! What hears the words of a recording: a reader of all words, or one that needs a witness for each. Read next:
 //! `direction_reader/src/reader.rt` and `direction_reader/src/firm_reader.rt`.
 ghost use Rattle.std.specs.Prelude.{◌≡◌, ℕ, ◌^◌, ◌<◌, ◌≤◌, ◌+◌, List, [], ◌∷◌, ◌++◌, All, IsTrue, length};
 ghost use Rattle.limits.specs.declared.recording.TheConstants.{MAX_INTERVAL, MAX_INTERVALS};
@@ -25,7 +25,7 @@ pub(crate) trait Hearing: Drop {
     /// What an interval brought.
     type Brought: Copy;
 
-    /// Whether words are asked for a witness.
+    /// Whether words need a witness.
     ghost witness: { Witness };
 
     /// What it is, in numbers.
@@ -68,7 +68,7 @@ pub(crate) trait Hearing: Drop {
         ensures in_turn { (from : ℕ) → may self.now brought from
             → DoNotFall from (word_ticks words.new) (Hearer.until (hearer self.now)) };
 
-    /// The words that are told at the end of the recording.
+    /// The words that are given at the end of the recording.
     fn last_words(&self) -> Words
         requires { Hearer.tick (hearer self.now) < 2 ^ 60 }
         ensures told { (own : List Event) × (result ≡ words_heard own)
@@ -80,7 +80,7 @@ pub(crate) trait Hearing: Drop {
         ensures in_turn { DoNotFall (Hearer.until (hearer self.now)) (word_ticks result)
             (Hearer.tick (hearer self.now)) };
 
-    /// Up to which tick all is told.
+    /// Up to which tick all words are given.
     fn until(&self) -> u64
         ensures value { result ≡ Hearer.until (hearer self.now) }
         ensures below { result < 2 ^ 60 };
@@ -102,7 +102,7 @@ pub(crate) trait Hearing: Drop {
         ensures value { result ≡ Hearer.tick (hearer self.now) }
         ensures below { result < 2 ^ 60 };
 
-    /// What it has told are the events that are heard yet.
+    /// The events that it has given are those that are heard so far.
     fn what_is_told_is_heard()
         ensures { (reader : Self) (intervals : List ℕ) (events : List Event)
             → Hearer.stands (hearer reader) intervals events

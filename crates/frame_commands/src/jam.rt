@@ -42,7 +42,7 @@ pub fn jam_sync<S: Source, K: Sink>(jam: Jam, source: &mut S, out: &mut K) -> Re
     }
 }
 
-/// What is told of `ltc-jam` holds: what is written is a clean recording.
+/// What is claimed of `ltc-jam` holds: what is written is a clean recording.
 fn a_copy_is_told(jam: Jam)
     ensures { IsTold (told_ltc_jam jam) }
 {
@@ -51,7 +51,7 @@ fn a_copy_is_told(jam: Jam)
     let _cell = jam.cell();
 }
 
-/// What is told of `ltc-jam` is lawful.
+/// What is claimed of `ltc-jam` is lawful.
 pub fn copies_are_lawful()
     ensures { (jam : Jamming) → IsLawful (told_ltc_jam jam) }
 {
@@ -61,7 +61,7 @@ pub fn copies_are_lawful()
     what_is_heard_is_in_order();
 }
 
-/// A clean recording of frames, in the cells that it was told.
+/// A clean recording of frames, in the cells that were given.
 #[derive(Drop)]
 pub(crate) struct CleanRecording {
     jam: Jam,

@@ -45,8 +45,8 @@ use ltc_jam::laws::{
 use quarter_frame::laws::messages_of_a_front_come_first;
 use tape_spans::laws::final_lines_come_first;
 
-/// What is heard of some intervals there is, and it comes first, whatever intervals follow: where words are
-/// asked for a witness, and where not.
+/// What is heard of some intervals there is, and it comes first, whatever intervals follow: if words
+/// need a witness, and if not.
 pub fn what_is_heard_is_in_order()
     ensures { (witness : Witness) → HeardInOrder witness }
 {
@@ -83,7 +83,7 @@ pub fn what_is_heard_tells_the_tape()
     each_word_that_is_told_has_its_witness();
 }
 
-/// What a command prints of frames there is, and it is in order, where what it makes of frames is.
+/// What a command prints of frames there is, and it is in order, if what it makes of frames is.
 pub fn what_is_made_of_frames_is_in_order()
     ensures { (flight : Flight) (made : FrameText) → AddsInOrder made → PrintsInOrder (along_frames flight made) }
 {
@@ -121,8 +121,8 @@ pub fn what_is_jammed_is_read()
 }
 
 /// What `ltc-chase` writes of a whole input is the trace of a chase over its frames, or over the first of
-/// them, where there are more than its limit; and each loss in it has its cause: no code where its frame is
-/// gone or has another count, and out of the window where it does not join or the transport slipped far.
+/// them, if there are more than its limit; and each loss in it has its cause: no code if its frame is
+/// gone or has another count, and out of the window if it does not join or the transport slipped far.
 pub fn what_is_chased_follows_the_code()
     ensures { (c : Chasing) → IsChasing c → ChasesTheInput c }
 {

@@ -51,7 +51,7 @@ pub fn chase_code<S: Source, K: Sink>(
     }
 }
 
-/// What is told of `ltc-chase` holds: what is written is the trace of a chase that follows the frames.
+/// What is claimed of `ltc-chase` holds: what is written is the trace of a chase that follows the frames.
 fn a_trace_is_told(run: ChaseRun)
     ensures { IsTold (told_ltc_chase run) }
 {
@@ -60,7 +60,7 @@ fn a_trace_is_told(run: ChaseRun)
     let _label = run.label();
 }
 
-/// What is told of `ltc-chase` is lawful.
+/// What is claimed of `ltc-chase` is lawful.
 pub fn traces_are_lawful()
     ensures { (run : Chasing) → IsLawful (told_ltc_chase run) }
 {

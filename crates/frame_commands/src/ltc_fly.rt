@@ -39,7 +39,7 @@ pub fn fly_along<S: Source, K: Sink>(
     }
 }
 
-/// What is told of `ltc-fly` holds: the frames are the words of the file, and invented ones that are marked and
+/// What is claimed of `ltc-fly` holds: the frames are the words of the file, and invented ones that are marked and
 /// bounded.
 fn flown_frames_are_told()
     ensures { (flight : Flight) → IsTold (told_ltc_fly flight) }
@@ -49,7 +49,7 @@ fn flown_frames_are_told()
     what_is_heard_tells_the_tape();
 }
 
-/// What is told of `ltc-fly` is lawful.
+/// What is claimed of `ltc-fly` is lawful.
 pub fn flown_frames_are_lawful()
     ensures { (flight : Flight) → IsLawful (told_ltc_fly flight) }
 {

@@ -41,7 +41,7 @@ pub fn send_time_code<S: Source, K: Sink>(
     }
 }
 
-/// What is told of `ltc-mtc` holds: what is sent are the words of the file, and invented frames that are bounded.
+/// What is claimed of `ltc-mtc` holds: what is sent are the words of the file, and bounded invented frames.
 fn messages_are_told()
     ensures { (flight : Flight) → IsTold (told_ltc_mtc flight) }
 {
@@ -50,7 +50,7 @@ fn messages_are_told()
     what_is_heard_tells_the_tape();
 }
 
-/// What is told of `ltc-mtc` is lawful.
+/// What is claimed of `ltc-mtc` is lawful.
 pub fn messages_are_lawful()
     ensures { (flight : Flight) → IsLawful (told_ltc_mtc flight) }
 {

@@ -53,7 +53,7 @@ pub fn tell_spans<S: Source, K: Sink>(
     }
 }
 
-/// What is told of `ltc-spans` holds: the spans share out the frames of the file.
+/// What is claimed of `ltc-spans` holds: the spans share out the frames of the file.
 fn spans_are_told()
     ensures { (flight : Flight) → IsTold (told_ltc_spans flight) }
 {
@@ -68,7 +68,7 @@ fn spans_are_told()
     spans_come_in_order();
 }
 
-/// What is told of `ltc-spans` is lawful.
+/// What is claimed of `ltc-spans` is lawful.
 pub fn spans_are_lawful()
     ensures { (flight : Flight) → IsLawful (told_ltc_spans flight) }
 {
@@ -127,7 +127,7 @@ impl SpanLines {
         }
     }
 
-    /// Writes what a frame tells: the span that ended, and the gap behind it.
+    /// Writes what a frame completes: the span that ended, and the gap behind it.
     fn push_cut<K: Sink>(&self, cut: Cut, out: &mut K) -> Result<(), Stop>
         requires { FitsCut cut }
         ensures all { OnOk result

@@ -49,7 +49,7 @@ impl Words {
         }
     }
 
-    /// The words of what is told where each word is asked for a witness. What comes third is no word.
+    /// The words among the events, when each word needs a witness. The third event is no word.
     pub(crate) fn told(told: FirmEvents) -> Words
         requires { IfSome told.third IsNoWord }
         ensures { result ≡ words_heard (told_events (firm_list told)) }
@@ -83,7 +83,7 @@ impl Words {
     }
 }
 
-/// The word that the flywheel hears of what is told, if it is one.
+/// The word that the flywheel hears of a firm event, if it is one.
 fn told_in(told: Option<FirmEvent>) -> Option<HeardWord>
     ensures { option_to_list result ≡ words_heard (told_events (firm_listed told)) }
 {

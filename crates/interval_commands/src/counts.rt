@@ -1,4 +1,4 @@
-//! How many events of each kind were told where each word is asked for a witness, and their lines. Read next:
+//! How many events of each kind were printed when each word needs a witness, and their lines. Read next:
 //! `report_text/src/event.rt`.
 ghost use Rattle.std.specs.Prelude.{◌≡◌, ◌<◌, ◌≤◌, ◌+◌, ◌*◌, ◌^◌, OnOk, OnErr, IfErr, IfSome};
 ghost use Rattle.std.specs.Io.KnownBytes.{Appends};
@@ -19,7 +19,7 @@ use report_text::{firm_event_text, read_end_text};
 use tc_command::{Stop, push_line};
 use tc_io::Sink;
 
-/// How many events of each kind were told.
+/// How many events of each kind were printed.
 #[derive(Clone, Copy)]
 pub(crate) struct Counts {
     pub words: u64,
@@ -39,7 +39,7 @@ impl Counts {
         }
     }
 
-    /// Counts what is told, and pushes its lines.
+    /// Counts the events, and pushes their lines.
     pub(crate) fn push<K: Sink>(
         &mut self,
         told: &FirmEvents,
@@ -62,7 +62,7 @@ impl Counts {
         self.push_one(&told.third, header, out)
     }
 
-    /// Counts an event and pushes its line, where there is one.
+    /// Counts an event and pushes its line, if there is one.
     fn push_one<K: Sink>(
         &mut self,
         event: &Option<FirmEvent>,

@@ -1,5 +1,5 @@
-//! The engine of `ltc-rough firm`: what is told of the intervals where each word is asked for a witness
-//! becomes lines. Read next: `direction_reader/src/firm_reader.rt`, and with what it tells `counts`.
+//! The engine of `ltc-rough firm`: the events of the intervals, when each word needs a witness,
+//! become lines. Read next: `direction_reader/src/firm_reader.rt`, and with the events `counts`.
 ghost use Rattle.tc_command.specs.Told.{IsLawful, IsTold, WorksAsTold};
 ghost use Rattle.biphase.specs.declared.profile.Profile.{Profile};
 ghost use Rattle.interval_commands.specs.FirmTape.{told_ltc_firm};
@@ -24,7 +24,7 @@ use tc_command::{Stop, push_line};
 use tc_io::{Sink, Source};
 
 /// Works `ltc-rough firm`, and under the other tolerances its like: a line for each event of a recording,
-/// where each word is asked for a witness, and the last line.
+/// when each word needs a witness, and the last line.
 pub fn read_firmly<S: Source, K: Sink>(
     profile: Profile,
     source: &mut S,
@@ -37,7 +37,7 @@ pub fn read_firmly<S: Source, K: Sink>(
     work_along::<FirmReport, S, K>(profile, source, out)
 }
 
-/// What is told of such a report holds: it holds the lines of the events of its file under witnesses, and these
+/// What is claimed of such a report holds: it holds the lines of the events of its file under witnesses, and these
 /// are those that tell the tape, but for words that are alone.
 fn a_firm_report_is_told()
     ensures { (profile : Profile) → IsTold (told_ltc_firm profile) }
@@ -53,7 +53,7 @@ fn a_firm_report_is_told()
     events_mirror_the_tape();
 }
 
-/// What is told of such a report is lawful.
+/// What is claimed of such a report is lawful.
 pub fn firm_reports_are_lawful()
     ensures { (profile : Profile) → IsLawful (told_ltc_firm profile) }
 {
@@ -118,7 +118,7 @@ impl Behind for FirmReport {
         false
     }
 
-    /// A word that waits stands at the edge of its stretch.
+    /// A word that waits is at the edge of its stretch.
     fn finish<K: Sink>(&mut self, out: &mut K) -> Result<(), Stop> {
         let mut counts = self.counts;
         counts.push(&self.reader.finish(), &self.header, out)?;

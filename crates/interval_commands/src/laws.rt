@@ -45,8 +45,8 @@ pub fn what_is_printed_is_in_order()
     told_events_come_first();
 }
 
-/// Where whole words are played one after another in one direction, a witness changes nothing: the report that
-/// asks for witnesses is the one that asks for none.
+/// If whole words are played one after another in one direction, a witness changes nothing: the report that
+/// needs witnesses is the one that needs none.
 pub fn words_one_after_another_are_reported_alike()
     ensures { (profile : Profile) (header : IntervalHeader) (direction : Direction) (cells : List Cell)
         (words : List Played) (written : List ℕ) → IsChain profile cells
@@ -59,7 +59,7 @@ pub fn words_one_after_another_are_reported_alike()
     played_words_are_read();
 }
 
-/// Each input that `ltc-convert` takes whole is a file, and it writes the file of the asked version with
+/// Each input that `ltc-convert` takes whole is a file, and it writes the file of the given version with
 /// the system, the tick rate and the intervals of it. So a file comes out in its own version as it was.
 pub fn converting_keeps_the_recording()
     ensures output { (version : FileVersion) (bytes written : List ℕ) → AreBytes bytes

@@ -1,8 +1,8 @@
 //! The commands that read an interval file and write of its intervals: the reports of `ltc-read`,
-//! `ltc-worn` and `ltc-rough`, also where each word is asked for a witness, the other version of
+//! `ltc-worn` and `ltc-rough`, also when each word needs a witness, the other version of
 //! `ltc-convert`, and the sound of `ltc-pcm`.
 //!
-//! What is the same for each command that reads an interval file stands in `interval_engine`: here is what
+//! What is the same for each command that reads an interval file is in `interval_engine`: here is what
 //! each does with the header and the intervals.
 //!
 //! What this crate promises, for all sources and sinks:

@@ -1,4 +1,4 @@
-//! The engine of `ltc-convert`: each interval is spelled in the asked version. Read next:
+//! The engine of `ltc-convert`: each interval is spelled in the given version. Read next:
 //! `interval_file/src/piece.rt`, and then `tc_command/src/gathered.rt`.
 ghost use Rattle.interval_commands.specs.LtcConvert.{conversion};
 ghost use Rattle.tc_command.specs.Told.{IsLawful, IsTold, WorksAsTold};
@@ -26,7 +26,7 @@ pub fn convert_recording<S: Source, K: Sink>(
     work_along::<Conversion, S, K>(version, source, out)
 }
 
-/// What is told of `ltc-convert` holds: what is pulled is a file, and what is written is its file of the asked
+/// What is claimed of `ltc-convert` holds: what is pulled is a file, and what is written is its file of the given
 /// version.
 fn a_conversion_is_told()
     ensures { (version : FileVersion) → IsTold (told_ltc_convert version) }
@@ -35,7 +35,7 @@ fn a_conversion_is_told()
     converting_keeps_the_recording();
 }
 
-/// What is told of `ltc-convert` is lawful.
+/// What is claimed of `ltc-convert` is lawful.
 pub fn conversions_are_lawful()
     ensures { (version : FileVersion) → IsLawful (told_ltc_convert version) }
 {

@@ -35,7 +35,7 @@ pub fn sound_recording<S: Source, K: Sink>(
     work_along::<MadeSound, S, K>(level, source, out)
 }
 
-/// What is told of `ltc-pcm` is lawful.
+/// What is claimed of `ltc-pcm` is lawful.
 pub fn made_sound_is_lawful()
     ensures { (level : ℕ) → IsLawful (told_ltc_pcm level) }
 {

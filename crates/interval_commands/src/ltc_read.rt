@@ -51,7 +51,7 @@ pub fn read_recording<S: Source, K: Sink>(
     work_along::<Report, S, K>(profile, source, out)
 }
 
-/// What is told of the reports holds: they hold the lines of the events of their file, and these tell the tape.
+/// What is claimed of the reports holds: they hold the lines of the events of their file, and these tell the tape.
 fn a_report_is_told()
     ensures { (profile : Profile) → IsTold (told_ltc_read profile) }
 {
@@ -62,7 +62,7 @@ fn a_report_is_told()
     events_mirror_the_tape();
 }
 
-/// What is told of the reports is lawful.
+/// What is claimed of the reports is lawful.
 pub fn reports_are_lawful()
     ensures { (profile : Profile) → IsLawful (told_ltc_read profile) }
 {
@@ -157,7 +157,7 @@ impl Report {
         self.push_one(&events.second, out)
     }
 
-    /// Counts an event and pushes its line, where there is one.
+    /// Counts an event and pushes its line, if there is one.
     fn push_one<K: Sink>(&mut self, event: &Option<Event>, out: &mut K) -> Result<(), Stop>
         requires line { IfSome event.now FitsLine }
         requires header { IsTickRate self.old.header.tick_rate }

@@ -59,12 +59,12 @@ pub trait Behind: Drop {
     /// Nothing is gathered to be pushed.
     ghost is_settled: { Self → Type 0 };
 
-    /// What it wrote is the part of the intervals, where nothing is gathered.
+    /// What it wrote is the part of the intervals, if nothing is gathered.
     ghost stands_well: { (behind : Self) (choice : Self.Choice) (header : IntervalHeader) (intervals written : List ℕ)
         → is_settled behind → stands behind choice header intervals written
         → Printing.part (printing choice) header intervals written };
 
-    /// Takes the header, and writes what stands first.
+    /// Takes the header, and writes what comes first.
     fn begin<K: Sink>(
         choice: Self::Choice,
         header: IntervalHeader,
@@ -118,7 +118,7 @@ pub trait Behind: Drop {
         ensures going { result ≡ false → (choice : Self.Choice) (header : IntervalHeader) (intervals written : List ℕ)
             → stands self.now choice header intervals written → ¬ Printing.spent (printing choice) header intervals };
 
-    /// Takes the end of the recording, and writes what stands last.
+    /// Takes the end of the recording, and writes what comes last.
     fn finish<K: Sink>(&mut self, out: &mut K) -> Result<(), Stop>
         requires fits { (count : ℕ) × (count ≤ MAX_INTERVALS) × fits self.old count }
         requires settled { is_settled self.old }
@@ -156,7 +156,7 @@ struct Along<B: Behind> {
 }
 
 impl<B: Behind> Along<B> {
-    /// A command with this choice that stands before the first byte.
+    /// A command with this choice, before the first byte.
     fn new(choice: B::Choice) -> Along<B>
         ensures choice { result.choice ≡ choice }
         ensures going { IsGoing B.fits result.decoder result.behind result.intervals }
@@ -171,7 +171,7 @@ impl<B: Behind> Along<B> {
         }
     }
 
-    /// Works on the whole intervals that stand first, or else on one byte, and answers on how many bytes.
+    /// Works on the whole intervals that come first, or else on one byte, and answers on how many bytes.
     fn advance<K: Sink>(&mut self, bytes: &[u8], out: &mut K) -> Result<usize, Stop>
         requires going { IsGoing B.fits self.old.decoder self.old.behind self.old.intervals }
         requires some { 0 < length bytes.now }
@@ -236,7 +236,7 @@ impl<B: Behind> Along<B> {
         }
     }
 
-    /// Why the command stops, once what is gathered was pushed: the part of the bytes pulled stands. A
+    /// Why the command stops, once what is gathered was pushed: the part of the bytes pulled is written. A
     /// limit of the command's own comes before a fault of the file and before the file's limit.
     fn stopped<K: Sink>(&mut self, stop: Stop, out: &mut K) -> Stop
         ensures choice { self.new.choice ≡ self.old.choice }
@@ -284,7 +284,7 @@ impl<B: Behind> Along<B> {
     }
 
     /// Works on the whole intervals at the front of bytes, and answers how many bytes they have: none
-    /// where the header or an interval is half taken, or the limit is near. The last few bytes are left.
+    /// if the header or an interval is half taken, or the limit is near. The last few bytes are left.
     // Out of line, so that what is kept is near a pointer of its own and not far up the stack of a long function:
     // the code of the loop over intervals is a tenth shorter so. An interval takes one or two instructions more,
     // and `ltc-fly` a sixth less time.

@@ -35,7 +35,7 @@ pub fn answer_labels<S: Source, K: Sink>(
     work(&mut LabelAnswers::new(run), source, out)
 }
 
-/// What is told of `labels` holds.
+/// What is claimed of `labels` holds.
 fn labels_are_told()
     ensures { (run : LabelRunning) → IsTold (told_labels run) }
 {
@@ -44,7 +44,7 @@ fn labels_are_told()
     number_and_label_are_inverse();
 }
 
-/// What is told of `labels` is lawful.
+/// What is claimed of `labels` is lawful.
 pub fn labels_are_lawful()
     ensures { (run : LabelRunning) → IsLawful (told_labels run) }
 {

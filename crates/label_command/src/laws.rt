@@ -35,8 +35,8 @@ pub fn a_text_has_its_lines()
     ensures one { (text : List ℕ) (a b : List (List ℕ)) → HasLines text a → HasLines text b → a ≡ b }
 {}
 
-/// Lines are answered one by one: all of them where each says a label, those before the first that says none, whose
-/// place is told, and as many as are read.
+/// Lines are answered one by one: all of them if each says a label, those before the first that says none, whose
+/// place is given, and as many as are read.
 pub fn lines_are_answered_one_by_one()
     ensures whole { (run : LabelRunning) (text : List ℕ) (lines : List (List ℕ)) (labels : List Address)
         → HasLines text lines → length lines ≤ MAX_LINES → SayLabels run.base lines labels
@@ -74,7 +74,7 @@ pub fn answers_are_answered_again()
 }
 
 /// A label lies as many frames after midnight as its number says. By `to`, it comes back from another count: from the
-/// label that begins at the same moment, and, where the frames of that count run as fast or faster, from the one behind
+/// label that begins at the same moment, and, if the frames of that count run as fast or faster, from the one behind
 /// that which is shown there, if that began before.
 pub fn a_label_comes_back_from_a_faster_count()
     ensures midnight { (label : Address) → IsLabel label → label_from_midnight label.count (number_of label) ≡ label }

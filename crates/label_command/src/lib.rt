@@ -4,8 +4,8 @@
 //! - `labels` writes for each line of its input what is answered to the label that it says, up to the first line that
 //!   says none (`specs/Labels.antt`, over `label_text/specs/LabelText.antt` and `label_lines/specs/Answer.antt`). It is
 //!   a command as any other (clause of `labels_are_lawful`).
-//! - So a text is its lines (`specs/TextLines.antt`, `HasLines`): where each says a label, the output is the answer of
-//!   each, a line a line (`AnswersTheLines`), and else the place of the first that says none is told (`laws`).
+//! - So a text is its lines (`specs/TextLines.antt`, `HasLines`): if each says a label, the output is the answer of
+//!   each, a line a line (`AnswersTheLines`), and else the place of the first that says none is given (`laws`).
 //! - What is answered in one way is answered again in another as a third way answers the text
 //!   (`specs/AnsweredAgain.antt`, `AreTogether`), and a label comes back from a count as fast or faster
 //!   (`specs/ThereAndBack.antt`; `laws`).

@@ -25,7 +25,7 @@ pub enum Way {
 }
 
 impl Way {
-    /// Whether the label from which ways are told, where there is one, is of the count.
+    /// Whether the label from which ways are counted, if there is one, is of the count.
     pub fn is_of(&self, count: Count) -> bool
         ensures { IsTrue result ↔ IsWayOf count self.now }
     {

@@ -3,7 +3,7 @@
 //! A newline ends a line. A line has 64 bytes at most, and a text `MAX_LINES` lines; after the last newline there may
 //! be a line that the end of the text ends.
 //!
-//! What this crate promises: `LabelReader` tells of each byte what it completes: nothing, the label of a line, the
+//! What this crate promises: `LabelReader` says of each byte what it completes: nothing, the label of a line, the
 //! first fault by its line and column, or that there is one line too many (`specs/LabelText.antt`, `said_by`); and what
 //! the end of the text says of the line before it (`at_end`). Bytes are read in their order (`laws`).
 //!

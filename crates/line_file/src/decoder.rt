@@ -42,7 +42,7 @@ pub enum Taken {
     Limit,
 }
 
-/// What stands at the front of bytes.
+/// What bytes begin with.
 #[derive(Clone, Copy)]
 pub(crate) enum Piece {
     /// The header.
@@ -77,7 +77,7 @@ impl Model for LineDecoder {
 }
 
 impl LineDecoder {
-    /// A decoder that stands before the first byte.
+    /// A decoder before the first byte.
     pub fn new() -> LineDecoder
         ensures value { result ≡ no_decoding }
         ensures stands { StandsFor result [] [] }
@@ -135,7 +135,7 @@ impl LineDecoder {
         }
     }
 
-    /// The end of the input: the fault where it may not end here.
+    /// The end of the input: the fault if it may not end here.
     pub fn finish(&self) -> Result<(), LineFileFault>
         ensures ok { OnOk result ((bytes : List ℕ) (answers : List FieldAnswer) → StandsFor self.now bytes answers
             → end_fault_of bytes ≡ None) }
@@ -189,7 +189,7 @@ fn take_piece(
     piece
 }
 
-/// What stands at the front of the bytes that are kept and of these. They are kept too where that is less than a
+/// What the bytes that are kept and these begin with. They are kept too if that is less than a
 /// whole piece.
 fn piece_behind(
     header: Option<LineHeader>,

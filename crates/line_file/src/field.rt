@@ -21,7 +21,7 @@ pub const MAX_LINES: u8 = 20;
 /// The most runs of a line.
 pub const MAX_RUNS: u8 = 89;
 
-/// What stands at the front of bytes behind the header.
+/// What bytes behind the header begin with.
 #[derive(Clone, Copy)]
 pub(crate) enum FoundField {
     /// A field, with the answer of its lines and the number of its bytes.
@@ -32,7 +32,7 @@ pub(crate) enum FoundField {
     Fault(LineFileFault),
 }
 
-/// The field with which bytes begin, the first of which stands at this place of the file.
+/// The field with which bytes begin, the first of which is at this place of the file.
 pub(crate) fn field_in(header: &LineHeader, place: u64, bytes: &[u8]) -> FoundField
     requires header { IsHeader header.now }
     requires place { place < 2 ^ 62 }
@@ -81,7 +81,7 @@ fn stands_again(bytes: &[u8], at: usize, last: usize) -> bool
     last > 0 && bytes[at..].starts_with(&bytes[at - last..at])
 }
 
-/// The line with which bytes begin. Where it is whole the reader takes it.
+/// The line with which bytes begin. If it is whole the reader takes it.
 fn line_in(place: u64, bytes: &[u8], reader: &mut FieldReader) -> Found
     requires place { place < 2 ^ 63 }
     ensures front { front_of result (line_of bytes.now) ≡ line_at place bytes.now }

@@ -96,7 +96,7 @@ impl Front {
     }
 
     /// Takes the intervals of the next cell that is judged, when those of the one before it have been
-    /// given, and tells whether there is one.
+    /// given, and returns whether there is one.
     fn fill(&mut self) -> bool
         requires { self.old.tiles ≡ [] }
         ensures stands { (samples : List ℤ) (given : List ℕ) → FrontStandsFor self.old samples given
@@ -113,7 +113,7 @@ impl Front {
         true
     }
 
-    /// The next interval, and none where all have been given that the samples bring.
+    /// The next interval, and none if all that the samples bring have been given.
     pub fn next(&mut self) -> Option<u32>
         ensures gives { (samples : List ℤ) (given : List ℕ) → FrontStandsFor self.old samples given
             → GivesInterval self.new samples given result }

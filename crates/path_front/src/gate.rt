@@ -175,7 +175,7 @@ impl Gate {
         }
     }
 
-    /// Takes the next cell, and judges the one behind which eight stand now.
+    /// Takes the next cell, and judges the one that eight cells follow now.
     pub fn feed(&mut self, cell: Measured) -> Option<Judged>
         requires cell { IsMeasured cell }
         requires room { length self.old.ahead ≤ 8 }

@@ -25,7 +25,7 @@ pub struct Measured {
     /// In steps, from 4 to 96.
     pub length: u32,
     pub bit: Bit,
-    /// It does not go on where the cell before it ended.
+    /// It does not begin where the cell before it ended.
     pub jumps: bool,
     pub first: Half,
     pub second: Half,

@@ -1,6 +1,6 @@
 //! Slicing sound: the intervals between the crossings of a threshold.
 //!
-//! A recording of linear time code as sound is a list of samples of 16 bits. Where it goes over from
+//! A recording of linear time code as sound is a list of samples of 16 bits. When it goes over from
 //! the high side of a threshold to the low one, or back, it has a crossing; the distances of
 //! neighbouring crossings are the intervals of the recording. With a fineness of one they are counted
 //! in whole samples. A finer slicer places each crossing on the straight line from sample to sample,
@@ -20,7 +20,7 @@
 //! - `pieces` writes a distance as intervals of a length and a rest (`specs/Distance.antt`, `pieces_in`).
 //! - `Slicer::intervals_of_samples` and `intervals_of_bytes` give the intervals at a `Pace`: of a distance
 //!   that has ended, or, as it passes, each whole piece as soon as no crossing can end it any more
-//!   (`specs/Pace.antt`, `intervals_at`). Joined again the pieces are the distances, and where none is
+//!   (`specs/Pace.antt`, `intervals_at`). Joined again the pieces are the distances, and if none is
 //!   longer than a piece the intervals are the same at both (`laws`).
 //! - Moments rise, from crossing to crossing the ticks differ from those of whole samples by less than
 //!   a sample, and runs of samples are sliced into their lengths (`laws`).

@@ -102,7 +102,7 @@ fn lanes_at<S: Samples>(samples: &S, at: usize) -> i16x32
     i16x32::from_array(lanes)
 }
 
-/// A bit for each sample, which is set where it lies outside a band.
+/// A bit for each sample, which is set if it is outside a band.
 fn outside(band: Band, lanes: i16x32) -> u64
     requires long { length lanes ≡ LANES }
     requires fits { AllByRecursion (FitsSigned w16) lanes }

@@ -117,7 +117,7 @@ impl Slicer {
     }
 
     /// The ticks that have passed, at the latest sample, since the moment from which the next distance
-    /// runs. They are asked for only where pieces of it stand before it ends.
+    /// runs. They are needed only if pieces of it are written before it ends.
     #[inline(always)]
     pub(crate) fn passed_at(&self, pace: Pace) -> u64
         ensures { result ≡ passed_as pace (passed_of self.now) }

@@ -50,14 +50,14 @@ pub fn each_signal_makes_a_command()
     what_bytes_show_stays();
 }
 
-/// What is told of `pcm-ltc .. path` is lawful.
+/// What is claimed of `pcm-ltc .. path` is lawful.
 pub fn paths_are_lawful()
     ensures { (path : SlicesPath) → IsLawful (told_pcm_path path) }
 {
     each_signal_makes_a_command();
 }
 
-/// What is told of `pcm-ltc` is lawful.
+/// What is claimed of `pcm-ltc` is lawful.
 pub fn sliced_sound_is_lawful()
     ensures { (slicing : Slices) → IsLawful (told_pcm_ltc slicing) }
 {

@@ -1,12 +1,12 @@
 //! The commands that read what is no interval file: samples of sound (`pcm-ltc`), sound files (`wav-ltc`),
 //! MIDI bytes (`mtc-read`), the lines of vertical interval time code (`vitc-read`) and the rows of a picture that
-//! they stand in (`luma-vitc`).
+//! that they are in (`luma-vitc`).
 //!
 //! What this crate promises, for all sources and sinks:
 //! - `pcm-ltc` writes the interval file of the distances between the crossings of the samples
 //!   (`specs/PcmLtc.antt`), `wav-ltc` the same of a track of a sound file, whose first interval runs from
 //!   the first sample (`specs/WavLtc.antt`), and with `path` both that of the cells of the best path through the
-//! sound (`specs/PcmPath.antt`, `specs/WavPath.antt`), the first two in pieces as they pass where the words say
+//! sound (`specs/PcmPath.antt`, `specs/WavPath.antt`), the first two in pieces as they pass if the words say
 //! `live`,
 //!   `mtc-read` a line for each label in the bytes (`specs/MtcRead.antt`), and
 //!   `vitc-read` a line for each field of a line file (`specs/VitcRead.antt`).

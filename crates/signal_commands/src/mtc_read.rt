@@ -36,7 +36,7 @@ pub fn read_midi<S: Source, K: Sink>(source: &mut S, out: &mut K) -> Result<(), 
     work(&mut MtcReport::new(), source, out)
 }
 
-/// What is told of `mtc-read` holds: what was sent is what is read, and nothing else is.
+/// What is claimed of `mtc-read` holds: what was sent is what is read, and nothing else is.
 fn midi_is_told()
     ensures { IsTold told_mtc_read }
 {
@@ -48,7 +48,7 @@ fn midi_is_told()
     messages_carry_the_events();
 }
 
-/// What is told of `mtc-read` is lawful.
+/// What is claimed of `mtc-read` is lawful.
 pub fn midi_is_lawful()
     ensures { IsLawful told_mtc_read }
 {
@@ -78,7 +78,7 @@ impl MtcReport {
         }
     }
 
-    /// Takes bytes up to the one with which an event is complete, and all that may be taken where none is. It
+    /// Takes bytes up to the one with which an event is complete, and all that may be taken if none is. It
     /// answers how many these are, and the event.
     fn read(&mut self, bytes: &[u8]) -> (usize, Option<MtcEvent>)
         requires some { 0 < length bytes.now }

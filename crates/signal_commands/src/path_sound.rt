@@ -24,7 +24,7 @@ pub(crate) struct PathSound {
 }
 
 impl PathSound {
-    /// Before the first sample. The header stands already.
+    /// Before the first sample. The header is already written.
     pub(crate) fn new(path: &PathSlicing) -> PathSound
         ensures path { result.path ≡ path.now }
         ensures going { IsGoing result }

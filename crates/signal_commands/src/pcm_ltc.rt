@@ -36,7 +36,7 @@ pub fn slice_sound<S: Source, K: Sink>(
     work(&mut SlicedSound::new(slicing), source, out)
 }
 
-/// What is told of `pcm-ltc` holds: the intervals tell the crossings of all samples that there are.
+/// What is claimed of `pcm-ltc` holds: the intervals give the crossings of all samples that there are.
 fn a_sliced_sound_is_told(slicing: &Slicing)
     ensures { IsTold (told_pcm_ltc slicing.now) }
 {
@@ -53,13 +53,13 @@ struct SlicedSound {
     slicer: Slicer,
     /// Whole samples so far.
     samples: u64,
-    /// The first byte of a sample, where a pull ended behind it.
+    /// The first byte of a sample, if a pull ended behind it.
     half: Option<u8>,
     gathered: Gathered,
 }
 
 impl SlicedSound {
-    /// Before the first sample. The header stands already.
+    /// Before the first sample. The header is already written.
     fn new(slicing: &Slicing) -> SlicedSound
         ensures choice { result.slicing ≡ slicing.now }
         ensures going { IsGoing result }

@@ -36,7 +36,7 @@ pub fn hear_path<S: Source, K: Sink>(
     work(&mut PcmSound::new(path), source, out)
 }
 
-/// What is told of `pcm-ltc .. path` holds: the intervals last as long as the steps of the samples.
+/// What is claimed of `pcm-ltc .. path` holds: the intervals last as long as the steps of the samples.
 fn a_path_is_told(path: &PathSlicing)
     ensures { IsTold (told_pcm_path path.now) }
 {
@@ -53,7 +53,7 @@ struct PcmSound {
     sound: PathSound,
     /// Whole samples so far.
     samples: u64,
-    /// The first byte of a sample, where a pull ended behind it.
+    /// The first byte of a sample, if a pull ended behind it.
     half: Option<u8>,
 }
 
@@ -92,7 +92,7 @@ impl PcmSound {
         self.sound.hear(LittleEndian::read_i16(&pair), out)
     }
 
-    /// The same, where one more may come.
+    /// The same, if one more may come.
     fn hear_within<K: Sink>(&mut self, pair: [u8; 2], out: &mut K) -> Result<(), Stop>
         requires going { IsGoing self.old }
         ensures going { OnOk result (IsGoing self.new) }

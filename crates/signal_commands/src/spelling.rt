@@ -57,7 +57,7 @@ fn spell_whole<K: Sink>(
     Ok(())
 }
 
-/// Spells the rest of a distance, where one ended.
+/// Spells the rest of a distance, if one ended.
 #[inline(always)]
 fn spell_rest<K: Sink>(gathered: &mut Gathered, rest: Option<u32>, out: &mut K) -> Result<(), Stop>
     requires { IfSome rest (λ rest. IsInterval rest) }

@@ -30,7 +30,7 @@ pub fn read_fields<S: Source, K: Sink>(source: &mut S, out: &mut K) -> Result<()
     work(&mut FieldReport::new(), source, out)
 }
 
-/// What is told of `vitc-read` holds: each field has its answer, which says whose lines its lines are.
+/// What is claimed of `vitc-read` holds: each field has its answer, which says whose lines its lines are.
 fn fields_are_told()
     ensures { IsTold told_vitc_read }
 {
@@ -41,7 +41,7 @@ fn fields_are_told()
     what_is_read_whole_is_a_file();
 }
 
-/// What is told of `vitc-read` is lawful.
+/// What is claimed of `vitc-read` is lawful.
 pub fn fields_are_lawful()
     ensures { IsLawful told_vitc_read }
 {

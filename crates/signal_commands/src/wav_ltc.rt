@@ -50,7 +50,7 @@ pub fn slice_track<S: Source, K: Sink>(
     work(&mut SlicedTrack::new(slicing), source, out)
 }
 
-/// What is told of `wav-ltc` holds: a sound file that was made is read as it was made, and the intervals tell the
+/// What is claimed of `wav-ltc` holds: a sound file that was made is read as it was made, and the intervals give the
 /// crossings of its track.
 fn a_sliced_track_is_told(slicing: &WaveSlicing)
     ensures { IsTold (told_wav_ltc slicing.now) }
@@ -61,7 +61,7 @@ fn a_sliced_track_is_told(slicing: &WaveSlicing)
     let _track = slicing.track();
 }
 
-/// What is told of `wav-ltc` is lawful.
+/// What is claimed of `wav-ltc` is lawful.
 pub fn sliced_tracks_are_lawful()
     ensures { (slicing : SlicesWave) → IsLawful (told_wav_ltc slicing) }
 {

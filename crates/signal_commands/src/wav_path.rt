@@ -135,7 +135,7 @@ impl TrackSound {
         }
     }
 
-    /// The sound where the data begin.
+    /// The sound at the place where the data begin.
     fn begun(&self, format: &WaveFormat) -> PathSound
         requires taken { IsTakenFor self.now.decoder.asked format.now }
         requires asked { self.now.decoder.asked ≡ asked_for_path self.now.path }

@@ -120,7 +120,7 @@ pub fn the_spans_of_a_track_are_told()
     the_rate_of_a_format_is_judged();
 }
 
-/// One span. Where the labels of the words count on, and each word lasts less than one and a half of the
+/// One span. If the labels of the words count on, and each word lasts less than one and a half of the
 /// one before it, the spans of these words are one: from the first word to the last, all of them heard and
 /// none bridged.
 pub fn words_that_count_on_are_one_span()
@@ -134,7 +134,7 @@ pub fn words_that_count_on_are_one_span()
 }
 
 /// `pcm-ltc`, and then `ltc-read`, `ltc-worn`, `ltc-rough` or `ltc-spans`: of samples with a margin for a
-/// tape, the second run writes the report of its words, or their spans, and nothing else. Where the
+/// tape, the second run writes the report of its words, or their spans, and nothing else. If the
 /// labels count on, it is one span.
 pub fn the_words_of_a_sound_come_out_of_two_runs()
     ensures report { (profile : Profile) (s : Slices) (tape : List Cell) (words : List Played) (sound text : List ℕ)

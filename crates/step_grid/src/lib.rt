@@ -7,7 +7,7 @@
 //! What this crate promises: the limits have the values that `laws` spells, and `specs/Grid.antt` says which
 //! grids are meant (`IsGrid`) and how many steps some samples make (`AreStepsOf`).
 //!
-//! Read `grid`, and `specs/Grid.antt` beside it. path_front, tc_job and tc_words stand on it. Nothing here is
+//! Read `grid`, and `specs/Grid.antt` beside it. path_front, tc_job and tc_words use it. Nothing here is
 //! computed.
 #![tactic(auto)]
 

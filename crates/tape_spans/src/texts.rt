@@ -74,7 +74,7 @@ fn ticks_text(span: &Span, speed: u128) -> Text
     line
 }
 
-/// The mean speed in thousandths of nominal, rounded down; 0 where the span lasts no tick.
+/// The mean speed in thousandths of nominal, rounded down; 0 if the span lasts no tick.
 fn mean_speed(span: &Span, tick_rate: u32, system: System) -> u128
     requires { FitsSpan span.now }
     ensures value { result ≡ mean_speed tick_rate system span.now }

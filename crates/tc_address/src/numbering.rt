@@ -41,7 +41,7 @@ pub fn day_subframes(count: Count) -> u32
     SUBFRAMES * day_labels(count)
 }
 
-/// How many labels of the count stand before the label in its day.
+/// How many labels of the count come before the label in its day.
 #[tactic(auto, using(crate::proofs::OneNumber::number_of_place, crate::proofs::OneNumber::get_number_of))]
 pub fn number(label: &Label) -> u32
     ensures before { result ≡ number_of label.now }

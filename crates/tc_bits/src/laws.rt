@@ -17,7 +17,7 @@ pub fn a_row_is_its_sum()
     ensures only { OnlySumHolds }
 {}
 
-/// In a table's places fields are spelled exactly where the digits say them, and their numbers fit.
+/// In a table's places fields are spelled exactly if the digits say them, and their numbers fit.
 pub fn fields_are_exact()
     ensures { AreExact }
 {}
@@ -29,7 +29,7 @@ pub fn eight_groups_are_the_user_bits()
         + group 5 user * 2 ^ 16 + group 6 user * 2 ^ 20 + group 7 user * 2 ^ 24 + group 8 user * 2 ^ 28 }
 {}
 
-/// Digits say one address at most, and they say one exactly where they have no fault.
+/// Digits say one address at most, and they say one exactly if they have no fault.
 pub fn digits_are_exact()
     ensures one { (system : System) (raw : RawFields) (a b : FieldValues) → Says system raw a → Says system raw b
         → a ≡ b }

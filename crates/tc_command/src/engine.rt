@@ -34,7 +34,7 @@ pub trait Engine {
     ghost budget: { Self → ℕ };
 
     /// Bytes that it was given are good and within the command's own limit, and what it wrote is their
-    /// part of the output, where nothing is gathered.
+    /// part of the output, if nothing is gathered.
     ghost stands_well: { (engine : Self) (bytes written : List ℕ) → is_settled engine → stands engine bytes written
         → Shows (meaning (choice engine)) good bytes × Meaning.part (meaning (choice engine)) bytes written };
 
@@ -74,7 +74,7 @@ pub trait Engine {
         ensures cause { HasOutCause (K.faults out.old) (K.faults out.new) result }
         ensures no_pull { result ≡ Err Stop.ReadFault → ⊥ };
 
-    /// Works on the end of the input, and writes what stands last.
+    /// Works on the end of the input, and writes what comes last.
     fn finish<K: Sink>(&mut self, out: &mut K) -> Result<(), Stop>
         requires going { is_going self.old }
         requires settled { is_settled self.old }

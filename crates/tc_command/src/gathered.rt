@@ -28,7 +28,7 @@ impl Gathered {
         }
     }
 
-    /// Puts bytes at the end. Where they do not fit, what was gathered is pushed first.
+    /// Puts bytes at the end. If they do not fit, what was gathered is pushed first.
     #[inline(always)]
     pub fn put<K: Sink>(&mut self, bytes: &[u8], out: &mut K) -> Result<(), Stop>
         requires { length bytes.now ≤ 4096 }

@@ -7,11 +7,11 @@
 //! What this crate promises, for all sources and sinks:
 //! - What a command takes and writes is its `Meaning` (`specs/Meaning.antt`), and a run of it has come to
 //!   its end or was stopped, with exactly what was due (`specs/Ran.antt`, over `specs/Stops.antt`).
-//! - It stops by a fault of the source or of the sink only where its count rose (`specs/Causes.antt`).
+//! - It stops by a fault of the source or of the sink only if its count rose (`specs/Causes.antt`).
 //! - It sees the end of its input once, and pulls nothing after it (`specs/Ends.antt`).
 //! - The note is the one line of how it ended (`specs/Notes.antt`).
-//! - All that is told of a command is its `Told`: its meaning, its promise, and what belongs to them. Its function
-//!   has one clause, `WorksAsTold`: the run was worked so, and what is told holds (`specs/Told.antt`, over
+//! - All that is claimed of a command is its `Told`: its meaning, its promise, and what belongs to them. Its function
+//!   has one clause, `WorksAsTold`: the run was worked so, and what is claimed holds (`specs/Told.antt`, over
 //!   `specs/Worked.antt`).
 //! - What holds of every command is `IsCommand` (`specs/Command.antt`): what is written comes first, there
 //!   is one output of an input, and what bytes show stays. From it follow the status of a whole input

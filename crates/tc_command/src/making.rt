@@ -21,7 +21,7 @@ pub trait Maker {
     /// How many pieces that is, at most.
     ghost pieces: { Self → ℕ };
 
-    /// Puts the next piece into an empty room, and tells whether there was one.
+    /// Puts the next piece into an empty room, and returns whether there was one.
     fn give(&mut self, room: &mut Piece) -> bool
         requires { room.old.items ≡ [] }
         ensures given { rest self.old ≡ room.new.items ++ rest self.new }

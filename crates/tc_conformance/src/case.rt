@@ -20,9 +20,9 @@ pub struct Case {
     pub status: u8,
     pub note: Vec<u8>,
     pub output: Vec<u8>,
-    /// How many bytes a pull gives where each push fails in turn.
+    /// How many bytes a pull gives when each push fails in turn.
     pub pieces: Vec<usize>,
-    /// What stands of the output before each push of that run.
+    /// How much of the output is written before each push of that run.
     pub pushes: Vec<usize>,
 }
 

@@ -6,7 +6,7 @@ use std::alloc::{AllocError, Global};
 use std::{fs, io};
 
 /// The bytes of a cell: `-` for none, `=TEXT`, `@FILE` or `@FILE:LENGTH`, `tc WORDS | WORDS` for what these
-/// commands write, or else bytes in hexadecimal with repetitions, as `f7ff 0000*24`. Nothing where it says none.
+/// commands write, or else bytes in hexadecimal with repetitions, as `f7ff 0000*24`. Nothing if it says none.
 pub fn bytes_of(rt: &HostRuntime, runner: &mut Runner, cell: &str) -> io::Result<Option<Vec<u8>>> {
     let alloc = rt.alloc();
     if cell == "-" {

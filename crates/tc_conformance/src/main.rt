@@ -1,9 +1,9 @@
-//! Conformance: runs the cases of a table, and compares what stands with what has to stand.
+//! Conformance: runs the cases of a table, and compares what is written with what has to be written.
 //!
 //! A case is a row of `data/cases.tsv`: the words of a command, its input, and the status, note and output that are
 //! known from outside (`conformance/README.md` says from where). Each is run as a whole, in pieces of six sizes, with
 //! each pull and each push failing in turn, with outputs and notes that are full at each length, and with inputs
-//! that end early. `data/wrong.tsv` has cases with a wrong expectation, each of which has to be told as wrong.
+//! that end early. `data/wrong.tsv` has cases with a wrong expectation, each of which has to be found wrong.
 //!
 //! Read `case`, `sweeps` and then `cell`. The program prints a line for each case, and a last line of counts for
 //! each table. It has no contracts of its own: what is proved is that it is safe and ends.

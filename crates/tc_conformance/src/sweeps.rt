@@ -27,7 +27,7 @@ const WRITE_NOTE: &[u8] = b"tc: write fault\n";
 /// How many bytes a pull gives, in the runs that are compared with the whole.
 const PIECES: [usize; 6] = [1, 3, 4, 5, 4095, 4096];
 
-/// How many bytes a pull gives where each pull fails in turn.
+/// How many bytes a pull gives when each pull fails in turn.
 const PIECE: usize = 13;
 
 /// The most pulls, pushes and lengths that are tried in a case.
@@ -78,7 +78,7 @@ fn difference(ended: &Ended, status: u8, note: &[u8], output: &[u8]) -> Option<&
     }
 }
 
-/// The same, where any front of the output may stand.
+/// The same, if any front of the output may be written.
 fn difference_of_front(
     ended: &Ended,
     status: u8,
@@ -125,8 +125,8 @@ fn behind(runner: &mut Runner, case: &Case, length: usize) -> Result<Ended, Allo
     })
 }
 
-/// A front of the output stands where a pull fails, unless the bytes before it decide the end already. However
-/// these bytes came, the same stands.
+/// A front of the output is written if a pull fails, unless the bytes before it decide the end already. However
+/// these bytes came, the same is written.
 fn where_pulls_fail(runner: &mut Runner, case: &Case) -> Verdict {
     if case.is_unread {
         return Ok(None);
@@ -157,7 +157,7 @@ fn where_pulls_fail(runner: &mut Runner, case: &Case) -> Verdict {
     Ok(None)
 }
 
-/// A front of the output stands, a longer one for each push, until there are no more pushes.
+/// A front of the output is written, a longer one for each push, until there are no more pushes.
 fn where_pushes_fail(runner: &mut Runner, case: &Case) -> Verdict {
     let mut longest = None;
     for push in 1..=MOST {
@@ -181,7 +181,7 @@ fn where_pushes_fail(runner: &mut Runner, case: &Case) -> Verdict {
     Ok(None)
 }
 
-/// What stands before each push, where the row says it.
+/// What is written before each push, if the row says it.
 fn at_named_pushes(runner: &mut Runner, case: &Case) -> Verdict {
     for (before, length) in case.pushes.iter().enumerate() {
         let ended = runner.run(&Trial {
@@ -254,7 +254,7 @@ fn where_notes_are_full(runner: &mut Runner, case: &Case) -> Verdict {
 }
 
 /// A long interval file may end behind its header and behind each of its first intervals. At another end its command
-/// writes what it writes where a pull fails behind the same bytes.
+/// writes what it writes if a pull fails behind the same bytes.
 fn at_early_ends(runner: &mut Runner, case: &Case) -> Verdict {
     if case.status != 0 || case.input.len() < WITH_ENDS || !case.input.starts_with(b"LTCI") {
         return Ok(None);

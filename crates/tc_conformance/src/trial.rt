@@ -1,4 +1,4 @@
-//! One run of the program, over a source and sinks that fail where they are told to. Read next: `sweeps`.
+//! One run of the program, over a source and sinks that fail at given calls. Read next: `sweeps`.
 use std::alloc::{AllocError, Global};
 use tc_io::{MemorySink, MemorySource};
 use tc_top::run;

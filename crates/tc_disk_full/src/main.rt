@@ -8,7 +8,7 @@ use std::process::ExitCode;
 /// Each write to it fails, as on a full disk.
 const FULL: &str = "/dev/full";
 
-/// The exit number where it can't be opened: no run ends with it.
+/// The exit number if it can't be opened: no run ends with it.
 const NOT_OPENED: u8 = 1;
 
 fn main(rt: HostRuntime) -> ExitCode {

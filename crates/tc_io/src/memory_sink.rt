@@ -72,7 +72,7 @@ impl Sink for MemorySink {
         ensures bytes { WriteAppends (Some self.old.written) (Some self.new.written) result piece.now }
         ensures cause { HasCause self.old.faults self.new.faults result }
 
-        // Which answer it is, and what stands afterwards.
+        // Which answer it is, and the state afterwards.
         ensures answer { result ≡ push_answer self.old (length piece.now) }
         ensures after { self.new ≡ after_push self.old piece.now }
     {

@@ -3,7 +3,7 @@
 //!
 //! What this crate promises: the exit code is that of some end of a run, or of a program without
 //! arguments (`tc_top/specs/Exit.antt`, `exit_number`; clause `code`). That the run is that of the
-//! arguments over these streams, no clause can say: the toolchain tells nothing of them. So this crate is
+//! arguments over these streams, no clause can say: the toolchain says nothing of them. So this crate is
 //! a part of the trusted edge, and stays small. Three programs of the gate try it: `tc` itself, which ends
 //! with a refused file, `tc_mistyped` with words that name no command, and `tc_disk_full` with an output
 //! that takes nothing.

@@ -19,7 +19,7 @@ pub fn ended_on<W: Write + Drop>(rt: &HostRuntime, out: W) -> ExitCode
     exit_code(work(rt, out))
 }
 
-/// The exit code that tells how the program ended.
+/// The exit code that says how the program ended.
 fn exit_code(ended: Result<Status, NoArguments>) -> ExitCode
     ensures { exit_status result ≡ exit_number ended }
 {

@@ -126,8 +126,8 @@ impl FieldReader {
         self.answer = self.answer.with(said);
     }
 
-    /// Takes the next line of the field, as `line` does, where each run stands as two bytes, the most
-    /// significant first. It tells whether the runs stand for bits.
+    /// Takes the next line of the field, as `line` does, with each run as two bytes, the most
+    /// significant first. It returns whether the runs stand for bits.
     pub fn line_of_bytes(&mut self, bytes: &[u8]) -> bool
         requires { MayBeLine (runs_of_bytes bytes.now) }
         ensures same { (self.new.system ≡ self.old.system) × (self.new.length ≡ self.old.length) }

@@ -4,7 +4,7 @@ ghost use Rattle.std.specs.Prelude.{◌≡◌, ◌↔◌, ◌^◌, ◌<◌, ◌�
 ghost use Rattle.vitc_reader.specs.Runs.{IsLineLength, MayBeLine, StandFor, AreRunsOf, bits_of_run};
 ghost use Rattle.vitc_reader.specs.Written.{run_length, runs_in};
 
-/// How many of the lowest bits have this level, where the lowest one has it.
+/// How many of the lowest bits have this level, if the lowest one has it.
 fn run_of(is_high: bool, rest: u128) -> u32
     requires width { rest < 2 ^ 90 }
     requires some { 1 ≤ rest }

@@ -16,7 +16,7 @@ pub const FORMAT_LENGTH: u32 = 26;
 /// The bytes that a format chunk has at least.
 pub const MIN_FORMAT_LENGTH: u32 = 16;
 
-/// How samples stand in a file. The samples of all tracks at one time are a block.
+/// How samples are stored in a file. The samples of all tracks at one time are a block.
 #[derive(Clone, Copy)]
 pub struct WaveFormat {
     /// From 1 to 64.
@@ -29,7 +29,7 @@ pub struct WaveFormat {
     pub bits: u16,
 }
 
-/// What is asked of a sound file.
+/// What is asked for of a sound file.
 #[derive(Clone, Copy, Debug, PartialEq, Eq)]
 pub struct Asked {
     /// The track, from 1 to 64.
@@ -40,7 +40,7 @@ pub struct Asked {
     pub most_samples: u64,
 }
 
-/// The format in the first bytes of a format chunk, which stand at a place; or its first field that is
+/// The format in the first bytes of a format chunk, which begin at a place; or its first field that is
 /// not taken.
 pub(crate) fn format_in(asked: Asked, place: u64, body: &[u8]) -> Result<WaveFormat, WaveFault>
     requires asked { IsAsked asked }
