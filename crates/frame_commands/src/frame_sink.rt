@@ -27,7 +27,7 @@ pub(crate) trait FrameSink: Drop {
     /// What the words choose for it.
     type Choice: Copy;
 
-    /// How the frames are had.
+    /// How the frames are found.
     ghost flight: { Self.Choice → Flight };
 
     /// What it writes.
@@ -39,7 +39,7 @@ pub(crate) trait FrameSink: Drop {
     /// How many frames it has counted, at most as many as it was given.
     ghost taken: { Self → ℕ };
 
-    /// How the frames are had.
+    /// How the frames are found.
     fn flight(choice: Self::Choice) -> Flight
         ensures { result ≡ flight choice };
 

@@ -21,7 +21,7 @@ use tc_command::{Stop, push_line};
 use tc_io::{Sink, Source};
 use tc_job::{Flight, Witness};
 
-/// Works `ltc-fly`: a line for each frame of a recording, where its frames are had so.
+/// Works `ltc-fly`: a line for each frame of a recording, as `flight` finds its frames.
 pub fn fly_along<S: Source, K: Sink>(
     flight: Flight,
     source: &mut S,
@@ -59,7 +59,7 @@ pub fn flown_frames_are_lawful()
     what_is_heard_is_in_order();
 }
 
-/// The lines of frames. The choice is how the frames are had.
+/// The lines of frames. The choice is how the frames are found.
 #[derive(Drop)]
 pub(crate) struct FrameLines;
 

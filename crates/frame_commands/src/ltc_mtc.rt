@@ -21,7 +21,7 @@ use tc_command::{Stop, push_piece};
 use tc_io::{Sink, Source};
 use tc_job::{Flight, Witness};
 
-/// Works `ltc-mtc`: the frames of a recording, where they are had so, as MIDI Time Code.
+/// Works `ltc-mtc`: the frames of a recording, as `flight` finds them, as MIDI Time Code.
 pub fn send_time_code<S: Source, K: Sink>(
     flight: Flight,
     source: &mut S,
@@ -60,7 +60,7 @@ pub fn messages_are_lawful()
     what_is_heard_is_in_order();
 }
 
-/// The messages of frames. The choice is how the frames are had.
+/// The messages of frames. The choice is how the frames are found.
 #[derive(Drop)]
 pub(crate) struct FrameMessages {
     writer: QuarterWriter,

@@ -34,7 +34,7 @@ use tc_command::{Stop, push_line, push_piece};
 use tc_io::{Sink, Source};
 use tc_job::{Flight, Witness};
 
-/// Works `ltc-spans`: a line for each span of a recording, where its frames are had so, and between two
+/// Works `ltc-spans`: a line for each span of a recording, as `flight` finds its frames, and between two
 /// of them one for the gap.
 pub fn tell_spans<S: Source, K: Sink>(
     flight: Flight,

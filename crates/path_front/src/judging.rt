@@ -33,7 +33,7 @@ impl Phase {
         }
     }
 
-    /// Where no cell is left: of a sound that has ended all have been given.
+    /// After the last cell: of a sound that has ended all have been given.
     fn closed(self) -> Phase
         ensures { result ≡ closed self }
     {

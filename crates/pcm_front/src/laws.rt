@@ -176,7 +176,7 @@ pub fn pieces_add_up_to_their_distance()
         → AllByRecursion (λ piece. (1 ≤ piece) × (piece ≤ length)) (pieces_in length distance) }
 {}
 
-/// The intervals of samples tell their crossings: each leads from one side to the other, neighbours lie on opposite
+/// The intervals of samples give their crossings: each leads from one side to the other, neighbours lie on opposite
 /// sides
 /// with none between them, the ticks from the first, or from tick 0, to the last are covered, and the sign of the
 /// samples

@@ -24,7 +24,7 @@
 //!   longer than a piece the intervals are the same at both (`laws`).
 //! - Moments rise, from crossing to crossing the ticks differ from those of whole samples by less than
 //!   a sample, and runs of samples are sliced into their lengths (`laws`).
-//! - The intervals tell the crossings: which these are, that neighbours lie on opposite sides, that all ticks
+//! - The intervals give the crossings: which these are, that neighbours lie on opposite sides, that all ticks
 //!   between them are covered, and that the sign of the samples changes nothing (`specs/Covered.antt`,
 //!   `TellTheCrossings`; `laws`).
 //! - Sound that is made of intervals is sliced into them again (`specs/Sound.antt`, `sound`; `laws`).

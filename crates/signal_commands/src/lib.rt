@@ -12,7 +12,7 @@
 //!   `vitc-read` a line for each field of a line file (`specs/VitcRead.antt`).
 //! - `luma-vitc` writes the line file of what the fields of a picture say, row by row (`specs/LumaVitc.antt`).
 //! - What was sent is what `mtc-read` reads (`ReadsWhatWasSent`). A line of `vitc-read` says whose lines the
-//!   lines of its field are (`ReadsTheFields`). The intervals of `pcm-ltc` and `wav-ltc` tell the crossings of
+//!   lines of its field are (`ReadsTheFields`). The intervals of `pcm-ltc` and `wav-ltc` give the crossings of
 //!   all samples (`SlicesTheSound`, `SlicesTheTrack`).
 //! - Each is a command as any other (`laws`): what it writes comes first, there is one output of an input,
 //!   and what bytes show stays.
