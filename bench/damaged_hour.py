@@ -29,7 +29,7 @@ def recording(program):
 
 
 def damaged(intervals):
-    """The intervals, where each dropout is one long interval."""
+    """The intervals, with each dropout as one long interval."""
     dropouts = [(5 * k * MINUTE, k * FRAME) for k in range(1, 12)]
     unheard = 0
     for end, interval in zip(itertools.accumulate(intervals), intervals):

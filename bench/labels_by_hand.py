@@ -112,7 +112,7 @@ def may_go_on(base, line):
 
 
 def wrong_column(base, line):
-    """The first column that does not fit, or None where the line says a label."""
+    """The first column that does not fit, or None if the line says a label."""
     texts, numbers = day(base)
     if line in numbers:
         return None

@@ -40,7 +40,7 @@ WAVE = struct.pack("<4sI4s4sIHHIIHH4sI", b"RIFF", 0xFFFF_FFFF, b"WAVE",
 
 
 class Way:
-    """A command that takes the sound: what stands before the samples, and the first crossing's tick in the sound where
+    """A command that takes the sound: what comes before the samples, and the first crossing's tick in the sound if
     ticks count from there."""
 
     def __init__(self, words, front, first):
@@ -98,7 +98,7 @@ class Played:
                 yield at, line.decode().split()
 
     def quarter_frames(self):
-        """The time of each quarter frame: of its second byte, which no other byte stands behind `f1`."""
+        """The time of each quarter frame: of its second byte; no other byte comes behind `f1`."""
         behind = False
         for at, piece in self.came:
             for byte in piece:

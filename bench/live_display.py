@@ -1,8 +1,8 @@
 """How much later than a line of the pipe the station shows it: on the terminal, at the page, and to MIDI.
 
 `bench/live.py --station [PROGRAM]` runs this. Ten seconds of code go in blocks, as a card would give them, to `wav-ltc`
-with `ltc-fly` and with `ltc-mtc` behind it, and to `tools/live` at the same moments. Told of each run, in milliseconds,
-the median and the greatest: how long after its line in the pipe a label stood on a terminal of plain digits, and came
+with `ltc-fly` and with `ltc-mtc` behind it, and to `tools/live` at the same moments. Printed a run, in milliseconds,
+the median and the greatest: how long after its line in the pipe a label was on a terminal of plain digits, and came
 to a reader of the page; how long after those of the pipe the station's quarter frames came; and, beside that, how long
 after them those of a second pipe, which is the noise of the machine. Beside that reader there are none, and then 50.
 """
@@ -173,7 +173,7 @@ def told(name, late, frames):
 
 
 def main(program):
-    """Tells the runs; 1 where a bound is not kept."""
+    """Prints the runs; 1 if a bound is not kept."""
     sys.path.insert(0, os.path.join(TOP, "tools"))
     from live_station.form import Form
 

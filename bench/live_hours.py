@@ -115,7 +115,7 @@ class Station:
 
 
 def play(station, sound, rate, pace, hours, tell):
-    """Plays the sound over and over; falls behind where the machine is slow, and never catches up faster."""
+    """Plays the sound over and over; falls behind if the machine is slow, and never catches up faster."""
     began, played, size, next_told = time.monotonic(), 0, 2 * BLOCK, time.monotonic()
     total, late = round(hours * 3600 * rate), 0.0
     while played < total:

@@ -9,7 +9,7 @@ of half a hundredth, through a low-pass of two poles, with white noise under it.
 - N, the most by which a sample differs from that of the clean sound, and W, the delay: the least one for which the
   premise of the law holds (crates/tape_sound/specs/Heard.antt, `HasMargin`), with bounds of N around the threshold;
 - how many delays the shortest cell lasts;
-- for each tolerance the words that are read, of those that were played, with a + where the law promises all of them.
+- for each tolerance the words that are read, of those that were played, with a + if the law promises all of them.
   A + beside anything but each word, in order, and nothing else, breaks the law: that is said, and the status is 1.
 
 The seed is printed, and a run is repeated by the environment's SEED. Run by hand, never in the gate.
@@ -87,7 +87,7 @@ def thresholds(words, samples):
 
 
 def turns(samples, bounds, side, first):
-    """The moments at which the sound goes over, where it stands on a side at a first place."""
+    """The moments at which the sound goes over, if it is on a side at a first place."""
     moments = []
     for place in range(first + 1, len(samples)):
         before, now, bound = -side * samples[place - 1], -side * samples[place], bounds[place]

@@ -22,7 +22,7 @@ def toward_zero(number, by):
 
 
 def grid(system, rate):
-    """How many steps a sample stands for, and how many samples are summed."""
+    """How many steps a sample has, and how many samples are summed."""
     for repeats in (8, 4, 2, 1):
         if 14 <= rate * repeats // (80 * system) <= 27:
             return repeats, 1
@@ -78,12 +78,12 @@ class Paths:
             self.step(end)
 
     def start(self, end, place, sign):
-        """The score of the best that stands before a cell that ends there."""
+        """The score of the best that comes before a cell that ends there."""
         first = end - LENGTHS[place]
         return self.starts[first][place][sign][0] if first >= 0 else -EARLY
 
     def worth(self, end, length, bit):
-        """The held sound of the latest cell times its signs, where it ends with plus."""
+        """The held sound of the latest cell times its signs, if it ends with plus."""
         sums, first = self.sums, max(0, end - length)
         if not bit:
             return sums[end] - sums[first]
@@ -91,7 +91,7 @@ class Paths:
         return sums[end] - sums[max(0, end - half)] - (sums[max(0, end - length + half)] - sums[first])
 
     def step(self, end):
-        """The best paths to one step more, and what may stand before a cell behind it."""
+        """The best paths to one step more, and what may come before a cell behind it."""
         scores, bits, best = [], [], None
         for place, length in enumerate(LENGTHS):
             zero, one = self.worth(end, length, 0), self.worth(end, length, 1)

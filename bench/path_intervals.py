@@ -91,7 +91,7 @@ def high_pass(samples, rate, frequency):
 
 
 def damaged(samples, way):
-    """With dropouts, clicks and splices, each where the way says so."""
+    """With dropouts, clicks and splices, each if the way says so."""
     count = len(samples)
     for _ in range(6 if way in ("dropouts", "parts") else 0):
         first, share = random.randrange(count), random.choice((0, 0.05, 0.05))

@@ -4,8 +4,8 @@
     bench/read_by_hand.py [COUNT [PROGRAM]]      a thousand recordings and bin/tc if none are named
 
 A recording is made here: real words in cells whose length shakes, glides or jumps, with intervals dropped, doubled,
-cut or moved. Each is read under the three tolerances, and under the rough one with a witness asked for. The seed is printed, and a run is repeated by the environment's
-SEED. Run by hand, never in the gate.
+cut or moved. Each is read under the three tolerances, and under the rough one with witnesses. The seed is printed,
+and a run is repeated by the environment's SEED. Run by hand, never in the gate.
 """
 import os
 import random

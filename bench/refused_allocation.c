@@ -1,4 +1,4 @@
-/* An allocator that refuses one allocation, the one whose number the environment tells, and says at the end how many there
+/* An allocator that refuses one allocation, whose number the environment gives, and says at the end how many there
  * were. Loaded before a program:  REFUSED=3 COUNTED=/tmp/count LD_PRELOAD=./refused_allocation.so tc ltc-read < FILE
  *     cc -O2 -shared -fPIC -o refused_allocation.so bench/refused_allocation.c -ldl */
 #define _GNU_SOURCE
@@ -50,7 +50,7 @@ int posix_memalign(void **block, size_t align, size_t size) {
     return real(block, align, size);
 }
 
-/* dlsym itself asks for cleared memory before it can answer: that is had of a room here. */
+/* dlsym itself needs cleared memory before it can answer: it gets that from a room here. */
 void *calloc(size_t count, size_t size) {
     static void *(*real)(size_t, size_t);
     static char room[4096];

@@ -28,7 +28,7 @@ cases() {
     echo "/dev/null label 30d 1800"
 }
 
-# the program runs at all only where the loader finds room: the least limit at which it answers something
+# the program runs at all only if the loader finds room: the least limit at which it answers something
 runs() { (ulimit -v "$1"; exec "$program" "${@:3}" < "$2" > "$work/out" 2> "$work/note"); }
 
 faults=0

@@ -115,7 +115,7 @@ both() { # NAME RATE
     echo "$cells | $(cell_of_both "$room/now.wav" ltc-rough wav-ltc "$system" 1 250) |"
 }
 
-# Silences of 20 ms to 6 s, as `pad` of sox takes them, at parts of the sound where it is played at a speed.
+# Silences of 20 ms to 6 s, as `pad` of sox takes them, at parts of the sound that is played at a speed.
 silences_at() { # SPEED
     awk -v seconds="$frames" -v fps="$fps" -v speed="$1" 'BEGIN {
         seconds /= fps * speed
@@ -163,7 +163,7 @@ rows_of_live() {
         done > "$room/now"
         row "clean at speed $speed, 15 times, with $((15 * (frames / 5))) silences by chance" 48000
     done
-    # Behind each silence stands one unequal pair before the first word.
+    # Behind each silence comes one unequal pair before the first word.
     "$tc" ltc-make 30 forward 01:00:00:00 5 20 48000 | "$tc" ltc-pcm 8000 > "$room/five"
     for sample in $(seq 400); do
         cat "$room/five"

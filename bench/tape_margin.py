@@ -60,12 +60,12 @@ def is_read(program, path, words, played):
         )
     read = subprocess.run([program, "ltc-rough"], input=file.stdout, stdout=subprocess.PIPE, check=True)
     labels = [line.split()[2] for line in read.stdout.decode().splitlines() if line.startswith("word")]
-    # The last word of a sound has no transition behind its end, where the tape ends there.
+    # The last word of a sound has no transition behind its end, if the tape ends there.
     return labels in (played, played[:-1])
 
 
 def most_that(is_so):
-    """The most decibels of those from 0 on at each of which it is so; None where it is not so at 0."""
+    """The most decibels of those from 0 on at each of which it is so; None if it is not so at 0."""
     most = None
     for decibels in range(MOST + 1):
         if not is_so(decibels):

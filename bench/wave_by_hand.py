@@ -111,8 +111,8 @@ def samples_of(data, body, announced, found, track):
 
 
 def intervals(samples, least, smooth, deep, piece):
-    """The intervals between the crossings in sixteenths of a sample, the first one from the first sample. Where there is a piece, so
-    many ticks of silence are an interval as soon as they have passed."""
+    """The intervals between the crossings in sixteenths of a sample, the first one from the first sample. With a piece,
+    each `piece` ticks of silence are an interval as soon as they have passed."""
     peak = total = 0
     side = None
     before = 0

@@ -72,7 +72,7 @@ fn spoil(input: &mut Vec<u8>, d: &mut Draws) {
     }
 }
 
-/// Changes the words so that they are often at fault.
+/// Changes the words so that they are often wrong.
 fn spoil_words(words: &mut Vec<String>, d: &mut Draws) {
     let place = d.below(words.len() as u64) as usize;
     let odd = ["", "-", "--help", "0", "00", "live", "worn", "firm", "deep", "99999999999999999999", "1e3", "25 ", "help"];
@@ -181,7 +181,7 @@ fn slicing(d: &mut Draws) -> Vec<String> {
     words
 }
 
-/// `live` one time in three, and now and then a word that may not stand there.
+/// `live` one time in three, and now and then a word that may not come there.
 fn last_word(words: &mut Vec<String>, d: &mut Draws) {
     match d.below(30) {
         0..=9 => words.push("live".into()),
@@ -574,7 +574,7 @@ fn asked_of_labels(count: Count, d: &mut Draws) -> Vec<String> {
     words
 }
 
-/// A count, and `ntsc` behind it now and then, mostly where it may stand.
+/// A count, and `ntsc` behind it now and then, mostly where it may come.
 fn pulled_at_times(count: Count, d: &mut Draws) -> Vec<String> {
     let may_stand = count == Count::Of24 || count == Count::Of30;
     let is_pulled = if may_stand { d.one_in(2) } else { d.one_in(40) };

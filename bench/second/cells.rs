@@ -15,7 +15,7 @@ struct Cell {
     ticks: u64,
 }
 
-/// What is told of a recording.
+/// An event of a recording.
 #[derive(Clone, Debug)]
 pub enum Event {
     Word(Word),
@@ -85,18 +85,18 @@ impl Tolerance {
     }
 }
 
-/// The sum of the latest four cells, where the first counts for those that are not there.
+/// The sum of the latest four cells. The first counts for those that are not there.
 fn latest_four(cells: &[Cell]) -> u64 {
     (0..4).map(|back| cells[cells.len().saturating_sub(1 + back)].ticks).sum()
 }
 
-/// What is told of intervals: the events in order, and the tick up to which all is told.
+/// What intervals give: the events in order, and the tick up to which all events are given.
 pub struct Told {
     pub events: Vec<Event>,
     pub until: u64,
 }
 
-/// The events of intervals. With `is_firm`, words without a witness are refused as `alone`; where the file does not
+/// The events of intervals. With `is_firm`, words without a witness are refused as `alone`; if the file does not
 /// end, a word that still waits for its own is left out, with all that comes behind it.
 pub fn events(tolerance: Tolerance, system: u64, intervals: &[u64], is_firm: bool, is_ended: bool) -> Told {
     let mut told: Vec<Event> = Vec::new();
@@ -180,8 +180,8 @@ fn fields(system: u64, bits: &[u8]) -> Result<(Label, u32, [bool; 5]), &'static 
     Ok((label, LTC.user(bits), flags))
 }
 
-/// Asks each word for its witness. Where the last stretch may go on, a backward word that has fewer than 16 cells
-/// behind it still waits, and so does all that was told behind it.
+/// Looks for the witness of each word. If the last stretch may go on, a backward word that has fewer than 16 cells
+/// behind it still waits, and so does all that was given behind it.
 fn firm(told: Told, stretches: &[Vec<Cell>], may_go_on: bool) -> Told {
     let mut firmly = Vec::new();
     for event in told.events {
@@ -210,7 +210,7 @@ fn firm(told: Told, stretches: &[Vec<Cell>], may_go_on: bool) -> Told {
     Told { events: firmly, until: told.until }
 }
 
-/// The report of `ltc-read` and its like: the lines of the events, and the last line where the file ended well.
+/// The report of `ltc-read` and its like: the lines of the events, and the last line if the file ended well.
 pub fn report(rate: u64, system: u64, events: &[Event], intervals: &[u64], is_done: bool) -> String {
     let (mut text, mut counts) = (String::new(), [0u64; 3]);
     for event in events {

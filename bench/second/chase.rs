@@ -182,7 +182,7 @@ fn row(count: Count, record: &[Vec<u8>]) -> Result<(Command, Option<(Label, Way)
     Ok((command, master, slip(fifth).ok_or(5usize)?))
 }
 
-/// Empty for 0, or one to seven digits up to 1,000,000, after a `-` where it falls back.
+/// Empty for 0, or one to seven digits up to 1,000,000, after a `-` if it falls back.
 fn slip(bytes: &[u8]) -> Option<i64> {
     if bytes.is_empty() {
         return Some(0);

@@ -2,7 +2,7 @@
 //! fields at other bits.
 use crate::labels::{Count, Label};
 
-/// Where the digits of a label stand: the first bit of each.
+/// Where the digits of a label are: the first bit of each.
 pub struct Places {
     pub frames: [usize; 2],
     pub seconds: [usize; 2],

@@ -138,7 +138,7 @@ impl Span {
         )
     }
 
-    /// How the labels stand to each other where another span begins behind this one.
+    /// How the labels are related if another span begins behind this one.
     fn gap(&self, word: &Word) -> String {
         let ticks = word.tick - self.to;
         if self.last.count != word.label.count {

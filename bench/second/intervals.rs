@@ -4,7 +4,7 @@ use crate::run::End;
 pub const MOST_TICKS: u64 = 16_777_215;
 pub const MOST_RATE: u64 = 100_000_000;
 
-/// What stands in an interval file: the header where it is whole and good, the whole good intervals, and
+/// What is in an interval file: the header if it is whole and good, the whole good intervals, and
 /// how the reading ends.
 pub struct File {
     pub header: Option<Header>,

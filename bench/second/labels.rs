@@ -84,7 +84,7 @@ impl Label {
         self.count == Count::Drop && self.frames < 2 && self.seconds == 0 && self.minutes % 10 != 0
     }
 
-    /// How many labels stand before it in the day.
+    /// How many labels come before it in the day.
     pub fn number(&self) -> u64 {
         let minutes = 60 * self.hours + self.minutes;
         let plain = (60 * minutes + self.seconds) * self.count.rate() + self.frames;

@@ -57,7 +57,7 @@ fn milliseconds(line: &[u8]) -> Option<u128> {
     (point <= 5 && line.len() == point + 4).then_some(1_000 * whole + behind)
 }
 
-/// How many bytes of a line fit a form, in which a 0 stands for each digit.
+/// How many bytes of a line fit a form, in which a 0 is any digit.
 fn fitting(form: &str, line: &[u8]) -> usize {
     let fits = |(place, byte): &(u8, &u8)| if *place == b'0' { byte.is_ascii_digit() } else { place == *byte };
     form.bytes().zip(line).take_while(fits).count()

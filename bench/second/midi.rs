@@ -16,7 +16,7 @@ fn name(part: Part) -> &'static str {
     }
 }
 
-/// The bytes of the message that goes on, from its status on; empty where none does.
+/// The bytes of the message that goes on, from its status on; empty if none does.
 #[derive(Default)]
 struct Reader {
     message: Vec<u8>,

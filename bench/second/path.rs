@@ -9,7 +9,7 @@ fn lengths() -> Vec<usize> {
     (4..25).chain((26..49).step_by(2)).chain((52..97).step_by(4)).collect()
 }
 
-/// How many steps a sample stands for, and how many samples are summed in one step.
+/// How many steps a sample has, and how many samples are summed in one step.
 #[derive(Clone, Copy)]
 pub struct Grid {
     repeats: u64,

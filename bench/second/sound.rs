@@ -125,7 +125,7 @@ struct Format {
     width: usize,
 }
 
-/// What stands before the samples: the format, and how many bytes of samples are announced, if that is known.
+/// What comes before the samples: the format, and how many bytes of samples are announced, if that is known.
 struct Front {
     format: Format,
     data: usize,
@@ -217,7 +217,7 @@ fn front(bytes: &[u8], track: usize, least_rate: u64) -> Result<Front, End> {
     }
 }
 
-/// How many bytes of samples are announced, or nothing where the writer did not know.
+/// How many bytes of samples are announced, or nothing if the writer did not know.
 fn data_size(bytes: &[u8], at: usize, size: u64, is_riff: bool, long: Option<u64>) -> Result<Option<u64>, End> {
     if is_riff {
         let all = little(&bytes[4..8]);

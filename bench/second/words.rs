@@ -40,13 +40,13 @@ impl<'a> Words<'a> {
         value(&self.words[self.at]).ok_or_else(|| format!("value of word {}", self.at))
     }
 
-    /// The next word, where there is one.
+    /// The next word, if there is one.
     fn next(&self) -> Option<&'a str> {
         self.words.get(self.at + 1).map(|word| &word[..])
     }
 
 
-    /// A word more has no value: it is not the `live` that may stand there.
+    /// A word more has no value: it is not the `live` that may come there.
     fn none_left(&mut self) -> Read<()> {
         if self.next().is_some() { self.value(|_| None) } else { Ok(()) }
     }
@@ -126,7 +126,7 @@ pub fn run(words: &[String], input: &[u8]) -> Run {
     ran.unwrap_or_else(Run::usage)
 }
 
-/// What is told of a recording.
+/// What is heard of a recording.
 fn heard(hearing: Hearing, file: &File) -> Told {
     let system = file.header.map_or(25, |header| header.system);
     events(hearing.tolerance, system, &file.intervals, hearing.is_firm, file.end == End::Done)

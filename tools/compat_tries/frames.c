@@ -3,7 +3,7 @@
  *     frames COUNT SEED
  *
  * The words are labels of 24, 25, 30 and 30 drop-frame with a date that is one, and bits at random, of which only the
- * reading calls are asked. It is built against libltc, and runs on what the loader finds. */
+  * reading calls are given. It is built against libltc, and runs on what the loader finds. */
 #include <ltc.h>
 #include <stdint.h>
 #include <stdio.h>

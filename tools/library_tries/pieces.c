@@ -4,9 +4,9 @@
  *     pieces SYSTEM TOLERANCE FOLLOWS THRESHOLD FINENESS SMOOTH PACE PIECE ROOM [MOVE]
  *
  * With MOVE the reader is copied to another place behind each call, and the old one is overwritten. The status is 1
- * where the words are wrong or there is no memory, 2 where the settings are refused, and 3 where a call breaks what tc.h
+  * if the words are wrong or there is no memory, 2 if the settings are refused, and 3 if a call breaks what tc.h
  * says: what is written behind the events that are made, a call that takes more than there is, or less than it has room
- * for, and a reader that changes where there is no room. */
+  * for, and a reader that changes when there is no room. */
 #include "tc.h"
 #include <stdio.h>
 #include <stdlib.h>

@@ -1,5 +1,5 @@
 /* Reads the samples of 16 bits of a file in two threads at once, each with a reader of its own, in pieces of 7 and of
- * 1,024, and writes the events as they lie in memory; the status is 3 where the two differ.
+  * 1,024, and writes the events as they lie in memory; the status is 3 if the two differ.
  *
  *     threads FILE SYSTEM TOLERANCE FOLLOWS THRESHOLD FINENESS SMOOTH PACE */
 #include "tc.h"

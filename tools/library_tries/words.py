@@ -44,7 +44,7 @@ def dropped(count, minutes, seconds, frames):
 
 
 def place_of(count, hours, minutes, seconds, frames):
-    """How many labels stand before it in its day, counted by minutes."""
+    """How many labels come before it in its day, counted by minutes."""
     before = 60 * hours + minutes
     whole = RATES[count] * (60 * before + seconds) + frames
     return whole - (2 * (before - before // 10) if count == "30d" else 0)

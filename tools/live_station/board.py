@@ -1,4 +1,4 @@
-"""What is shown, and what happened: kept in one place, and told to the page and the log."""
+"""What is shown, and what happened: kept in one place, and given to the page and the log."""
 import queue
 import time
 from collections import deque
@@ -47,7 +47,7 @@ class Board:
         self.show(events=tuple(self.events))
 
     def report(self, kind: str, text: str) -> None:
-        """The same, from another thread: it is told when the main thread looks."""
+        """The same, from another thread: it is shown when the main thread looks."""
         self.reported.put(Happening(kind, "", text))
 
     def look(self) -> None:
@@ -61,7 +61,7 @@ class Board:
         now = time.monotonic()
         if now < self.next_kept:
             return
-        # Where the machine stood still, nothing is made up for.
+        # If the machine was suspended, nothing is made up for.
         self.next_kept = max(self.next_kept + 1 / HISTORY_RATE, now)
         self.history.append(speed)
         self.kept += 1

@@ -32,7 +32,7 @@ STANDARD_INPUT = "-"
 
 class Capture:
     """Samples as they come. `notes` is a descriptor of what a program complains of, `is_lasting` whether it is opened
-    again where it ends.
+    again when it ends.
     """
 
     def __init__(self, name: str, form: Form, descriptor: int, is_lasting: bool = False) -> None:
@@ -183,7 +183,7 @@ def file(name: str, track: int, pace: float) -> tuple[Capture, int]:
 
 @contextlib.contextmanager
 def told_of(name: str) -> Iterator[None]:
-    """What is wrong with a file is told with its name."""
+    """What is wrong with a file is reported with its name."""
     try:
         yield
     except NoSound as fault:

@@ -1,7 +1,7 @@
 """The pipe of `tc` that reads a track: the slicer, and behind it a reader of words and one of frames.
 
 The intervals come here, and go to both readers. Only a byte of their header says the system, so the frames can be read
-as those of another system than the one that the slicer was told.
+as those of another system than the one that the slicer was given.
 """
 import os
 import struct
@@ -45,7 +45,7 @@ def header_of(form: Form, system: int) -> bytes:
 
 
 class Reader:
-    """A command of `tc` that reads intervals, and tells its lines."""
+    """A command of `tc` that reads intervals, and writes its lines."""
 
     def __init__(self, loop: Loop, words: list[str], header: bytes, tell: Callable[[Line], None]) -> None:
         self.loop, self.tell = loop, tell
@@ -118,11 +118,11 @@ class Chain:
 
     @property
     def is_done(self) -> bool:
-        """All that was given to it was read and told."""
+        """All that was given to it was read, and its lines have come."""
         return self.is_sliced and all(reader.lines.is_ended for reader in self.readers())
 
     def fault(self) -> str:
-        """Why it has to be begun anew; empty where it need not."""
+        """Why it has to be begun anew; empty if it need not."""
         if not self.feed.is_ending:
             for process in (self.slicer, *(reader.process for reader in self.readers())):
                 if process.poll() is not None:

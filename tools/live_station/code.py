@@ -53,7 +53,7 @@ class Code:
 
     @property
     def speed(self) -> int:
-        """Of the last word, in thousandths of nominal; 0 where it is not known."""
+        """Of the last word, in thousandths of nominal; 0 if it is not known."""
         if not self.length or not self.system:
             return 0
         return 1000 * FINENESS * self.rate // (self.system * self.length)
@@ -88,7 +88,7 @@ class Code:
         self.words += 1
         self.length, self.user = word.length, word.user
         if self.system is None:
-            # Until the system is known no frame is told, but the words are.
+            # Until the system is known no frame is given, but the words are.
             self.state, self.label, self.direction = HEARD, word.label, word.direction
 
     def take_heard(self, heard: Heard) -> Iterator[Happening]:
@@ -105,7 +105,7 @@ class Code:
         self.heard += 1
 
     def told(self, before: Heard, heard: Heard, was_gone: bool) -> Happening:
-        """What stands between two words of which the second does not join the first."""
+        """What lies between two words of which the second does not join the first."""
         system = self.system or 0
         count = count_of(heard.label, system)
         silence = max(0.0, self.seconds(heard.tick - before.tick - self.length))

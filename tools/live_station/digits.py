@@ -30,7 +30,7 @@ def rows_of(scale: int) -> int:
 
 
 def scale_for(columns: int, lines: int) -> int:
-    """The greatest scale that fits; 0 where none does."""
+    """The greatest scale that fits; 0 if none does."""
     scale = columns // WIDE
     while scale and rows_of(scale) > lines:
         scale -= 1

@@ -7,7 +7,7 @@ from tape_report.faults import NoSound
 
 # A size that no header can know.
 OPEN = 0xFFFF_FFFF
-# Writers to a pipe put sizes from here on where they do not know one: GStreamer and arecord.
+# Writers to a pipe put sizes from here on if they do not know one: GStreamer and arecord.
 UNKNOWN_FROM = 2_147_418_112
 WAVES = (b"RIFF", b"RF64", b"BW64")
 PLAIN, EXTENSIBLE = 1, 65_534
@@ -49,7 +49,7 @@ class Form:
 
 
 def form_in(chunk: bytes) -> Form:
-    """What a chunk `fmt ` says, where `tc` takes it."""
+    """What a chunk `fmt ` says, if `tc` takes it."""
     if len(chunk) < 16:
         raise NoSound("its header is cut off")
     kind, tracks, rate, _, block, bits = struct.unpack_from("<HHIIHH", chunk)
@@ -74,7 +74,7 @@ def whole(stream: IO[bytes], size: int) -> bytes:
 
 def wave_header(stream: IO[bytes]) -> tuple[Form, int | None]:
     """The form of a WAV file behind its first four letters, up to its first sample; and how many bytes of samples
-    there are, where the header knows.
+    there are, if the header knows.
     """
     if whole(stream, 8)[4:] != b"WAVE":
         raise NoSound("it is no WAV file")

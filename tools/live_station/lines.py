@@ -63,7 +63,7 @@ Line = Word | Heard | Invented | Gone | Refused
 
 
 def line_of(text: str) -> Line | None:
-    """What a line says; nothing where it is of no use here."""
+    """What a line says; nothing if it is of no use here."""
     match text.split():
         case ["word", direction, label, "user", user, "flags", _, "balance", _, "tick", tick, "length", length, *_]:
             return Word(direction, label, user, int(tick), int(length))

@@ -39,7 +39,7 @@ def opened(path: str) -> int:
 
 
 class Log:
-    """A log that is written. What can't be written is told once, and tried again with the next event."""
+    """A log that is written. What can't be written is reported once, and tried again with the next event."""
 
     def __init__(self, path: str, tell: Callable[[str], None]) -> None:
         self.path, self.tell = path, tell
@@ -51,7 +51,7 @@ class Log:
         self.thread.start()
 
     def put(self, event: Event) -> None:
-        """Never waits: where the disk stands, the newest are left out."""
+        """Never waits: if the disk does not answer, the newest are left out."""
         try:
             self.waiting.put_nowait(event)
         except queue.Full:
@@ -76,7 +76,7 @@ class Log:
         if minute != self.minute:
             self.minute, self.lines = minute, 0
         self.lines += 1
-        # A card that is lost among much else is told all the same.
+        # A card that is lost among much else is logged all the same.
         most = LINES_A_MINUTE * (2 if event.kind == events.CARD else 1)
         if self.lines > most and event.kind not in (events.BEGINS, events.ENDS):
             self.more += 1

@@ -1,7 +1,7 @@
 """MIDI Time Code to a port: a pipe of `tc` of its own, whose last command writes into the port itself.
 
-So nothing that is shown or served stands in its way. A port that takes nothing ends that command, since it is opened so
-that no write waits; it is told, and tried again.
+So nothing that is shown or served holds it up. A port that takes nothing ends that command, since it is opened so
+that no write waits; it is reported, and tried again.
 """
 import contextlib
 import os
@@ -71,7 +71,7 @@ class Midi:
                 self.say(f"sending to {shown(self.path)}")
 
     def fault(self, port: int) -> str:
-        """Why nothing can be sent; empty where it can."""
+        """Why nothing can be sent; empty if it can."""
         poll = select.poll()
         poll.register(port, 0)
         if poll.poll(0):

@@ -1,7 +1,7 @@
 """The page for the room: a server of three paths, by a thread of its own.
 
 `/` is the page, `/events` what it follows by server-sent events, and `/state` the same once, as JSON. A message is made
-once for all readers. One that does not take it misses it, and is dropped where it takes nothing at all.
+once for all readers. One that does not take it misses it, and is dropped if it takes nothing at all.
 """
 import contextlib
 import ipaddress
@@ -88,7 +88,7 @@ def whole_of(it: Shown, now: float) -> bytes:
 
 
 class Page:
-    """The server. `read` gives what is shown, and `wake` tells it that this changed."""
+    """The server. `read` gives what is shown, and `wake` says that this changed."""
 
     def __init__(self, address: str, port: int, read: Callable[[], Shown]) -> None:
         self.read, self.address, self.port = read, address, port
@@ -112,7 +112,7 @@ class Page:
 
     @property
     def host(self) -> str:
-        """Where it is, as a browser wants it."""
+        """Where it is, as a browser needs it."""
         return f"[{self.address}]:{self.port}" if ":" in self.address else f"{self.address}:{self.port}"
 
     @property
@@ -169,7 +169,7 @@ class Page:
         self.settle(reader)
 
     def serve(self, reader: Reader, events: int) -> None:
-        """Hears a reader, and gives it what it asked for or did not take before."""
+        """Hears a reader, and gives it what it requested or did not take before."""
         if events & selectors.EVENT_READ:
             request = reader.hear()
             if request is not None:

@@ -1,4 +1,4 @@
-"""One browser: what it asked for, and what it has not taken yet."""
+"""One browser: what it requested, and what it has not taken yet."""
 import contextlib
 import socket
 import time
@@ -63,13 +63,13 @@ class Reader:
         self.state = ASKING
         self.request = b""
         self.kept = b""
-        # Since when it asks, takes nothing, or leaves.
+        # Since when it is requesting, takes nothing, or leaves.
         self.since = time.monotonic()
         # It takes less than there is: a message was left out.
         self.has_missed = False
 
     def hear(self) -> bytes | None:
-        """A whole request, once; what comes later is passed over. It is gone where its connection is closed."""
+        """A whole request, once; what comes later is passed over. It is gone if its connection is closed."""
         try:
             piece = self.connection.recv(PIECE)
         except BlockingIOError:
@@ -99,7 +99,7 @@ class Reader:
         self.send(FOLLOWED + data)
 
     def send(self, data: bytes) -> None:
-        """A message. It is left out where one before was not taken yet."""
+        """A message. It is left out if one before was not taken yet."""
         if self.kept:
             self.has_missed = True
             return

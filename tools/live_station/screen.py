@@ -115,14 +115,14 @@ def rows(it: Shown, style: Style, now: float) -> list[str]:
 
 
 def small(it: Shown, style: Style, now: float) -> list[str]:
-    """Where there is little room: the label, its state, the level and what to do."""
+    """If there is little room: the label, its state, the level and what to do."""
     colour = COLOURS.get(it.state, GREY)
     texts = [it.label or NO_LABEL, state_line(it, now), level_line(it, style), it.hint]
     return [style.in_colour(cut(text, style.columns), colour) for text in texts[: style.lines]]
 
 
 def plain_line(it: Shown, now: float) -> str:
-    """The display as one line, where there is no terminal."""
+    """The display as one line, if there is no terminal."""
     clock = time.strftime("%H:%M:%S", time.localtime(now))
     level = f"level {it.level:.1f} dB" if it.level is not None else ""
     parts = (clock, it.label, state_text(it, now).lower(), it.direction, f"speed {it.speed}" if it.speed else "")

@@ -35,7 +35,7 @@ class Shown:
     page: str = ""
     log: str = ""
     events: tuple[Event, ...] = ()
-    # The speeds of the last minutes, negative where the tape ran backward, None where nothing was heard; and how many
+    # The speeds of the last minutes, negative if the tape ran backward, None if nothing was heard; and how many
     # there ever were.
     history: tuple[int | None, ...] = ()
     kept: int = 0

@@ -80,8 +80,8 @@ class Station:
     # ---- the beginning and the end
 
     def end_by(self, number: int, _frame: FrameType | None) -> None:
-        """Ends with the next turn of the loop: an exception in the middle of anything may get lost there. Where it
-        waits for its beginning, or was told before, it ends at once.
+        """Ends with the next turn of the loop: an exception in the middle of anything may get lost there. If it
+        waits for its beginning, or got a signal before, it ends at once.
         """
         was_told, self.status = self.status is not None, BY_SIGNAL + number
         if was_told or not self.is_begun:
@@ -104,7 +104,7 @@ class Station:
         self.display.begin()
 
     def begin_log(self, capture: Capture) -> None:
-        """The run begins with a capture: what comes after stands behind that in the log."""
+        """The run begins with a capture: what comes after follows that in the log."""
         if self.options.log:
             self.log = Log(self.options.log, partial(self.board.report, events.LOG))
             self.board.listeners.append(self.log.put)
@@ -204,7 +204,7 @@ class Station:
             self.midi.feed.end()
 
     def leave_reading(self) -> None:
-        """Ends the pipes as they stand."""
+        """Ends the pipes as they are."""
         if self.chain is not None:
             self.chain.close()
         self.chain = None
@@ -224,7 +224,7 @@ class Station:
         self.show_rest()
 
     def balance(self) -> None:
-        """Takes no more samples than are read, where they come faster than that."""
+        """Takes no more samples than are read, if they come faster than that."""
         is_read = self.chain is None or not self.chain.feed.is_full
         is_sent = self.midi is None or not self.midi.is_full
         self.supply.hold(not (is_read and is_sent))
@@ -280,7 +280,7 @@ class Station:
         self.board.keep_speed(speed if it.speed else None)
 
     def hint(self) -> str:
-        """What to do, in a line; empty where all is well."""
+        """What to do, in a line; empty if all is well."""
         it, level = self.board.shown, self.board.shown.level
         if it.state == shown.CARD_LOST:
             return hints.without_samples(it.source)

@@ -1,4 +1,4 @@
-"""The capture as long as the station runs: opened, read, and opened again where a card or JACK ended."""
+"""The capture as long as the station runs: opened, read, and opened again if a card or JACK ended."""
 import time
 from collections.abc import Callable
 
@@ -18,7 +18,7 @@ Opened = Callable[[], tuple[Capture, int]]
 
 
 class Supply:
-    """Blocks of samples. `begin` is called when a capture is opened, `take` with each block, and `pause` where it
+    """Blocks of samples. `begin` is called when a capture is opened, `take` with each block, and `pause` when it
     ended.
     """
 

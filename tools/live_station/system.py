@@ -10,7 +10,7 @@ WIDEST = 30
 
 
 def said_by(before: Word, word: Word) -> int | None:
-    """The frames a second, where the two are neighbours at the end of a second of the tape."""
+    """The frames a second, if the two are neighbours at the end of a second of the tape."""
     if before.direction != word.direction or abs(word.tick - before.tick - word.length) > word.length // 4:
         return None
     early, late = (before, word) if word.direction == "forward" else (word, before)
@@ -26,12 +26,12 @@ class System:
         self.found: int | None = given
         self.before: Word | None = None
         self.against = 0
-        # What the labels say, where that is not what was given.
+        # What the labels say, if that is not what was given.
         self.doubt: int | None = None
 
     @property
     def slicing(self) -> int:
-        """The system that the slicer is told: it is in the header alone, and in how long a piece is."""
+        """The system that the slicer is given: it is in the header alone, and in how long a piece is."""
         return self.given or WIDEST
 
     def take(self, word: Word) -> bool:

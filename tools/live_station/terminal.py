@@ -1,4 +1,4 @@
-"""The display on standard output, by a thread of its own: a terminal that stands still holds nobody up."""
+"""The display on standard output, by a thread of its own: a terminal that is stopped holds nobody up."""
 import contextlib
 import locale
 import os
@@ -37,7 +37,7 @@ def has_blocks() -> bool:
 
 
 class Display:
-    """What all displays have: a thread that draws what is shown, until it is told to end."""
+    """What all displays have: a thread that draws what is shown, until it has to end."""
 
     def __init__(self, read: Read, fail: Callable[[], None]) -> None:
         self.read, self.fail = read, fail
@@ -55,10 +55,10 @@ class Display:
             self.fail()
 
     def draw(self, it: Shown, now: float) -> None:
-        """Nothing, where it is quiet."""
+        """Nothing, if it is quiet."""
 
     def close(self, summary: str) -> None:
-        """Ends it; the summary stands behind all."""
+        """Ends it; the summary comes after all."""
         self.is_over.set()
         if self.thread.is_alive():
             self.thread.join(0.2)

@@ -1,4 +1,4 @@
-"""The tool: what was asked for is opened, and the station runs until it is ended."""
+"""The tool: the source named by the options is opened, and the station runs until it is ended."""
 import argparse
 from collections.abc import Sequence
 
@@ -29,7 +29,7 @@ def main(arguments: Sequence[str]) -> int:
 
 
 def opened(options: argparse.Namespace) -> tuple[Capture, int]:
-    """The samples that were asked for, and the number of the track among them."""
+    """The samples that the options name, and the number of the track among them."""
     rate, track = options.rate or CARD_RATE, options.track
     if options.file:
         return capture.file(options.file, track, options.pace)

@@ -65,7 +65,7 @@ def try_kill_of_its_parts(room):
 
 
 def try_stopped_part(room):
-    """A process of the pipe that stands still is given up, and the pipe begun again."""
+    """A process of the pipe that is stopped is given up, and the pipe begun again."""
     there = on_terminal("--file", tape(room, words("25", "10:00:00:00", 600)), "--system", "25")
     there.until(r"HEARD")
     stopped = next(pid for pid, told in marked(there.mark).items() if "wav-ltc" in told)

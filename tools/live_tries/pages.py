@@ -64,7 +64,7 @@ def minute(room):
 
 
 def try_paths(room):
-    """Its three paths are answered, by GET alone; headers are bounded, and who asks nothing is dropped."""
+    """Its three paths are answered, by GET alone; headers are bounded, and a silent client is dropped."""
     want("curl")
     served = Served(minute(room))
     status, text, _ = served.curl("/")

@@ -39,7 +39,7 @@ def try_lines(_room):
 
 
 def try_what_happened(_room):
-    """A drop-out that is bridged and one that is not, a jump, a turn and another count are told as such."""
+    """A drop-out that is bridged and one that is not, a jump, a turn and another count are reported as such."""
     code = Code(48_000)
     code.begin(25)
     code.length = FRAME

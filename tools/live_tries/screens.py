@@ -1,4 +1,4 @@
-"""What stands on the screen at moments of a tape, and where there is none."""
+"""What is on the screen at moments of a tape, and when there is none."""
 import os
 import re
 import signal
@@ -55,7 +55,7 @@ def try_redrawn(room):
 
 
 def try_sizes(room):
-    """Right at 80 by 24 and at 200 by 50, plain digits where there is little room or --plain asks; and at a change."""
+    """Right at 80 by 24 and at 200 by 50, plain digits if there is little room or with --plain; and at a change."""
     path = tape(room, words("25", "10:00:00:00", 250))
     for columns, lines, high in ((80, 24, 5), (200, 50, 13), (50, 14, 3), (36, 24, 0)):
         there = on_terminal("--file", path, "--system", "25", columns=columns, lines=lines)
@@ -76,7 +76,7 @@ def try_sizes(room):
 
 
 def try_plain_lines(room):
-    """Where standard output is no terminal there are plain lines; none with --quiet; a reader that leaves ends it."""
+    """If standard output is no terminal there are plain lines; none with --quiet; a reader that leaves ends it."""
     path = tape(room, words("25", "10:00:00:00", 60), silence(0.5), words("25", "11:00:00:00", 30))
     ended, out, notes = runs("--file", path)
     assert ended == 0 and not notes and "\x1b" not in out, out + notes
@@ -91,7 +91,7 @@ def try_plain_lines(room):
 
 
 def try_stopped_terminal(room):
-    """A terminal that stands still (ctrl-S) holds neither the log nor the end up."""
+    """A terminal that is stopped (ctrl-S) holds neither the log nor the end up."""
     log = os.path.join(room, "log")
     path = tape(room, words("25", "10:00:00:00", 50), silence(0.5), words("25", "11:00:00:00", 50), silence(5))
     there = on_terminal("--file", path, "--log", log)

@@ -27,7 +27,7 @@ def try_systems(room):
 
 
 def try_other_system(room):
-    """Where the tape changes to another system it is found again; where it was given, the labels are doubted."""
+    """If the tape changes to another system it is found again; if it was given, the labels are doubted."""
     path = tape(room, words("25", "10:00:00:00", 60), words("30", "11:00:00:00", 100, rate=30))
     _, out, _ = runs("--file", path)
     has(out, "10:00:01:00 25 frames a second, by the labels", "11:00:02:00 30 frames a second, by the labels")
@@ -62,7 +62,7 @@ def both(samples):
 
 
 def try_files(room):
-    """The track that is asked for, also of files of 24 bits and of those that ffmpeg reads; a hint at the right one."""
+    """The track of --track, also of files of 24 bits and of those that ffmpeg reads; a hint at the right one."""
     samples = words("25", "10:00:00:00", 60)
     path = wav(os.path.join(room, "tape.wav"), RATE, [[0] * len(samples), samples], bits=24)
     ended, out, _ = runs("--file", path, "--track", "2")
@@ -137,7 +137,7 @@ class Card:
         self.thread.start()
 
     def play(self):
-        """Plays the tape into whoever listens, again where one left."""
+        """Plays the tape into whoever listens, again if one left."""
         signal.pthread_sigmask(signal.SIG_BLOCK, [signal.SIGPIPE])
         while not self.is_over:
             with contextlib.suppress(OSError):
@@ -168,7 +168,7 @@ def recorder(there):
 
 
 def try_card(room):
-    """A card that is lost is opened again, and one that stands still is too; the display says what to do."""
+    """A card that is lost is opened again, and so is one that stops; the display says what to do."""
     card, log = Card(room), os.path.join(room, "log")
     options = ("--card", "tape", "--tracks", "1", "--system", "25", "--log", log)
     there = on_terminal(*options, more=card.home)
@@ -230,7 +230,7 @@ def try_kill_with_card(room):
 
 
 def try_no_card(room):
-    """A card that is not there ends it, with what arecord says; and where arecord is missing, its package is named."""
+    """A card that is not there ends it, with what arecord says; and if arecord is missing, its package is named."""
     want("arecord")
     ended, out, notes = runs("--card", "none", more={"HOME": room})
     assert ended == 3, out + notes
@@ -261,7 +261,7 @@ def jack_server(name):
 
 
 def try_jack(room):
-    """Code that another program plays into JACK is heard; a server that ends is told, and waited for."""
+    """Code that another program plays into JACK is heard; a server that ends is reported, and waited for."""
     name, path = f"try{os.getpid()}", os.path.join(room, "raw")
     env = {"JACK_DEFAULT_SERVER": name, "JACK_NO_START_SERVER": "1"}
     with open(path, "wb") as file:

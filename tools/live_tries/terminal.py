@@ -74,7 +74,7 @@ class Terminal:
 
     def __init__(self, words, columns=80, lines=24, env=None):
         self.grid = Grid(columns, lines)
-        # Each screen that stood, with the time; and all bytes.
+        # Each screen that was shown, with the time; and all bytes.
         self.screens, self.data = [], b""
         # A letter may come in two pieces.
         self.decoder = codecs.getincrementaldecoder("utf-8")("replace")

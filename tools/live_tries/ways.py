@@ -16,7 +16,7 @@ from .stage import Runs, none_left, on_terminal, read_of, runs, silence, tape, w
 
 
 class Listener:
-    """One who reads a FIFO, as long as it is asked to, and what came with its time."""
+    """One who reads a FIFO, until it has to end, and what came with its time."""
 
     def __init__(self, path):
         self.came = []
@@ -65,7 +65,7 @@ def try_midi(room):
 
 
 def try_midi_device(room):
-    """A device that is no FIFO, here a terminal, gets the same; when its other end is closed, that is told."""
+    """A device that is no FIFO, here a terminal, gets the same; when its other end is closed, that is reported."""
     outer, inner = pty.openpty()
     tty.setraw(inner)
     name = os.ttyname(inner)
@@ -84,7 +84,7 @@ def try_midi_device(room):
 
 
 def try_midi_port_that_vanishes(room):
-    """It is told and tried again, it begins with a full message, and the display goes on."""
+    """It is reported and tried again, it begins with a full message, and the display goes on."""
     fifo = os.path.join(room, "midi")
     there = on_terminal("--file", tape(room, words("25", "10:00:00:00", 300)), "--system", "25", "--midi", fifo)
     there.until(r"MIDI: \S*midi: no such file or directory; it is tried each second")
@@ -105,7 +105,7 @@ def try_midi_port_that_vanishes(room):
 
 
 def try_midi_reader_that_stalls(room):
-    """A FIFO that is full is told, and the display goes on."""
+    """A FIFO that is full is reported, and the display goes on."""
     fifo = os.path.join(room, "midi")
     os.mkfifo(fifo)
     stalled = os.open(fifo, os.O_RDONLY | os.O_NONBLOCK)
@@ -116,7 +116,7 @@ def try_midi_reader_that_stalls(room):
     there = on_terminal("--file", tape(room, words("25", "10:00:00:00", 200)), "--system", "25", "--midi", fifo)
     text = there.until(r"midi took no more; it is tried each second")
     has(text, "HEARD")
-    # It is told once, however often it is tried.
+    # It is reported once, however often it is tried.
     there.look(3)
     assert there.grid.text().count("took no more") == 2, there.grid.text()
     there.send(signal.SIGINT)
@@ -155,7 +155,7 @@ def try_log(room):
 
 
 def try_log_on_a_full_disk(room):
-    """A log that can't be written is told, and the station goes on."""
+    """A log that can't be written is reported, and the station goes on."""
     log = os.path.join(room, "log")
     run = Runs("--file", tape(room, words("25", "10:00:00:00", 60)), "--log", log,
                preexec_fn=lambda: limit_files(100))
@@ -173,7 +173,7 @@ def limit_files(size):
 
 
 def try_log_of_a_bad_day(room):
-    """Of many events in a minute the first stand, and how many more there were."""
+    """Of many events in a minute the first are logged, and how many more there were."""
     parts = [part for number in range(60) for part in (words("25", f"{number % 24:02}:00:00:00", 5), silence(0.3))]
     log = os.path.join(room, "log")
     ended, _, _ = runs("--file", tape(room, *parts), "--system", "25", "--pace", "8", "--log", log)

@@ -1,4 +1,4 @@
-"""The parts of `tape` and `archive`: sound or video files told as reports, pages, tables and stamped copies.
+"""The parts of `tape` and `archive`: sound or video files as reports, pages, tables and stamped copies.
 
 The way of a tape: `source` (the file as it was named), `sound` (its tracks; `wave` and `decoder` under it),
 `slicing`, `track` and `spans` (what `tc` says of a track), `choice` with `front_ends` (which track, system and way of

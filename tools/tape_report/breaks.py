@@ -1,4 +1,4 @@
-"""What stands between the spans of a reading: code that is missing, labels that jump, turns, and changes of the
+"""What lies between the spans of a reading: code that is missing, labels that jump, turns, and changes of the
 count.
 """
 from dataclasses import dataclass, replace
@@ -7,7 +7,7 @@ from fractions import Fraction
 from .labels import LABELS_A_DAY, number_of
 from .spans import Reading, Span
 
-# Labels go on in time where they are as many as frames fit into the gap, to one, and to what a tape's speed may
+# Labels go on in time if they are as many as frames fit into the gap, to one, and to what a tape's speed may
 # drift.
 ONE_FRAME, DRIFT = 1, Fraction(1, 250)
 # Between words that follow one another there is one frame: with more, some are missing.
@@ -26,7 +26,7 @@ class Breaks:
 
 
 def steps_of(span: Span) -> int | None:
-    """How many labels lie from the span before to this one, where they can be counted."""
+    """How many labels lie from the span before to this one, if they can be counted."""
     if span.relation is None or not span.relation.startswith("step"):
         return None
     return int(span.relation.split()[1])
@@ -58,7 +58,7 @@ def without_misread(spans: list[Span], system: int, frame: Fraction | None) -> l
 
 
 def joined_to(before: Span, lone: Span, span: Span, system: int) -> Span:
-    """A span as it stands to the one before a single frame, where both run the same way in the same count."""
+    """A span as it relates to the one before a single frame, if both run the same way in the same count."""
     if (before.direction, before.is_drop) != (span.direction, span.is_drop) or lone.gap is None or span.gap is None:
         return span
     count = "30d" if span.is_drop else str(system)
@@ -68,7 +68,7 @@ def joined_to(before: Span, lone: Span, span: Span, system: int) -> Span:
 
 
 def breaks_of(reading: Reading) -> Breaks:
-    """The breaks of a reading. Where neither span has a length of its own, the frame is that of the whole reading."""
+    """The breaks of a reading. If neither span has a length of its own, the frame is that of the whole reading."""
     found = Breaks()
     spans = without_misread(reading.spans, reading.system, reading.frame)
     for before, span in zip(spans, spans[1:]):

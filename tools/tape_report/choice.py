@@ -1,4 +1,4 @@
-"""The time code of a sound: each track and each system is tried, and other front ends where little is heard; the best
+"""The time code of a sound: each track and each system is tried, and other front ends if little is heard; the best
 is chosen, with how sure that is."""
 from collections.abc import Sequence
 from dataclasses import dataclass, field
@@ -51,14 +51,14 @@ class Tried:
 
 @dataclass
 class Choice:
-    """The reading that was chosen, and what stands beside it."""
+    """The reading that was chosen, and what goes with it."""
 
     reading: Reading
     # Each track's readings by the front end that was best for it.
     others: list[Reading]
-    # The front ends that were tried on the track, where little was heard by the plain one.
+    # The front ends that were tried on the track, if little was heard by the plain one.
     tried: list[str] = field(default_factory=list)
-    # How many frames of it were heard before the best path was tried, where it was.
+    # How many frames of it were heard before the best path was tried, if it was.
     before_path: int | None = None
 
     @property
@@ -151,7 +151,7 @@ def choose(sound: Sound, wanted: Wanted, room: str, progress: Progress | None = 
     for track in sorted(found, key=lambda it: best(found[it]).merit(), reverse=True)[:MOST_TRACKS_TRIED]:
         readings = found[track]
         mine = best(readings)
-        # Where another track is heard well, one without any code is programme.
+        # If another track is heard well, one without any code is programme.
         if wanted.front is None and (mine.heard or not is_well):
             fronts = front_ends_for(sound, mine)
             found[track], tried[track] = tried_by_others(sound, readings, fronts, wanted, room)
@@ -162,7 +162,7 @@ def choose(sound: Sound, wanted: Wanted, room: str, progress: Progress | None = 
 
 
 def front_ends_for(sound: Sound, mine: Reading) -> list[FrontEnd]:
-    """What is worth a try on a track: all where more code is seen than heard; where nothing is heard of few intervals,
+    """What is worth a try on a track: all if more code is seen than heard; if nothing is heard of few intervals,
     a low threshold on a quiet one, and a filter where a hum may cover the code."""
     if hears_little(mine):
         return front_ends.others(mine.rate)
@@ -180,7 +180,7 @@ def tried_by_others(
     """The readings by the front end that hears most, and those that were tried."""
     tried = Tried()
     for front in fronts:
-        # It is slow: it is tried where there is code, of which frames are missing.
+        # It is slow: it is tried if there is code, of which frames are missing.
         if front.is_path and not is_code(best(readings)):
             continue
         tried.names.append(front.name)

@@ -41,7 +41,7 @@ class Mean:
 
 
     def tells(self, place: float) -> bool:
-        """Whether the line tells the height at a place."""
+        """Whether the line gives the height at a place."""
         mean = self.places / self.count
         deviation = math.sqrt(max(0.0, self.squares / self.count - mean * mean))
         return self.count >= LEAST and abs(place - mean) <= ASIDE * deviation + 1e-3
@@ -61,7 +61,7 @@ class Clean:
 
 
 def counts_of(moments: Sequence[float], half: float) -> list[int] | None:
-    """How many half cells each distance has, 1 or 2; None where one has neither."""
+    """How many half cells each distance has, 1 or 2; None if one has neither."""
     counts = [round((after - before) / half) for before, after in zip(moments, moments[1:])]
     return counts if all(1 <= count <= 2 for count in counts) else None
 
@@ -96,7 +96,7 @@ def sides_of(counts: Sequence[int]) -> list[int]:
 
 
 def clean_of(samples: Sequence[int], moments: Sequence[float], half: float) -> Clean | None:
-    """The clean sound between the first crossings and the last; None where these are not those of code."""
+    """The clean sound between the first crossings and the last; None if these are not those of code."""
     counts = counts_of(moments, half)
     if counts is None or len(moments) < LEAST_CROSSINGS:
         return None

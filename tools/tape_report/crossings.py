@@ -14,7 +14,7 @@ def sums_of(samples: Sequence[int], count: int) -> list[int]:
 
 
 def thresholds_of(samples: Sequence[float], front: FrontEnd) -> list[int]:
-    """The threshold at each sample: half of what the peak stands above the mean size, or a quarter of it."""
+    """The threshold at each sample: half of the height of the peak above the mean size, or a quarter of it."""
     part = 4 if front.is_deep else 2
     least = front.threshold
     peak = total = 0
@@ -29,7 +29,7 @@ def thresholds_of(samples: Sequence[float], front: FrontEnd) -> list[int]:
 
 
 def turns_of(samples: Sequence[float], bounds: Sequence[float], side: int, first: int) -> list[float]:
-    """The moments, in samples, at which a sound that stands on a side goes over wherever it reaches the other one at
+    """The moments, in samples, at which a sound that is on a side goes over wherever it reaches the other one at
     the bound there. A bound may lie below zero."""
     moments = []
     for place in range(first + 1, len(samples)):
@@ -42,7 +42,7 @@ def turns_of(samples: Sequence[float], bounds: Sequence[float], side: int, first
 
 
 def crossings_of(samples: Sequence[float], at: Sequence[float]) -> list[float]:
-    """The moments of the crossings, from the first place on at which the sound stands on a side."""
+    """The moments of the crossings, from the first place on at which the sound is on a side."""
     for place, (sample, bound) in enumerate(zip(samples, at)):
         if abs(sample) >= bound:
             return turns_of(samples, at, 1 if sample > 0 else -1, place)

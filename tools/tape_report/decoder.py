@@ -16,7 +16,7 @@ SECONDS = 60
 
 
 def probed(path: str, entries: str) -> dict[str, Any]:
-    """What ffprobe says of a file; nothing where it fails."""
+    """What ffprobe says of a file; nothing if it fails."""
     words = ["ffprobe", "-v", "error", "-show_entries", entries, "-of", "json", FILE + path]
     try:
         asked = subprocess.run(
@@ -34,7 +34,7 @@ def probed(path: str, entries: str) -> dict[str, Any]:
 
 
 class Decoder:
-    """A stream of a file, decoded into a pipe. How it ended is told when it has."""
+    """A stream of a file, decoded into a pipe. How it ended is known when it has."""
 
     def __init__(self, path: str, stream: int, filters: Sequence[str] = ()) -> None:
         self.notes = tempfile.TemporaryFile()
@@ -60,7 +60,7 @@ class Decoder:
         self.output = self.process.stdout
 
     def close(self) -> None:
-        """Ends it, where it has not ended by itself."""
+        """Ends it, if it has not ended by itself."""
         with contextlib.suppress(OSError):
             if self.output:
                 self.output.close()

@@ -10,7 +10,7 @@ from .row import Told
 # The form has three digits for an event and eight letters for a reel.
 MOST_EVENTS, REEL_LETTERS = 999, 8
 RECORD_BEGIN = {"30d": "01:00:00;00"}
-# A motion line tells a source that runs backward, in frames a second.
+# A motion line marks a source that runs backward, in frames a second.
 MOTION = "M2   {reel:<8}       -{frames:05.1f}                {begin}"
 
 
@@ -34,7 +34,7 @@ def edl(title: str, clips: list[Clip]) -> str:
 
 
 def edl_files(tapes: list[Told]) -> dict[str, str]:
-    """The lists by name: one a frame rate, and one more where there are more events than a list takes."""
+    """The lists by name: one a frame rate, and one more if there are more events than a list takes."""
     files = {}
     for form, clips in by_form(clips_of(tapes, REEL_LETTERS)).items():
         for number, begin in enumerate(range(0, len(clips), MOST_EVENTS), 1):

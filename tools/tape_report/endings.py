@@ -18,7 +18,7 @@ CAUGHT = (
     signal.SIGUSR2,
     signal.SIGALRM,
 )
-# The status of a signal that came. Where it comes in the middle of a callback of Python's, the exception is lost.
+# The status of a signal that came. If it comes in the middle of a callback of Python's, the exception is lost.
 told: list[int] = []
 
 
@@ -31,7 +31,7 @@ def end_by(number: int, _frame: FrameType | None) -> None:
 
 
 def end_if_told() -> None:
-    """Ends where a signal came."""
+    """Ends if a signal came."""
     if told:
         raise SystemExit(told[0])
 

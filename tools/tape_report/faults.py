@@ -1,4 +1,4 @@
-"""Why something could not be done, in words for the one who asked."""
+"""Why something could not be done, in words for the user."""
 
 
 class Fault(Exception):
@@ -18,7 +18,7 @@ class NoTarget(Fault):
 
 
 class NoStamp(Fault):
-    """A stamp is not written, since it would not be sure or could not stand in the copy."""
+    """A stamp is not written, since it would not be sure or could not be stored in the copy."""
 
 
 def reason_of(fault: Exception) -> str:

@@ -3,7 +3,7 @@ import os
 
 from .wave import LETTERS
 
-# By these endings a file is a tape; and whatever its name, where it begins as a sound file does.
+# By these endings a file is a tape; and whatever its name, if it begins as a sound file does.
 ENDINGS = set(
     ".wav .wave .bwf .rf64 .w64 .aif .aiff .aifc .flac .caf .au .mp3 .m4a .aac .ogg .opus .wma .mka"
     " .mov .mp4 .m4v .mxf .mkv .avi .mpg .mpeg .ts .m2ts .mts .dv .webm .wmv .gxf .lxf".split()
@@ -21,7 +21,7 @@ def is_tape(path: str) -> bool:
 
 
 def tapes_under(folder: str, but: str) -> list[str]:
-    """The tapes under a folder, as paths in it, in the order of their names. What stands in the output is none."""
+    """The tapes under a folder, as paths in it, in the order of their names. What is in the output is none."""
     found = []
     but = os.path.realpath(but)
     for place, folders, files in os.walk(folder):

@@ -29,7 +29,7 @@ class FrontEnd:
     is_path: bool = False
 
     def words(self) -> list[str]:
-        """What stands behind the track, or behind the rate."""
+        """What follows the track, or the rate."""
         if self.is_path:
             return [str(self.threshold), str(FINENESS), "path"]
         more = [str(self.sums), "deep"] if self.is_deep else [str(self.sums)] if self.sums > 1 else []
@@ -52,7 +52,7 @@ BEST_PATH = FrontEnd("best path", is_path=True)
 
 
 def others(rate: int) -> list[FrontEnd]:
-    """What is tried where the plain front end hears little, at this rate. A further one is one row more."""
+    """What is tried if the plain front end hears little, at this rate. A further one is one row more."""
     sums = max(2, min(MOST_SUMS, rate // RATE_OF_A_SUM))
     table = [
         FrontEnd(f"sums of {sums}", sums=sums),

@@ -12,7 +12,7 @@ from .store import Run
 
 
 def link(run: Run, name: str, part: str) -> str:
-    """The way to a tape's file from the page, or nothing where it has none."""
+    """The way to a tape's file from the page, or nothing if it has none."""
     if not os.path.exists(os.path.join(run.room(name), part)):
         return ""
     return "/".join(quote(os.fsencode(step)) for step in (store.TAPES, *name.split(os.sep), part))

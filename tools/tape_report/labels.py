@@ -28,7 +28,7 @@ def name_of(rate: Fraction) -> str:
 
 
 def number_of(count: str, label: str) -> int:
-    """How many labels of the count stand before the label in the day."""
+    """How many labels of the count come before the label in the day."""
     hours, minutes, seconds, frames = (int(it) for it in label.replace(";", ":").split(":"))
     whole = 60 * hours + minutes
     number = (60 * whole + seconds) * FRAMES[count] + frames

@@ -64,7 +64,7 @@ def crossings_in(words: array.array) -> int:
 
 
 def skip_to_samples(file: IO[bytes]) -> None:
-    """Reads a decoder's WAV file up to its first sample. Before it may stand chunks that say who wrote the file."""
+    """Reads a decoder's WAV file up to its first sample. Before it there may be chunks that say who wrote the file."""
     file.read(12)
     while len(head := file.read(8)) == 8:
         size = int.from_bytes(head[4:], "little")

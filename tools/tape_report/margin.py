@@ -39,7 +39,7 @@ def is_asked(sound: Sound, reading: Reading) -> bool:
 
 
 def margin_of(sound: Sound, reading: Reading) -> int | None:
-    """By how many decibels the noise could be louder, rounded down; None where that is not known."""
+    """By how many decibels the noise could be louder, rounded down; None if that is not known."""
     if not is_asked(sound, reading):
         return None
     half = float(reading.frame or 0) / FINENESS / HALVES
@@ -107,7 +107,7 @@ def holds(before: Sequence[int], clean: Clean, noise: Sequence[float], front: Fr
 
 def delay_of(clean: Clean, at: Sequence[int], loud: float) -> float | None:
     """The least delay within which the clean sound goes over, from the low bounds to the high ones, at each transition,
-    in ticks; None where it does not, or goes over elsewhere."""
+    in ticks; None if it does not, or goes over elsewhere."""
     lows, highs = [bound - loud for bound in at], [bound + loud for bound in at]
     first = next((place for place, each in enumerate(clean.samples) if abs(each) >= highs[place]), None)
     if first is None:

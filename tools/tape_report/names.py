@@ -1,4 +1,4 @@
-"""Names of files as text that is valid UTF-8 and stands on one line, whatever bytes they have."""
+"""Names of files as text that is valid UTF-8 and on one line, whatever bytes they have."""
 import os
 import re
 

@@ -92,7 +92,7 @@ def part(text: str) -> tuple[int, int]:
 
 
 def refuse(words: argparse.ArgumentParser, options: argparse.Namespace) -> None:
-    """Ends with status 2 where words do not go together."""
+    """Ends with status 2 if words do not go together."""
     if options.rate and options.system and system_of(RATES[options.rate]) != options.system:
         words.error(f"--rate {options.rate} is none of --system {options.system}")
     if options.path and (options.smooth is not None or options.deep):
@@ -124,7 +124,7 @@ def reading_of(options: argparse.Namespace) -> dict[str, Any]:
 
 
 def archive_reading_of(options: argparse.Namespace) -> dict[str, Any]:
-    """The same of an archive, with the word for margins where it is said."""
+    """The same of an archive, with the word for margins if it is said."""
     return reading_of(options) | ({"margin": True} if options.margin else {})
 
 
@@ -136,7 +136,7 @@ def wanted_of(reading: dict[str, Any]) -> tuple[Wanted, Fraction | None]:
 
 
 def front_end(reading: dict[str, Any]) -> FrontEnd | None:
-    """The front end that is given, where one is."""
+    """The front end that is given, if one is."""
     threshold, smooth, is_deep = reading["threshold"], reading["smooth"], reading["deep"]
     if reading["path"]:
         return FrontEnd("best path", threshold or front_ends.THRESHOLD, is_path=True)

@@ -15,7 +15,7 @@ from .spans import Reading, Span, Word, words_in
 SECONDS_OF_CODE = 2
 # By how much, at most, code at play speed differs from nominal.
 PLAY_SPEED = Fraction(1, 100)
-# The rates of which a system has two differ by 1/1001; a speed as near to one of them tells which.
+# The rates of which a system has two differ by 1/1001; a speed as near to one of them shows which.
 NEAR = Fraction(3, 10_000)
 
 
@@ -41,7 +41,7 @@ class Place:
 
     @property
     def rest(self) -> int:
-        """How many samples behind the beginning of that label the first sample lies; before it, where negative."""
+        """How many samples behind the beginning of that label the first sample lies; before it, if negative."""
         return self.reference - round(self.number * self.samples_a_second / self.rate)
 
     def label_at(self, seconds: Fraction, times: int) -> str:
@@ -146,7 +146,7 @@ def doubts_of(
 
 
 def place_of(choice: Choice, given: Fraction | None = None) -> Place | None:
-    """The place of the first sample. None where the tape does not run forward as its code begins."""
+    """The place of the first sample. None if the tape does not run forward as its code begins."""
     mine = choice.reading
     if not mine.spans or mine.spans[0].direction != "forward":
         return None

@@ -1,4 +1,4 @@
-"""The programs that the tools run: their own `tc`, and ffmpeg where it is installed."""
+"""The programs that the tools run: their own `tc`, and ffmpeg if it is installed."""
 import functools
 import mmap
 import os
@@ -8,7 +8,7 @@ from collections.abc import Iterator
 from .faults import NoProgram
 
 HERE = os.path.dirname(os.path.dirname(os.path.realpath(__file__)))
-# A name that stands in this `tc`, and in no other program of that name.
+# A name that is in this `tc`, and in no other program of that name.
 OWN_WORD = b"ltc-spans"
 ELF = b"\x7fELF"
 MISSING = "tc is not installed; TC names it"
@@ -16,7 +16,7 @@ OTHER = "is another program of that name (iproute2 has one) and is not run; TC=/
 
 
 def beside() -> list[str]:
-    """Where `tc` stands to this file: in the repository in bin/ beside tools/; installed, lib/NAME beside bin/NAME; of a
+    """Where `tc` is, seen from here: in the repository in bin/ beside tools/; installed, lib/NAME beside bin/NAME; of a
     package of another name than the program's, beside bin/tc.
     """
     top, name = os.path.split(HERE)

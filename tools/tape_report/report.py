@@ -61,12 +61,12 @@ def sound_line(sound: Sound) -> str:
 
 
 def early(sound: Sound) -> str:
-    """Said where a level is that of the first minutes alone."""
+    """Said if a level is that of the first minutes alone."""
     return " in the first ten minutes" if sound.seconds is None or sound.seconds > LEVEL_SECONDS else ""
 
 
 def rate_line(choice: Choice, place: Place | None, is_given: bool) -> Iterator[str]:
-    """Said where the words do not decide the rate."""
+    """Said if the words do not decide the rate."""
     mine = choice.reading
     played = played_rate(mine, mine.spans[0])
     if played is None or mine.system == 25 and not is_given:
@@ -148,7 +148,7 @@ def first_lines(place: Place | None) -> Iterator[str]:
 
 
 def margin_lines(margin: int | None) -> Iterator[str]:
-    """Said where all words were read and some decibels are left."""
+    """Said if all words were read and some decibels are left."""
     if margin:
         more = ", or more" if margin == MOST_DECIBELS else ""
         yield f"margin        every word was read; the noise could be some {margin} dB louder{more}"

@@ -10,7 +10,7 @@ from .place import Place, count_of, rate_of
 from .sound import Sound
 from .spans import Reading
 
-# The version of the JSON objects: it grows where a field changes its meaning or goes.
+# The version of the JSON objects: it grows if a field changes its meaning or goes.
 JSON_VERSION = 1
 CODE, NONE, FAILED, MISSING = "code", "none", "failed", "missing"
 STATES = {CODE: "with code", NONE: "without", FAILED: "failed", MISSING: "not read"}
@@ -18,7 +18,7 @@ STATES = {CODE: "with code", NONE: "without", FAILED: "failed", MISSING: "not re
 
 @dataclass
 class Row:
-    """What the table says of a tape. Where a field is not known it is empty."""
+    """What the table says of a tape. If a field is not known it is empty."""
 
     file: str
     status: str = MISSING
@@ -56,7 +56,7 @@ COLUMNS = [each.name for each in fields(Row)]
 
 @dataclass
 class Told:
-    """A row with what stands behind it: the spans of the tape, and those of its other tracks."""
+    """A row with what goes with it: the spans of the tape, and those of its other tracks."""
 
     row: Row
     rate_of_samples: int = 0

@@ -18,7 +18,7 @@ from .track import track_samples
 from .spans import Reading, spans_in
 
 # Under this tolerance sound is read: the command that prints its words, and the word of `ltc-spans`. With the last word
-# each word is asked for a witness.
+# each word needs a witness.
 READ, TOLERANCE, WITNESS = "ltc-rough", "rough", "firm"
 PIECE = 1 << 20
 # A decoder that ends at least these seconds before the length that was said has ended early.
@@ -104,7 +104,7 @@ class Slicing:
         self.input.close()
 
     def ended(self, is_empty: bool) -> str:
-        """What is to be noted of how it went. Raises where nothing was read."""
+        """What is to be noted of how it went. Raises if nothing was read."""
         status = self.slicer.wait()
         self.notes.seek(0)
         note = self.notes.read(65_536).decode("utf-8", "replace").strip().replace("\n", "; ")
@@ -118,14 +118,14 @@ class Slicing:
         return f"the file ends inside its samples, at byte {wave.length}" if is_cut and wave else note
 
     def decoder_ended(self, decoder: Decoder, note: str, is_empty: bool) -> str:
-        # It has no reader any more, where `tc` gave up.
+        # It has no reader any more, if `tc` gave up.
         self.input.output.close()
         status, seconds, said = decoder.wait(), decoder.seconds() or 0.0, decoder.note()
         has_failed = status != 0 or said != ""
         told = f"ffmpeg: {said or f'it ended with status {status}'}" if has_failed else ""
         if is_empty or status != 0 and seconds == 0:
             raise NoSound(told or note or "no sound came")
-        # The length of the whole may be that of a picture: it counts where the decoder failed.
+        # The length of the whole may be that of a picture: it counts if the decoder failed.
         whole = self.stream.seconds or (self.sound.seconds if has_failed else None)
         is_early = whole is not None and seconds < whole - EARLY_SECONDS
         read_to = f"read to {minutes(seconds)} of {minutes(whole)}" if is_early and whole else ""
@@ -156,7 +156,7 @@ def read_track(
     try:
         for data in slicing.pieces(progress):
             for reader in readers:
-                # The system stands in byte 5 of the header, and nothing else depends on it.
+                # The system is in byte 5 of the header, and nothing else depends on it.
                 reader.take(data[:5] + bytes([reader.system]) + data[6:] if is_empty else data)
             is_empty = False
         note = slicing.ended(is_empty)
@@ -171,7 +171,7 @@ def read_track(
 
 
 def told(reader: Reader, track: int, rate: int, front: FrontEnd, note: str) -> Reading:
-    """What a reader told."""
+    """What a reader wrote, as a reading."""
     spans, ticks = spans_in(reader.lines(0))
     reading = Reading(
         track,
@@ -194,7 +194,7 @@ def told(reader: Reader, track: int, rate: int, front: FrontEnd, note: str) -> R
 
 
 def progress_shown(sound: Sound, name: str) -> Progress | None:
-    """A line on a terminal that says how far a track is read, where standard error is one."""
+    """A line on a terminal that says how far a track is read, if standard error is one."""
     if not sys.stderr.isatty() or not sound.seconds:
         return None
 

@@ -22,7 +22,7 @@ class Span:
     begin: int
     end: int
     speed: int
-    # What stands between the span before and this one: ticks, and `count`, `turn` or `step K`.
+    # What lies between the span before and this one: ticks, and `count`, `turn` or `step K`.
     gap: int | None = None
     relation: str | None = None
 
@@ -123,7 +123,7 @@ def spans_in(lines: Iterable[str]) -> tuple[list[Span], int]:
 
 
 def word_of(line: str) -> Word | None:
-    """The word of a line, where it is one."""
+    """The word of a line, if it is one."""
     parts = line.split()
     if not parts or parts[0] != "word":
         return None

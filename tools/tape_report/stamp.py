@@ -1,4 +1,4 @@
-"""A copy of a file with the timecode of its first sample; only where that is sure, and only what was read back."""
+"""A copy of a file with the timecode of its first sample; only if that is sure, and only what was read back."""
 import os
 from collections.abc import Iterable
 

@@ -1,4 +1,4 @@
-"""A copy of a MOV, MP4 or MXF file with its timecode, by ffmpeg, asked for what it has before it gets its name."""
+"""A copy of a MOV, MP4 or MXF file with its timecode, by ffmpeg, read back before it gets its name."""
 import shutil
 import subprocess
 from fractions import Fraction
@@ -16,7 +16,7 @@ NO_PICTURE = (
 
 
 def ffmpeg(*words: str) -> str:
-    """What ffmpeg writes to its output. Raises where it fails."""
+    """What ffmpeg writes to its output. Raises if it fails."""
     if not shutil.which("ffmpeg"):
         raise NoStamp("ffmpeg is not installed")
     ran = subprocess.run(
@@ -62,7 +62,7 @@ def timecode_in(path: str) -> str | None:
 
 
 def sums_of(path: str, is_decoded: bool) -> list[str]:
-    """A sum of each sound: of its packets as they stand, or of its samples."""
+    """A sum of each sound: of its packets as they are, or of its samples."""
     how = [] if is_decoded else ["-c", "copy"]
     told = ffmpeg("-i", FILE + path, "-map", "0:a", *how, "-f", "streamhash", "-hash", "md5", "pipe:1")
     return [line.split("=")[-1] for line in told.split()]

@@ -8,11 +8,11 @@ from . import ixml
 from .faults import NoStamp
 from .wave import NO_SIZE, Chunk, Wave, wave_of
 
-# Where the reference stands in `bext`: behind description, originator, its reference, date and time.
+# Where the reference is in `bext`: behind description, originator, its reference, date and time.
 REFERENCE_AT = 256 + 32 + 32 + 10 + 8
 BEXT_SIZE = 602
 PIECE = 1 << 20
-# The sizes of a file with `ds64` stand there: of the whole, of `data`, and how many samples it has.
+# The sizes of a file with `ds64` are there: of the whole, of `data`, and how many samples it has.
 LONG_SIZES = struct.Struct("<QQQ")
 
 
@@ -68,7 +68,7 @@ def stamp_wave(path: str, form: Wave, reference: int, out: IO[bytes]) -> None:
                 write_chunk(out, b"bext", bext_of(reference))
                 has_bext = True
             copy_chunk(file, chunk, form.length, rate, reference, out)
-        # What stands behind the last chunk and is none.
+        # What comes behind the last chunk and is none.
         for data in pieces(file, min(form.chunks[-1].end, form.length), form.length):
             out.write(data)
     lengthen(out, form)
@@ -80,7 +80,7 @@ def copy_chunk(file: IO[bytes], chunk: Chunk, length: int, rate: int, reference:
     elif chunk.name == b"iXML":
         write_chunk(out, chunk.name, ixml.stamped(body_of(file, chunk), reference, rate))
     else:
-        # With the eight bytes before it, and the byte behind it where the size is odd and it is there.
+        # With the eight bytes before it, and the byte behind it if the size is odd and it is there.
         for data in pieces(file, chunk.place - 8, min(chunk.end, length)):
             out.write(data)
 
@@ -90,7 +90,7 @@ def write_chunk(out: IO[bytes], name: bytes, body: bytes) -> None:
 
 
 def lengthen(out: IO[bytes], form: Wave) -> None:
-    """Says in the head how long the copy is, where the file says its length."""
+    """Says in the head how long the copy is, if the file says its length."""
     more = out.tell() - form.length
     sizes = form.first(b"ds64")
     if form.letters != b"RIFF" and form.riff_size == NO_SIZE:
@@ -103,7 +103,7 @@ def lengthen(out: IO[bytes], form: Wave) -> None:
 
 
 def add_at(out: IO[bytes], place: int, form: str, more: int) -> None:
-    """Adds to a number that stands in a file, where it is not zero, which says nothing."""
+    """Adds to a number in a file, unless it is zero, which says nothing."""
     out.seek(place)
     number = struct.unpack(form, out.read(struct.calcsize(form)))[0]
     out.seek(place)

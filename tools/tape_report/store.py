@@ -1,4 +1,4 @@
-"""The output of an archive: whose it is, and what stands of each tape. A tape's row is written last, so with it the
+"""The output of an archive: whose it is, and what it has of each tape. A tape's row is written last, so with it the
 tape
 is done."""
 import contextlib
@@ -51,7 +51,7 @@ def put_run(run: Run) -> None:
 
 
 def prepare(run: Run, goes_on: bool, force: bool) -> None:
-    """Makes the output, where nothing that stands there is harmed by it."""
+    """Makes the output, if nothing that is there is harmed by it."""
     folder, out = os.path.realpath(run.folder), os.path.realpath(run.out)
     if os.path.commonpath([folder, out]) == out:
         raise NoTarget(f"{shown(run.out)}: the tapes lie in it; the reports want a folder of their own")
@@ -73,7 +73,7 @@ def prepare(run: Run, goes_on: bool, force: bool) -> None:
 
 
 def state_of(run: Run, name: str) -> dict[str, Any]:
-    """By what a tape that changed is told from one that was read."""
+    """What shows whether a tape changed since it was read."""
     there = os.stat(run.path(name))
     return {"size": there.st_size, "modified": there.st_mtime_ns, "reading": run.reading}
 
@@ -84,7 +84,7 @@ def put_row(run: Run, name: str, state: dict[str, Any] | None, told: Told) -> No
 
 
 def stored(run: Run, name: str) -> tuple[dict[str, Any] | None, Told] | None:
-    """What stands of a tape: its state when it was read, and what was told of it."""
+    """What is stored of a tape: its state when it was read, and what was found in it."""
     try:
         with open(os.path.join(run.room(name), ROW), encoding="ascii") as file:
             said = json.load(file)

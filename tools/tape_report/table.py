@@ -1,4 +1,4 @@
-"""The tables of an archive, of what stands of each tape: the same folder gives the same, whatever the order of the
+"""The tables of an archive, of what is stored of each tape: the same folder gives the same, whatever the order of the
 jobs.
 """
 import csv
@@ -25,7 +25,7 @@ def table(rows: list[Row]) -> str:
 
 
 def all_told(run: Run, names: list[str]) -> list[Told]:
-    """What stands of each tape; of one that was not read that it is missing."""
+    """What is stored of each tape; of one that was not read that it is missing."""
     found = (store.stored(run, name) for name in names)
     return [it[1] if it else Told(Row(shown(name))) for it, name in zip(found, names)]
 

@@ -1,4 +1,4 @@
-"""The tool for tapes: each file is told, and the page, picture and copy of one are written where they are asked for.
+"""The tool for tapes: each file is reported, and the page, picture and copy of one are written if the options say so.
 """
 import argparse
 import os
@@ -59,7 +59,7 @@ def tell_tape(options: argparse.Namespace, tape: Tape, is_first: bool) -> int:
 
 
 def write_asked(options: argparse.Namespace, tape: Tape, text: str) -> None:
-    """The files that were asked for."""
+    """The files that the options name."""
     tapes, mine = [tape.source.tape], tape.choice.reading
     if options.page:
         targets.write_text(options.page, tape.page(text), options.force, tapes)

@@ -1,4 +1,4 @@
-"""Files that are written: nothing that exists is harmed, and what stands under its name is whole.
+"""Files that are written: nothing that exists is harmed, and what has its name is whole.
 
 A file is written under a name of its own beside its target, made so that no file had it before, and gets the target's
 name when it is whole. As long as its run lives it is locked; what a dead run left is taken away by the next run that
@@ -42,7 +42,7 @@ def identity(path: str | int) -> Identity:
 
 
 def refuse(path: str, force: bool, tapes: Iterable[Identity] = ()) -> None:
-    """Raises where a file of this name must not be written: a tape itself and a folder never, and what exists by
+    """Raises if a file of this name must not be written: a tape itself and a folder never, and what exists by
     force alone.
     """
     if not os.path.lexists(path):
@@ -155,7 +155,7 @@ def take_one_away(part: str, tapes: set[Identity]) -> None:
 
 
 def give_name(part: str, path: str, force: bool) -> None:
-    """The name, to a file that is whole. What stands there meanwhile is replaced by force alone."""
+    """The name, to a file that is whole. What has it meanwhile is replaced by force alone."""
     if force:
         os.replace(part, path)
         return

@@ -33,6 +33,6 @@ def fill(sound: Sound, source: Input, track: int, writing: int) -> None:
 
 
 def samples_left(sound: Sound, source: Input, block: int) -> int | None:
-    """How many blocks are samples; None where all to the end are."""
+    """How many blocks are samples; None if all to the end are."""
     data = sound.wave.data if sound.wave and source.decoder is None else None
     return data.there // block if data is not None else None

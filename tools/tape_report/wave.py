@@ -1,11 +1,11 @@
-"""The chunks of a WAV, BWF, RF64 or BW64 file. A header of any bytes is read, and what is not right in it is told."""
+"""The chunks of a WAV, BWF, RF64 or BW64 file. A header of any bytes is read, and what is wrong in it is reported."""
 import os
 import struct
 from dataclasses import dataclass, field
 from typing import BinaryIO
 
 LETTERS = (b"RIFF", b"RF64", b"BW64")
-# A size that says nothing: it stands in `ds64`, or the writer did not know it.
+# A size that says nothing: it is in `ds64`, or the writer did not know it.
 NO_SIZE = 0xFFFFFFFF
 # What writers to a pipe leave for the size of `data`, and `tc` takes for a length that is not known.
 OPEN_TO_TC = range(0x7FFFF000, 0x80000000)
@@ -18,7 +18,7 @@ MOST_CHUNKS = 10_000
 
 @dataclass(frozen=True)
 class Chunk:
-    """A chunk: its letters, the place of its first byte, its size as it stands, and as much of it as there is."""
+    """A chunk: its letters, the place of its first byte, its size as the file has it, and as much of it as there is."""
 
     name: bytes
     place: int
@@ -43,7 +43,7 @@ class Form:
 
     @property
     def is_whole(self) -> bool:
-        """Whole numbers that `tc` reads as they stand."""
+        """Whole numbers that `tc` reads as they are."""
         return (
             self.code == PCM
             and 1 <= self.tracks <= 64

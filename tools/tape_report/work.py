@@ -1,4 +1,4 @@
-"""A tape read, and what is asked for of it."""
+"""A tape read, and what the options ask of it."""
 import contextlib
 import tempfile
 from collections.abc import Iterator
@@ -17,7 +17,7 @@ from .source import Source
 
 @dataclass
 class Tape:
-    """A tape that was read, as long as its words stand."""
+    """A tape that was read, as long as its words are kept."""
 
     name: str
     source: Source
@@ -27,7 +27,7 @@ class Tape:
     is_rate_given: bool
 
     def report(self, has_margin: bool = False) -> str:
-        """The report, with the margin of the tape where it is asked for: that takes about a second."""
+        """The report, with the margin of the tape if `has_margin`: that takes about a second."""
         mine = self.choice.reading
         if self.choice.is_found:
             level = levels.level_of(self.sound, mine.track)
@@ -49,7 +49,7 @@ class Tape:
 def tape_read(
     source: Source, name: str, wanted: Wanted, rate: Fraction | None, is_shown: bool = False
 ) -> Iterator[Tape]:
-    """Reads a tape. Its words stand in a folder that goes with the block."""
+    """Reads a tape. Its words are in a folder that goes with the block."""
     with tempfile.TemporaryDirectory() as room:
         sound = sound_of(source)
         if wanted.track and wanted.track > sound.tracks:

@@ -20,7 +20,7 @@ def video(room, name, made, rate="25", coded=("mpeg4", "pcm_s16le"), offset="0")
 
 
 def timecode_in(path):
-    """The timecode of a container as ffprobe tells it, of its streams or of the whole."""
+    """The timecode of a container as ffprobe gives it, of its streams or of the whole."""
     entries = "stream_tags=timecode:format_tags=timecode"
     _, told, _ = run("ffprobe", "-v", "error", "-show_entries", entries, "-of", "csv=p=0", path)
     return next(iter(re.findall(r"\d\d:\d\d:\d\d[:;]\d\d", told)), None)
@@ -76,7 +76,7 @@ def try_pictures(room):
     tape(video(room, "late.mov", made, offset="0.016"), "--stamp", copy, "--force")
     assert timecode_in(copy) == "09:59:59:20", timecode_in(copy)
     made = code(48_000, intervals("25", "10:00:00:00", 60), lead=9600)
-    # What stood there before is replaced.
+    # What was there before is replaced.
     for form, coded in (("mov", ("mpeg4", "pcm_s16le")), ("mxf", ("mpeg2video", "pcm_s16le"))):
         path, before = video(room, "plain." + form, made, coded=coded), os.path.join(room, "before." + form)
         words = ["ffmpeg", "-v", "error", "-i", path, "-map", "0:v", "-map", "0:a", "-c", "copy"]

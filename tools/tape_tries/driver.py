@@ -16,7 +16,7 @@ def attempts(package, subjects):
 
 
 def run(package, subjects, words):
-    """Runs all tries, or those whose name has one of the words; 1 where one failed."""
+    """Runs all tries, or those whose name has one of the words; 1 if one failed."""
     passed, failed = 0, 0
     for name, attempt in attempts(package, subjects):
         if words and not any(word in name for word in words):

@@ -53,7 +53,7 @@ def try_archive(room):
 
 
 def try_resume(room):
-    """A run that is killed goes on where it was."""
+    """A run that is killed goes on from where it was."""
     want("parallel")
     folder = archive_of(room)
     out = os.path.join(room, "out")

@@ -1,4 +1,4 @@
-"""Nothing that exists is harmed, and nothing half-written stands after any end but `kill -9`."""
+"""Nothing that exists is harmed, and nothing half-written is left after any end but `kill -9`."""
 import contextlib
 import fcntl
 import os
@@ -32,7 +32,7 @@ def parts_in(room):
 
 
 def try_name_of_a_half(room):
-    """A tape whose name is that of another's half-written copy stands after the copy is made."""
+    """A tape whose name is that of another's half-written copy is still there after the copy is made."""
     path, before = plain(room, "z.wav.part")
     copy = os.path.join(room, "z.wav")
     tape(path, "--stamp", copy)
@@ -96,7 +96,7 @@ def try_targets_that_stand(room):
 
 
 def try_devices(room):
-    """A device stands after it was a target, also by force."""
+    """A device is still there after it was a target, also by force."""
     path, _ = plain(room)
     device = os.path.join(room, "null")
     try:

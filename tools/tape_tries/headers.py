@@ -27,7 +27,7 @@ def header_by_chance(base, chance):
 
 
 def try_headers(room):
-    """Files whose headers are fuzzed: each ends with a status of its own, and a line where it fails."""
+    """Files whose headers are fuzzed: each ends with a status of its own, and a line if it fails."""
     made = code(48_000, intervals("25", "10:00:00:00", 60), lead=480)
     path = wav(os.path.join(room, "whole.wav"), 48_000, [made, made], 16, bext(), behind=ixml())
     with open(path, "rb") as file:

@@ -114,7 +114,7 @@ def try_ale(room):
 
 
 def try_index(room):
-    """The page of an archive has the table as JSON, and wants no network; the objects are those of the table."""
+    """The page of an archive has the table as JSON, and needs no network; the objects are those of the table."""
     out = lists_of(room)
     with open(os.path.join(out, "index.html"), encoding="utf-8") as file:
         text = file.read()
@@ -160,7 +160,7 @@ def try_index_in_browser(room):
 
 
 def try_several_files(room):
-    """Each of several files is told, and the status is the worst."""
+    """Each of several files is reported, and the status is the worst."""
     made = code(48_000, intervals("25", "10:00:00:00", 60))
     one, two = (wav(os.path.join(room, name), 48_000, [made]) for name in ("one.wav", "two.wav"))
     out, _ = tape(one, two)

@@ -27,7 +27,7 @@ def hosts(room):
             f"HostKey {where}/host\nAuthorizedKeysFile {where}/key.pub\nPermitRootLogin prohibit-password\n"
             "StrictModes no\nUsePAM no\nPasswordAuthentication no\nPidFile none\nMaxStartups 100\n"
         )
-    # Of root the server wants an empty folder of this name, which Debian makes when it starts one.
+    # As root the server needs an empty folder of this name, which Debian makes when it starts one.
     wants_folder = os.getuid() == 0 and not os.path.exists("/run/sshd")
     if wants_folder:
         os.mkdir("/run/sshd", 0o755)

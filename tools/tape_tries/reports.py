@@ -68,7 +68,7 @@ def try_options(room):
 
 
 def margin_told(path, *words):
-    """The decibels of the margin that the report tells; None where it tells none."""
+    """The decibels of the margin in the report; None if there is none."""
     out, _ = tape(path, *words)
     found = re.search(r"\nmargin        every word was read; the noise could be some (\d+) dB louder", out)
     return int(found[1]) if found else None
@@ -88,7 +88,7 @@ def try_margin(room):
     louder = with_noise("louder.wav", 900 * 10 ** (told[2] / 20))
     out, _ = tape(louder, "--csv")
     assert [row["heard"] for row in csv.DictReader(out.splitlines())] == ["60"], out
-    # Not where a word is missing, where the noise covers words, of few words, or by a table.
+    # Not if a word is missing, if the noise covers words, of few words, or by a table.
     frame = 48_000 // 25
     holed = made[: 30 * frame] + [0] * frame + made[31 * frame :]
     assert margin_told(wav(os.path.join(room, "holed.wav"), 48_000, [holed])) is None
@@ -156,7 +156,7 @@ def try_hiss_and_hum(room):
 
 
 def try_front_ends(room):
-    """Where little is heard the other front ends are tried, and the report says which was taken."""
+    """If little is heard the other front ends are tried, and the report says which was taken."""
     hissy, hummed = hissy_and_hummed(room)
     for path, taken in ((hissy, "(deep, )?sums of 3"), (hummed, "deep|sums of 3|high-pass")):
         assert heard_of(path) > 95, f"{path}: {heard_of(path)} frames"
@@ -199,7 +199,7 @@ def try_best_path(room):
 
 
 def try_tracks(room):
-    """Each track's own code is told, where they differ; the same code on two is told once."""
+    """Each track's own code is reported, if they differ; the same code on two is reported once."""
     one, two = (code(48_000, intervals("25", label, 60)) for label in ("10:00:00:00", "20:00:00:00"))
     out, _ = tape(wav(os.path.join(room, "two.wav"), 48_000, [one, two, one]))
     has(out, "track 2       25 frames a second, 20:00:00:00 to 20:00:02:0", "track 1, 25 frames")
@@ -256,7 +256,7 @@ def try_false_jumps(room):
 
 
 def try_no_ffmpeg(room):
-    """Where ffmpeg is not installed WAV files are read as ever, and others are refused with a word."""
+    """If ffmpeg is not installed WAV files are read as ever, and others are refused with a word."""
     path = wav(os.path.join(room, "sound.wav"), 48_000, [code(48_000, intervals("25", "10:00:00:00", 60))])
     bare = os.path.join(room, "bin")
     os.mkdir(bare)
@@ -309,7 +309,7 @@ def try_bad_files(room):
 
 
 def try_cut_short(room):
-    """What was heard before the cut is told, with the note."""
+    """What was heard before the cut is reported, with the note."""
     path = wav(os.path.join(room, "short.wav"), 48_000, [code(48_000, intervals("25", "10:00:00:00", 100))])
     whole = open(path, "rb").read()
     with open(path, "wb") as out:
@@ -333,7 +333,7 @@ def try_page(room):
     assert not re.search(r"https?://|src=|@import", text), "the page wants a network"
 
 
-# A page tells what the pointer would be told at a place, and whether anything stands out of its window.
+# A page shows the hint that the pointer would get at a place, and whether anything is out of its window.
 ASKED = """<script>
 const told = document.createElement("pre");
 for (const s of PLACES) { tell(s); told.textContent += s + ": " + hint.textContent + "\\n"; }

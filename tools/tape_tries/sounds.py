@@ -86,7 +86,7 @@ def try_every_form(room):
 
 
 def try_decoder_that_fails(room):
-    """A decoder that ends early is told in the report, with how far it came; one that gives nothing fails."""
+    """A decoder that ends early is named in the report, with how far it came; one that gives nothing fails."""
     made = code(48_000, intervals("25", "10:00:00:00", 300))
     path = wav(os.path.join(room, "plain.wav"), 48_000, [made])
     want("ffmpeg", "ffprobe", "flac")

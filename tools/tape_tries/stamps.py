@@ -27,7 +27,7 @@ LABELS_A_DAY = {"24": 2_073_600, "25": 2_160_000, "30": 2_592_000, "30d": 2_589_
 
 
 def number_of(count, label):
-    """How many labels stand before it, as `tc` counts them."""
+    """How many labels come before it, as `tc` counts them."""
     mark = ";" if count == "30d" else ":"
     return int(run(TC, "number", count, label[:8] + mark + label[9:])[1].split()[-1])
 
@@ -40,7 +40,7 @@ def off_by(room, samples, rate, lead, label):
     path, copy = wav(os.path.join(room, "place.wav"), samples, [made]), os.path.join(room, "copy.wav")
     out, _ = tape(path, "--stamp", copy, "--force")
     has(out, f"{name} frames a second")
-    # Before the first word stand two cells, at whose end reading begins.
+    # Before the first word there are two cells, at whose end reading begins.
     wanted = round((number_of(count, label) - 2 / 80) * samples / frames) - lead
     got, data = reference_in(copy)
     assert data == packed([made], 16), "the samples of the copy"
@@ -121,7 +121,7 @@ def stamped(room, path, status=0, *words):
 
 
 def try_bext_anywhere(room):
-    """An old `bext` is replaced where it stands, before the samples or behind them, and there is no second one."""
+    """An old `bext` is replaced where it is, before the samples or behind them, and there is no second one."""
     made = code(48_000, intervals("25", "10:00:00:00", 60), lead=480)
     for name, where in (("before", {"chunks": bext()}), ("behind", {"behind": bext()}), ("none", {})):
         path = wav(os.path.join(room, name + ".wav"), 48_000, [made], **where)
@@ -196,7 +196,7 @@ def try_one_number(room):
 
 
 def try_sureness(room):
-    """What is not sure has no stamp: little code, a rate that the speed does not tell, labels that fit two systems."""
+    """What is not sure has no stamp: little code, a rate that the speed does not show, labels that fit two systems."""
     lone = code(48_000, intervals("25", "10:00:00:00", 40), lead=480)
     _, notes = stamped(room, wav(os.path.join(room, "little.wav"), 48_000, [lone]), 3)
     has(notes, "less than two seconds")
