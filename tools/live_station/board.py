@@ -51,7 +51,7 @@ class Board:
         self.reported.put(Happening(kind, "", text))
 
     def look(self) -> None:
-        """Tells what other threads reported."""
+        """Shows what other threads reported."""
         while not self.reported.empty():
             happening = self.reported.get_nowait()
             self.happen(happening.kind, happening.label, happening.text)

@@ -86,7 +86,7 @@ class Midi:
         self.say(f"{shown(self.path)} {fault}; it is tried each second")
 
     def say(self, text: str) -> None:
-        """Tells a state that is new."""
+        """Shows a state that is new."""
         if text != self.state:
             self.state = text
             self.tell(text)

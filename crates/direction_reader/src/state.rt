@@ -10,7 +10,7 @@ use cell_tracker::{AtCell, FromAtCell, FromHunting, FromMidCell, Hunting, MidCel
 use limits::MAX_INTERVAL;
 
 /// A state of the tracker, in numbers, so that no profile is written with each cell. Most intervals find
-/// it at the end of a cell, and the compiler tests the first variant first, unless another one's arm
+/// it at the end of a cell, and the compiler tests the first variant first if another one's arm
 /// comes first in a `match`.
 #[derive(Clone, Copy)]
 pub enum State {

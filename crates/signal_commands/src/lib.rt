@@ -1,6 +1,6 @@
 //! The commands that read what is no interval file: samples of sound (`pcm-ltc`), sound files (`wav-ltc`),
 //! MIDI bytes (`mtc-read`), the lines of vertical interval time code (`vitc-read`) and the rows of a picture that
-//! that they are in (`luma-vitc`).
+//! they are in (`luma-vitc`).
 //!
 //! What this crate promises, for all sources and sinks:
 //! - `pcm-ltc` writes the interval file of the distances between the crossings of the samples

@@ -79,7 +79,7 @@ impl SoundReader {
         self.settings
     }
 
-    /// Tells whether it takes no more: it was given as many samples as it takes, or they had as many
+    /// Whether it takes no more: it was given as many samples as it takes, or they had as many
     /// intervals as a recording may have.
     pub fn is_full(&self) -> bool
         ensures { result ≡ is_full self.now }
@@ -166,7 +166,7 @@ impl SoundReader {
     }
 }
 
-/// Tells whether there is no event.
+/// Whether there is no event.
 fn are_none(events: &Events) -> bool
     ensures { IsTrue result ↔ events.now ≡ no_events }
 {
