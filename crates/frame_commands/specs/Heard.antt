@@ -1,5 +1,5 @@
--- Which events are heard of a list of intervals: those of a reading that tells each word, or of one that asks each word
--- for a witness, without the words that are alone.
+-- Which events are heard of a list of intervals: those of a reading that gives each word, or of one that needs for each
+-- word a witness, without the words that are alone.
 use Rattle.std.specs.Prelude.{◌≡◌, ℕ, ◌+◌, ◌*◌, ◌≤◌, List, [], ◌∷◌, ◌++◌, length, map, sum}
 use Rattle.limits.specs.declared.recording.TheConstants.{MAX_INTERVAL}
 use Rattle.biphase.specs.declared.profile.Profile.{Profile}

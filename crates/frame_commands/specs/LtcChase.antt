@@ -46,9 +46,9 @@ chased_recording c = along_frames c.flight (lines_of_steps c)
 
 -- each loss has its cause, by its kind: no code exactly where the frame of the step is gone or has another count; and
 -- out of the window only where the frame was heard and does not join the one before it, or where the transport slipped
--- by 25 subframes or more in the step before. So where each frame behind the first is invented or joined and has the
+-- by 25 subframes or more in the step before. So if each frame behind the first is invented or joined and has the
 -- chase's count, and the transport slips by at most 24 subframes, no step has a loss, and from the first step that
--- ends Locked on each error is at most half a frame; and where it slips by at most 8, the error is at most 40
+-- ends Locked on each error is at most half a frame; and if it slips by at most 8, the error is at most 40
 -- subframes there, then 24, and then 8
 pub record LosesWithCause (c : Chasing) (frames : List Frame) : Type 0 where
   pub cause : (j : ℕ) (line : Traced) (loss : Loss) → slice_get (steps_over c frames) j ≡ Some line
@@ -71,8 +71,8 @@ pub record LosesWithCause (c : Chasing) (frames : List Frame) : Type 0 where
       → unsigned_abs line.report.error ≤ lock_bound (j - first)
 
 -- what was written is the trace of the chase over the frames of the recording, in which each loss has its cause: over
--- all of them, where they are within the limit, and else over the first. Where the limit is not passed before the end,
--- the frames of the words that are told by then are within it. The heard frames are the words of the recording, between
+-- all of them, if they are within the limit, and else over the first. If the limit is not passed before the end,
+-- the frames of the words given by then are within it. The heard frames are the words of the recording, between
 -- two of them and after the last at most the limit is invented, and these words tell the tape
 pub record FollowsTheCode (c : Chasing) (input : Recording) (written : List ℕ) : Type 0 where
   pub header : IntervalHeader

@@ -23,7 +23,7 @@ time_code flight = along_frames flight messages_of_frames
 
 -- what was written are the messages of the frames of the recording. The heard frames are its words under the tolerance
 -- of the flight, between two of them and after the last no more than the limit is invented, and these words tell the
--- tape. What is read of the messages is told of `mtc-read`
+-- tape. What is read of the messages is said at `mtc-read`
 pub record SendsTheWords (flight : Flight) (bytes written : List ℕ) : Type 0 where
   pub header : IntervalHeader
   pub begins : (recording_of bytes).header ≡ Some header

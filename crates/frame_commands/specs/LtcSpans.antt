@@ -41,7 +41,7 @@ abbrev pub spanned_recording : Flight → Printing
 spanned_recording flight = along_frames flight lines_of_spans
 
 -- what was written are the lines of the spans of the recording's frames, and the line that counts them. The heard
--- frames are its words under the tolerance of the flight. Each frame that was heard or invented stands in exactly one
+-- frames are its words under the tolerance of the flight. Each frame that was heard or invented is in exactly one
 -- span, in order; a span begins with a heard frame that does not join, and each further frame of it goes on from the
 -- one before, so that its last label is the first one, stepped by the frames that were heard and bridged behind it. The
 -- ticks at which a span begins and ends do not fall, from span to span, up to the sum of the intervals. And these words

@@ -38,7 +38,7 @@ pub record FrameText : Type 0 where
   pub text : IntervalHeader → List Frame → List ℕ
   -- what is written last behind this header, of the intervals and all of their frames
   pub last : IntervalHeader → List ℕ → List Frame → List ℕ
-  -- how many frames it takes at most, where it has a limit
+  -- how many frames it takes at most, if it has a limit
   pub most : Option ℕ
 
 -- these are more frames than the limit, where there is one
@@ -47,7 +47,7 @@ AreTooMany None fs = ⊥
 AreTooMany (Some most) fs = most < length fs
 
 -- before the end: what is made of the frames of the words that are told, up to the tick up to which they are. They are
--- read under the tolerance of the flight, and each is asked for a witness, or not
+-- read under the tolerance of the flight, and each needs a witness, or not
 pub record IsFlightPart (witness : Witness) (flight : Flight) (made : FrameText) (header : IntervalHeader)
     (intervals written : List ℕ) : Type 0 where
   pub events : List Event

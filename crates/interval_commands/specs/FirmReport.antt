@@ -1,4 +1,4 @@
--- The report of a recording where each word is asked for a witness: what `ltc-rough firm` prints.
+-- The report of a recording if each word needs a witness: what `ltc-rough firm` prints.
 use Rattle.std.specs.Prelude.{◌≡◌, ℕ, Bool, true, false, List, ◌++◌, length, count_by, sum}
 use Rattle.std.specs.List.{flat_map}
 use Rattle.biphase.specs.declared.profile.Profile.{Profile}

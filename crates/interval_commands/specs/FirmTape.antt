@@ -1,4 +1,4 @@
--- The truth of a report where each word is asked for a witness: what the lines of `ltc-rough firm` say of the tape.
+-- The truth of a report if each word needs a witness: what the lines of `ltc-rough firm` say of the tape.
 use Rattle.std.specs.Prelude.{◌≡◌, ℕ, true, false, List, reverse, Some}
 use Rattle.std.specs.List.{AllZip}
 use Rattle.biphase.specs.declared.profile.Profile.{Profile}
@@ -14,7 +14,7 @@ use Rattle.interval_commands.specs.FirmReport.{IsFirmWhole, firm_report}
 use Rattle.tc_command.specs.Told.{Told}
 
 -- what was written are the lines of the events of the file under witnesses, and the last line. These are the events of
--- a reading that asks for none, one for one: each word has its witness or stands at the edge of its stretch, or it is
+-- a reading that needs none, one for one: each word has its witness or is at the edge of its stretch, or it is
 -- refused as alone, and all else is the same. And the events of that reading tell the tape, find it again between
 -- damage, and mirror it, as those of a report without witnesses do
 pub record FirmlyReportsTheTape (profile : Profile) (bytes written : List ℕ) : Type 0 where

@@ -15,8 +15,8 @@ use Rattle.tc_command.specs.Told.{Told}
 
 -- what was written are the lines of the events of the file, and the last line, and these events tell the tape: where
 -- the intervals of the file keep the tolerance, these are the whole words of the tape, good or refused, from the first
--- unequal pair on, and no break. Where a part of the intervals keeps it, between damage, they are so from its second
--- unequal pair to its end, or, if it is rough, from behind even ones. Where the intervals keep it in the other order of
+-- unequal pair on, and no break. If a part of the intervals keeps it, between damage, they are so from its second
+-- unequal pair to its end, or, if it is rough, from behind even ones. If the intervals keep it in the other order of
 -- time too, the events there are the same words, each met from its other end
 pub record ReportsTheTape (profile : Profile) (bytes written : List ℕ) : Type 0 where
   pub header : IntervalHeader

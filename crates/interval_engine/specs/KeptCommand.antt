@@ -1,4 +1,4 @@
--- A command along an interval file is a command as any other, where it prints in order. No promise speaks of it.
+-- A command along an interval file is a command as any other, if it prints in order. No promise speaks of it.
 use Rattle.std.proofs.Common.{◌≡◌, ℕ, List, [], ◌++◌, Option, Some, None, refl, sym, ◌∙◌, ap, subst}
 use Rattle.std.proofs.lemmas.Bool.{false≢true}
 use Rattle.interval_file.specs.declared.fault.IntervalFileFault.{IntervalFileFault}

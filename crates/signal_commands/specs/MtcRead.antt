@@ -95,9 +95,9 @@ pub record ReadsTheMessages (bytes : List ℕ) : Type 0 where
   pub places : AreSounding bytes → events_in bytes ≡ carried_by (placed 0 messages)
 
 -- what was written are the lines of the events in the bytes, and the last line. These events are what the messages in
--- the bytes carry. And whatever bytes stand before and behind a run, its label and its pairs are read one after
--- another, each at the place of its last byte, after the events of what stands before; and so they are, but for their
--- places, where system real-time bytes stand among them
+-- the bytes carry. And whatever bytes come before and behind a run, its label and its pairs are read one after
+-- another, each at the place of its last byte, after the events of what comes before; and so they are, but for their
+-- places, if system real-time bytes are among them
 pub record ReadsWhatWasSent (bytes written : List ℕ) : Type 0 where
   pub are : written ≡ event_lines (events_in bytes) ++ last_mtc_line bytes (events_in bytes)
   pub messages : ReadsTheMessages bytes

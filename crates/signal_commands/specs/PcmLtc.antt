@@ -59,7 +59,7 @@ along_samples s = record {
 }
 
 -- what was written is the file of the intervals of the samples, from the first crossing on, and these samples are all
--- that the bytes hold. The intervals tell their crossings. A distance is written when it has ended, or where it is
+-- that the bytes hold. The intervals give their crossings. A distance is written when it has ended, or if it is
 -- live, in quarters of a frame as it passes. Bytes of the same samples turned over, each into its negative, are sliced
 -- into the same file
 pub record SlicesTheSound (s : Slices) (bytes written : List ℕ) : Type 0 where

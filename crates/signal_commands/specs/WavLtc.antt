@@ -50,8 +50,8 @@ abbrev pub track_of : SlicesWave → List ℕ → List ℕ
 track_of w bytes = track_file w (reading_of (asked_by w) bytes).format (reading_of (asked_by w) bytes).samples
 
 -- what was written is the file of the track that is read. And of a sound file that was made of these blocks, it is the
--- file of the distances of the track's samples, whose first one runs from tick 0. The intervals tell their crossings,
--- from tick 0 on. A distance is written when it has ended, or where it is live, in quarters of a frame as it passes
+-- file of the distances of the track's samples, whose first one runs from tick 0. The intervals give their crossings,
+-- from tick 0 on. A distance is written when it has ended, or if it is live, in quarters of a frame as it passes
 pub record SlicesTheTrack (w : SlicesWave) (bytes written : List ℕ) : Type 0 where
   pub are : written ≡ track_of w bytes
   pub made : (format : WaveFormat) (blocks : List (List Sample)) → IsMadeOf (asked_by w) format blocks bytes

@@ -52,7 +52,7 @@ span_from first begins last ends words =
     record { first = mark_of first begins; last = mark_of last ends; heard = words; bridged = 0 }
 
 -- the text tells one span, from the first of these words to the last, each at its end on the tape, but for the delay.
--- All of them are heard, none is bridged, and no gap is told
+-- All of them are heard, none is bridged, and no gap is written
 pub record TellsOneSpan (header : IntervalHeader) (delay tick : ℕ) (tape : List Cell) (first : Played)
     (more : List Played) (intervals text : List ℕ) : Type 0 where
   pub begins : ℕ

@@ -1,4 +1,4 @@
--- Where the intervals that are written of a sound are its distances as they are, also where it is sliced live.
+-- When the intervals that are written of a sound are its distances as they are, even if it is sliced live.
 use Rattle.std.specs.Prelude.{ℕ, ◌<◌, ◌≤◌, Bool, true, false, ℤ, List}
 use Rattle.std.specs.List.{AllByRecursion}
 use Rattle.pcm_front.specs.Distance.{distances_by}

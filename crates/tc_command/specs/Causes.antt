@@ -1,5 +1,5 @@
--- By whose fault a job ended: a count of faults rose, or stands at its last value, where a call on that object failed,
--- and else it stands as it was.
+-- By whose fault a job ended: a count of faults rose, or is at its last value, if a call on that object failed,
+-- and else it is as it was.
 use Rattle.std.specs.Prelude.{◌≡◌, ℕ, Result, Ok, Err}
 use Rattle.tc_io.specs.Source.{Rose}
 use Rattle.tc_command.specs.declared.stop.Stop.{Stop}

@@ -29,7 +29,7 @@ pub record IsCommand (m : Meaning) : Type 0 where
   pub limit_unspent : (front rest : List ℕ) → m.verdict front ≡ past_limit → m.spent (front ++ rest) → m.spent front
   -- only an input has a fault at its end
   pub ends : (bytes : List ℕ) (f : InputFault) → m.end_fault bytes ≡ Some f → IsTrue m.reads
-  -- where it reads nothing, it is done on any input, and what it writes is the output of no bytes, or a front of that
+  -- if it reads nothing, it is done on any input, and what it writes is the output of no bytes, or a front of that
   pub idle : m.reads ≡ false → (all : List ℕ) → HasStatus m all status.Done
   pub idle_part : m.reads ≡ false → (bytes a b : List ℕ) → m.part bytes a → m.output [] b → IsFront a b
   pub idle_output : m.reads ≡ false → (bytes a b : List ℕ) → m.output bytes a → m.output [] b → a ≡ b

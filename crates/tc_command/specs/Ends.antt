@@ -1,4 +1,4 @@
--- How often a job stood at the end of its input: once where it came to it, and nothing was pulled behind it.
+-- How often a job was at the end of its input: once if it came to it, and nothing was pulled behind it.
 use Rattle.std.specs.Prelude.{◌≡◌, ℕ, ◌≤◌, Bool, true, false, Result}
 use Rattle.tc_command.specs.Causes.{ended_with}
 use Rattle.tc_command.specs.declared.stop.Stop.{Stop}

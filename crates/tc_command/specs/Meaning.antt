@@ -10,7 +10,7 @@ pub record Meaning : Type 1 where
   pub reads : Bool
   -- what its grammar and its limit make of bytes, whatever follows them
   pub verdict : List ℕ → Verdict InputFault
-  -- the fault of an input that ends with these bytes, where they are good
+  -- the fault of an input that ends with these bytes, if they are good
   pub end_fault : List ℕ → Option InputFault
   -- these bytes pass a limit of the command's own, whatever follows them
   pub spent : List ℕ → Type 0

@@ -1,4 +1,4 @@
--- What the bytes pulled show, the whole input shows too: so where no call fails, a command and its input leave one
+-- What the bytes pulled show, the whole input shows too: so if no call fails, a command and its input leave one
 -- status. No promise speaks of these lemmas, which the crates of the commands cite.
 use Rattle.std.proofs.Common.{◌≡◌, ℕ, List, ◌++◌, Bool, true, false, Some, None, refl, sym, ◌∙◌, ap, subst, inl, inr}
 use Rattle.std.proofs.Common.{append_assoc}

@@ -8,7 +8,7 @@ use Rattle.tc_command.specs.declared.stop.Stop.TheVariants.{Refused, ReadFault, 
 use Rattle.tc_command.specs.Meaning.{Meaning, Shows, IsInput, IsEnd}
 
 -- why a job stops along its input, of which this is left, and what was written then: at some of the bytes pulled, or at
--- their end, where what they show is good before it. Where a push failed, it is a front of what was due for a front of
+-- their end, if what they show is good before it. If a push failed, it is a front of what was due for a front of
 -- them, or of the output; at a limit of the command's own, the part of a front that passes it. A pull that failed stops
 -- the job at neither a fault nor a limit
 abbrev pub StopsAlong : Meaning → Stop → Option (List ℕ) → List ℕ → List ℕ → Type 0

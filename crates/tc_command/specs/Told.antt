@@ -1,4 +1,4 @@
--- All that is told of a command: what it takes and what it writes, and what it promises of that.
+-- All that is claimed of a command: what it takes and what it writes, and what it promises of that.
 use Rattle.std.specs.Prelude.{◌≡◌, ℕ, Bool, true, false, List, Option, Result}
 use Rattle.tc_io.specs.Bytes.{AreBytes}
 use Rattle.tc_command.specs.declared.stop.Stop.{Stop}
@@ -35,7 +35,7 @@ pub record WorksAsTold {S K : Type 0} (t : Told) (left : S → Option (List ℕ)
   pub told : IsTold t
   pub worked : IsWorked t.meaning left at_end pulls_failed taken pushes_failed before after out_before out_after result
 
--- ---- commands of which no more is to be told
+-- ---- commands of which no more is claimed
 
 -- of a command that promises what its meaning says, where each line or interval is what the definition of a crate below
 -- makes of the bytes pulled, and that has no limit of its own

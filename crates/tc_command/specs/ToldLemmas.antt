@@ -1,4 +1,4 @@
--- What is told of a command that promises no more than its meaning, or than what names its text, holds. No promise
+-- What is claimed of a command that promises no more than its meaning, or than what names its text, holds. No promise
 -- speaks of these lemmas, which the crates of the commands cite.
 use Rattle.std.proofs.Common.{◌≡◌, ℕ, List, sym, subst}
 use Rattle.tc_command.specs.Command.{IsCommand}

@@ -20,6 +20,6 @@ pub record IsWorked {S K : Type 0} (m : Meaning) (left : S → Option (List ℕ)
   pub out : HasOutCause (pushes_failed out_before) (pushes_failed out_after) result
   -- the end of the input is seen once
   pub once : at_end before ≡ 0 → EndsSeen m.reads (ended_with result) (at_end after)
-  -- what reads nothing leaves the source, and stops only where the output fails
+  -- what reads nothing leaves the source, and stops only if the output fails
   pub idle : m.reads ≡ false → after ≡ before
   pub writes : m.reads ≡ false → IfErr result (λ stop. stop ≡ WriteFault)
