@@ -159,7 +159,7 @@ best_of_all lengths steps place sign number some best = record {
   };
 }
 
--- the best of the first so many ends, whatever steps they stand for
+-- the best of the first `most` ends, whatever steps they stand for
 pub record BestSoFar (ends : Numbers) (most : ℕ) (so_far : Best) : Type 0 where
   pub best : (steps : List Step) → NumbersEnd ends steps → IsBestBelow LENGTHS steps most so_far.place so_far.sign
       so_far.number
@@ -191,7 +191,7 @@ or_end ends steps so_far place sign new result within new_is stays comes ends_ar
           (best_comes LENGTHS steps so_far.place so_far.sign so_far.number place sign new end.bit best is above)
     ]
 
--- so many ends are tried, by another way to count them
+-- n ends are tried if m are, by another way to count them
 pub counted : (ends : Numbers) (steps : List Step) (m n : ℕ) (best : Best) → m ≡ n
     → IsBestBelow LENGTHS steps m best.place best.sign best.number
     → IsBestBelow LENGTHS steps n best.place best.sign best.number

@@ -67,7 +67,7 @@ abbrev pub rows_before : List ScriptRow → Script → Script
 rows_before rows (Ok more) = Ok (rows ++ more)
 rows_before rows (Err fault) = Err fault
 
--- so many records at most are left of bytes
+-- at most n records are left of bytes
 abbrev Suffices : ℕ → State → List ℕ → Type 0
 Suffices n s left = (length left < n) ⊎ ((s ≡ st.StartRecord) × (left ≡ []))
 

@@ -38,7 +38,7 @@ kept end tick bs are later near = elim (dec_lt (length bs) 81) [
       rw test (added end tick (drop 1 bs) (without_oldest end bs are many) later near))
 ]
 
--- so many cells last so many ticks at least
+-- cells last a tick each at least
 span-least : (tick : ℕ) (bs : List ℕ) → AreBoundariesTo tick bs → slice_index bs 0 + length bs ≤ tick + 1
 span-least tick [] are = absurd are
 span-least tick (last ∷ []) are = omega arith

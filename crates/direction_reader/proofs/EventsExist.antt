@@ -110,7 +110,7 @@ window_events read system bits end length width =
       ]
     ]
 
--- so many bits are a number below that power of two
+-- n bits or fewer are a number below 2 to the n-th
 number_below : (n : ℕ) (bs : List Bool) → length bs ≤ n → number_of bs < 2 ^ n
 number_below zero [] within = omega arith
 number_below zero (b ∷ bs) within = absurd (omega arith)

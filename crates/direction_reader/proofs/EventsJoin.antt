@@ -73,12 +73,12 @@ stretches_stay system l more (s ∷ ss) es inside (own, rest, is, others, join) 
   join,
 )
 
--- a place before so many is before more
+-- a place before n is before m, if m is no less
 some_more : (n m : ℕ) (place : Option ℕ) → n ≤ m → IfSome place (λ p. p < n) → IfSome place (λ p. p < m)
 some_more n m None le is = tt
 some_more n m (Some p) le is = omega arith
 
--- what is inside so many intervals is inside more
+-- what is inside n intervals is inside more
 inside_more : (n m : ℕ) (s : Stretch) → n ≤ m → IsInside n s → IsInside m s
 inside_more n m s le inside = record { lock = omega arith; broken = some_more n m s.broken_at le inside.broken }
 

@@ -19,7 +19,7 @@ use Rattle.direction_reader.specs.Firm.{is_firm, judged, candidate_at, firm_cand
 use Rattle.direction_reader.specs.FirmStandsFor.{spans, NeedsNone}
 use Rattle.direction_reader.specs.ListEvents.{bits_in, duration}
 
--- ---- so many windows from a place on
+-- ---- some windows from a place on
 
 pub spans_join : (system : System) (tick : ℕ) (cells : List Cell) (a n m : ℕ)
     → spans system tick cells a (n + m) ≡ spans system tick cells a n ++ spans system tick cells (a + n) m

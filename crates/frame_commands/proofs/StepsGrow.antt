@@ -108,7 +108,7 @@ steps_with laws most c frames frame few =
     ap (steps_over c) (all_with most frames frame few) ∙ laws.line c.label c.seed c.bound frames frame
     ∙ sym (ap (λ (l : List Frame). steps_over c l ++ next_line (after_frames (begun c) l) frame ∷ []) all)
 
--- so many frames were followed as there are
+-- as many frames were followed as there are
 few_followed : (most : ℕ) (c : Chasing) (s : Stepping) (frames : List Frame) → HasFollowed most c s frames
     → s.steps < most
     → (s.steps ≡ length frames) × (length frames < most)

@@ -439,7 +439,7 @@ no_cause Limit before now other cause = cause
 no_cause ReadFault before now other cause = cause
 no_cause WriteFault before now other cause = absurd (other refl)
 
--- the bytes of an interval, so many
+-- the `width` bytes of an interval
 pub by_number : ReadsWhatIsSaid → (decoder : Progress) (front bytes : List ℕ) (width x : ℕ)
     → decoder ≡ (decoding_of front).progress
     → fold with_byte (decoding_of front) bytes ≡ with_number (decoding_of front) width (Ok x)

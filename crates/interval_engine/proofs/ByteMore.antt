@@ -113,7 +113,7 @@ advanced_on fits stands first second third before between behind count mid now c
           (Stands stands third behind now choice) old middle new bytes more one.works two.works;
     }
 
--- so many bytes are as many as stand before that place
+-- `count` bytes are as many as come before that place
 pub so_many : (before count : ℕ) (bytes : List ℕ) → count ≤ length bytes → before + count ≡ before + length
     (take count bytes)
 so_many before count bytes within = grind (arith, common_steps)

@@ -125,7 +125,7 @@ seconds_no_newline m fits =
 
 -- ---- it says the label
 
--- a day begins within so many milliseconds
+-- a frame of the day begins at a millisecond below 2 to the 64th
 few_milliseconds : (base : Timebase) (n : ℕ) → n < day_length (count_of base)
     → millisecond_at (rate_of base) n < 2 ^ 64
 few_milliseconds F24 n below = omega (arith, below)

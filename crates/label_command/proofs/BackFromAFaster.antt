@@ -84,7 +84,7 @@ number_of_first a is same = rw is.are (rw same refl)
 midnight_is_first : (c : Count) → number_of (address c 0 0 0 0) ≡ 0
 midnight_is_first c = number_of_first (address c 0 0 0 0) (first_label c) refl
 
--- ---- so many frames behind it
+-- ---- some frames behind it
 
 -- what the laws of steps say
 pub record StepLaws : Type 0 where

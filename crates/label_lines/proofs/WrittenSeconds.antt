@@ -36,7 +36,7 @@ point_is_no_digit whole rest =
 abbrev pointed : List ℕ → ℕ → ℕ → ℕ → List ℕ
 pointed whole a b c = whole ++ 46 ∷ a ∷ b ∷ c ∷ []
 
--- so many bytes more than the whole part
+-- four bytes more than the whole part
 long : (whole : List ℕ) (a b c : ℕ) → length (pointed whole a b c) ≡ length whole + 4
 long whole a b c = length-append whole (46 ∷ a ∷ b ∷ c ∷ [])
 

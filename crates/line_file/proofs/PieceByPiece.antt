@@ -301,7 +301,7 @@ line_anywhere place other (count ∷ rest) runs e = by_test (is_run_count count)
     by_test true h = runs_anywhere count (place + 1) (other + 1) rest runs h
     by_test false h = absurd cc
 
--- the line before, of so many bytes, is the last that was read
+-- the line before, of `width` bytes, is the last that was read
 pub record LastLine (bytes : List ℕ) (width last : ℕ) (lines : List (List ℕ)) : Type 0 where
   pub before : List (List ℕ)
   pub runs : List ℕ

@@ -62,7 +62,7 @@ whole-behind n w d some less =
     let some_too : zero < n = omega (arith, some) in
     ap (λ x. x / n) split ∙ mul-add-div_right some_too w (d - w * n - 1)
 
--- so many pieces come first, where the distance is longer than they are
+-- w pieces come first, if the distance is longer than they are
 pub begun_first : (n w d : ℕ) → 1 ≤ n → w * n < d → pieces_in n d ≡ replicate w n ++ pieces_in n (d - w * n)
 begun_first n w d some less =
     let k = whole_pieces n (d - w * n) in

@@ -15,7 +15,7 @@ use Rattle.pcm_front.specs.State.{ring_of, window_of, IsRing, IsWindow}
 use Rattle.pcm_front.specs.Sums.{total}
 use Rattle.pcm_front.proofs.Windows.{total-push, window-stays, window-within, zeros-fit, zeros-sum}
 
--- the place behind, in a ring of so many but one
+-- the place after this one, in a ring of `smooth - 1` places
 abbrev pub place_after : ℕ → ℕ → ℕ
 place_after smooth oldest = cond (oldest + 2 == smooth) 0 (oldest + 1)
 

@@ -133,7 +133,7 @@ take-more (suc at) (x ∷ xs) within =
     let one : suc at + 1 ≡ suc (at + 1) = omega arith in
     ap (λ n. take n (x ∷ xs)) one ∙ ap (λ more. x ∷ more) (take-more at xs (omega arith))
 
--- after so many of them there is room for one more
+-- after `at` of them there is room for one more
 pub room_for_one : (f tick start at : ℕ) (xs : List ℤ) → at < length xs → tick ≡ start + f * length (take at xs)
     → start + f * length xs ≤ 2 ^ 62
     → tick + f ≤ 2 ^ 62

@@ -18,7 +18,7 @@ use Rattle.tc_job.specs.Pace.{pace_of}
 
 -- ---- intervals of one length
 
--- so many, and those that follow
+-- the first `count` pieces, and those that follow
 pub pieces_from : (length count whole : ℕ) → count ≤ whole → intervals_bytes One (replicate whole length)
     ≡ intervals_bytes One (replicate count length) ++ intervals_bytes One (replicate (whole - count) length)
 pieces_from length count whole within =

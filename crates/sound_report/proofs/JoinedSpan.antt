@@ -55,7 +55,7 @@ taken_off : (frame : Frame) (more : List Frame) → goes_on frame ≡ false → 
 taken_off frame more off =
     take_while-cons goes_on frame more ∙ ap (λ (b : Bool). cond b (frame ∷ taken more) []) off
 
--- frames behind a mark begin no span. What the open span takes of them ends in a mark, has so many that were heard,
+-- frames behind a mark begin no span. What the open span takes of them ends in a mark, has `heard` that were heard,
 -- and none that was invented before one of these
 record GoesTo (mark : Mark) (frames : List Frame) (last : Mark) (heard : ℕ) : Type 0 where
   none_begin : frames_of_spans frames ≡ []

@@ -64,7 +64,7 @@ squeezed_but_last delay last (c ∷ from) (l ∷ lows) (m ∷ ms) (h ∷ highs) 
       | inr all ↦ inr (omega (arith, low.0, own.0), omega (arith, high.0, within.1), all)
     ]
 
--- a turn in so many places comes no later than the last of them
+-- a turn in these places comes no later than the last of them
 one_most : (most m : ℕ) (b : Bool) (over on : List ℕ) → (b ≡ true → m ≤ most)
     → AllByRecursion (λ t. t ≤ most) over → AllByRecursion (λ t. t ≤ most) on
     → AllByRecursion (λ t. t ≤ most) (cond b (m ∷ over) on)
@@ -196,7 +196,7 @@ module _ (f : ℕ) (noise : ℕ → ℕ) (low high : ℕ → ℤ) (threshold : T
         omega (arith, same, bound);
   }
 
-  -- from a place at which the clean sound stands on a side, the crossings in so many places are turns
+  -- from a place at which the clean sound is on a side, the crossings in the k places behind it are turns
   crossings_from : (side : Side) (stop k : ℕ) → first ≤ stop → stop < end
       → reaches (high stop) side (sample_at clean stop) ≡ true
       → map (moment f threshold sound) (filter (is_crossing threshold sound) (range_with_len (stop + 1) k))

@@ -18,7 +18,7 @@ use Rattle.tape_sound.proofs.LastsLong.{cell_drift, half_drift, steady_rest}
 abbrev IsNear : ℕ → ℕ → ℕ → Type 0
 IsNear delay a b = (a ≤ b + delay) × (b ≤ a + delay)
 
--- a cell of so many ticks comes behind one of others, and outlasts what the sum asks
+-- a cell of c ticks comes behind one of p, and outlasts what the sum needs
 abbrev IsBehind : ℕ → ℕ → ℕ → Type 0
 IsBehind delay c p = (12 * c + 9 * delay ≤ 12 * p + c) × (12 * p + 9 * delay ≤ 12 * c + c)
 

@@ -25,7 +25,7 @@ heard label direction first last = record {
   bridged = 1;
 }
 
--- ---- the mean speed: so many frames behind the first, in so many ticks
+-- ---- the mean speed: the frames behind the first, by their ticks
 
 -- two frames behind the first, of 1,920 ticks each at 48,000 ticks a second, are two twenty-fifths of a second
 at_nominal : mean_speed 48_000 F25 (heard (address C25 0 0 0 0) Forward 1_920 5_760) ≡ 1_000

@@ -45,7 +45,7 @@ same_open first last last' heard heard' bridged bridged' invented invented' l h 
     ∙ ap (λ (n : ℕ). open_span first last' heard' n invented) b
     ∙ ap (λ (n : ℕ). open_span first last' heard' bridged' n) i
 
--- so many of a kind, with a frame of this kind or of another
+-- how many of a kind there are, with a frame of this kind or of another
 counts-one : (kind : Frame → Bool) (more : List Frame) (frame : Frame) (n : ℕ) → cond (kind frame) 1 0 ≡ n
     → count_by kind (more ++ frame ∷ []) ≡ count_by kind more + n
 counts-one kind more frame n is = sum_by_push (λ (f : Frame). cond (kind f) 1 0) more frame

@@ -44,7 +44,7 @@ unknown = 255 ∷ 255 ∷ 255 ∷ 255 ∷ []
 nothing : List ℕ
 nothing = 0 ∷ 0 ∷ 0 ∷ 0 ∷ []
 
--- format 1, so many tracks of so many bits, in blocks of so many bytes, at 8,000 a second
+-- format 1, with these tracks, bits, and bytes of a block, at 8,000 a second
 format_with : ℕ → ℕ → ℕ → List ℕ
 format_with tracks block bits =
     16 ∷ 0 ∷ 0 ∷ 0 ∷ 1 ∷ 0 ∷ tracks ∷ 0 ∷ 64 ∷ 31 ∷ 0 ∷ 0 ∷ 8_000 * block % 256 ∷ 8_000 * block / 256 ∷ 0 ∷ 0 ∷ block

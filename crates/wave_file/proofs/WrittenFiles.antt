@@ -56,7 +56,7 @@ nothing_left asked format extent room tail some inside ends =
     (ap (λ (b : Bool). if b then good else past_limit) (le-leb (bytes_inside extent tail / format.block) room
     (omega (arith, none)))) ends
 
--- the extent is that of so many bytes, whatever follows them, or nothing follows
+-- the extent is that of `count` bytes, whatever follows them, or nothing follows
 abbrev pub Covers : Extent → ℕ → List ℕ → Type 0
 Covers (Announced n) count tail = n ≡ count
 Covers Open count tail = tail ≡ []

@@ -10,7 +10,7 @@ use Rattle.signal_commands.proofs.MidiGrows.{grown, grown_part, none_counted, on
 use Rattle.signal_commands.proofs.MidiLimit.{is_past, lines_at_limit}
 use Rattle.signal_commands.proofs.mtc_read.MtcReportEngine.take.Goals as goal
 
--- so many bytes were read, and here is another
+-- as many bytes were read as may be, and here is another
 pub returns-then-bytes-eq-MAX_BYTES-clause-stops : goal.returns-then-bytes-eq-MAX_BYTES-clause-stops
 returns-then-bytes-eq-MAX_BYTES-clause-stops g c = λ front written stands.
     let bytes = c.args.bytes.now in

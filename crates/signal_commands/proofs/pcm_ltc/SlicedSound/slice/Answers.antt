@@ -8,7 +8,7 @@ use Rattle.tc_command.specs.Stops.{Stops}
 use Rattle.signal_commands.proofs.SlicedOn.{at_limit, err_to, ok_to, ok_both, same_front, within_few, within_some}
 use Rattle.signal_commands.proofs.pcm_ltc.SlicedSound.slice.Goals as goal
 
--- so many samples were taken, and here is another
+-- as many samples were taken as may be, and here is another
 pub returns-then-self-eq-MAX_SAMPLES-clause-stops : goal.returns-then-self-eq-MAX_SAMPLES-clause-stops
 returns-then-self-eq-MAX_SAMPLES-clause-stops g c = λ whole written rest slices.
     at_limit c.args.self.now whole written (c.args.bytes.now ++ rest) _ _ _ slices c.if-self-eq-MAX_SAMPLES.true
