@@ -1,4 +1,4 @@
--- What a chase wrote is a front of the trace where its whole input is a script, and nothing where it is none.
+-- What a chase wrote is a front of the trace if its whole input is a script, and nothing if it is none.
 use Rattle.std.proofs.Common.{◌≡◌, ℕ, List, [], ◌++◌, length, Bool, true, Some, sym, ◌∙◌, ap, subst, append-nil, arith}
 use Rattle.std.specs.Prelude.{nat_le}
 use Rattle.std.specs.declared.option.Option.{Option}

@@ -1,4 +1,4 @@
--- A chase answers by why it stopped, and its whole input leaves one status where no call fails, want of memory aside.
+-- A chase answers by why it stopped, and its whole input leaves one status if no call fails, lack of memory aside.
 use Rattle.std.proofs.Common.{◌≡◌, ◌⊎◌, ℕ, ◌+◌, ◌≤◌, List, [], ◌++◌, length, take, Bool, true, false, Some, Ok, Err}
 use Rattle.std.proofs.Common.{refl, sym, ◌∙◌, ap, inl, inr}
 use Rattle.std.proofs.Common.{arith, append-nil}

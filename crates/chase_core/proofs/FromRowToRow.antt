@@ -1,5 +1,5 @@
 -- What holds from a first row on holds in the middle of a longer list: rows before it only bring the loop to where it
--- stands,
+-- is,
 -- and rows after it change no line.
 use Rattle.std.proofs.Common.{◌≡◌, ℕ, suc, zero, ◌+◌, ◌-◌, ◌*◌, ◌<◌, ◌≤◌, refl, sym, ap, ◌∙◌, subst, Option, Some, List}
 use Rattle.std.proofs.Common.{[], ◌∷◌, take, length, arith}

@@ -78,7 +78,7 @@ fits_after (MidCell m) (Hunting n) x tick bit bs steps are = absurd steps.1
 fits_after (MidCell m) (MidCell n) x tick bit bs steps are = absurd steps.1
 fits_after (MidCell m) (AtCell n) x tick bit bs steps are = are
 
--- what the reader keeps fits where a cell has ended
+-- what the reader keeps fits if a cell has ended
 pub cell_fits : (old next : Tracking) (x tick now : ℕ) (bit : Bool) (bs new : List ℕ) → FitsTracker old tick bs → 1 ≤ x
     → x ≤ MAX_INTERVAL
     → Steps old x next (Cell bit) → now ≡ tick + x → new ≡ with_boundary bs now → FitsTracker next now new

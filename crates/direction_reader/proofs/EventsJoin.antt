@@ -1,4 +1,4 @@
--- Events of more windows, of more stretches and of more intervals stand behind those that were there.
+-- Events of more windows, of more stretches and of more intervals come behind those that were there.
 use Rattle.std.proofs.Common.{◌≡◌, ◌<◌, ◌≤◌, ℕ, ◌+◌, List, [], ◌∷◌, ◌++◌, length, sum, ap, sym, ◌∙◌, arith, refl, subst}
 use Rattle.std.proofs.Common.{append_assoc}
 use Rattle.std.proofs.Common.{append-nil, IfSome, Some, None, Option}

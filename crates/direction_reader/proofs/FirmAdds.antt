@@ -193,7 +193,7 @@ three_in_turn told a b c d one two three =
     (in_turn_append (map told_tick f ++ map told_tick s) (map told_tick t) a c d
     (in_turn_append (map told_tick f) (map told_tick s) a b c one two) three)
 
--- what is told where a cell ends at a tick
+-- what is told when a cell ends at a tick
 began_in_turn : (from tick : ℕ) (first second : Option FirmEvent) (backward : Option Event)
     → DoNotFall from (map told_tick (firm_listed first)) from
     → DoNotFall from (map told_tick (firm_listed second)) tick → IfSome backward (IsWordAt tick)
@@ -219,7 +219,7 @@ told_within : (tick : ℕ) (event : FirmEvent) → IsToldWithin tick event → t
 told_within tick (Told event) is = within_tick tick event is
 told_within tick (Alone d t) is = is
 
--- what stood behind a word
+-- what came behind a word
 waited_in_turn : (from before tick : ℕ) (a : Option FirmEvent) → from ≤ before → before ≤ tick
     → IfSome a (IsToldWithin before) → IfSome a (λ event. from ≤ told_tick event)
     → DoNotFall from (map told_tick (firm_listed a)) tick
@@ -239,7 +239,7 @@ ends_later : (ticks : List ℕ) (a b c : ℕ) → DoNotFall a ticks b → b ≤ 
 ends_later [] a b c turn late = omega (arith, turn, late)
 ends_later (t ∷ ticks) a b c turn late = (turn.0, ends_later ticks t b c turn.1 late)
 
--- what stood behind a word, or comes now
+-- what came behind a word, or comes now
 behind_in_turn : (from before tick : ℕ) (a b : Option FirmEvent) → from ≤ before → before ≤ tick
     → IfSome a (IsToldWithin before) → IfSome a (λ event. from ≤ told_tick event) → IfSome b (IsToldAt tick)
     → DoNotFall from (map told_tick (firm_listed (or_else a b))) tick
@@ -344,7 +344,7 @@ add_stands laws old new system begin tick bit found cells cell told is_bits is_b
       waits = rw waits heard_now;
     }
 
--- what is told where the stretch ends
+-- what is told when the stretch ends
 pub end_stands : (system : System) (begin : ℕ) (cells : List Cell) (told : List FirmEvent) (waits : Option Waiting)
     → WaitsFor waits system begin cells told → told ++ firm_list (ended waits) ≡ firm_events_of_cells system begin cells
 end_stands system begin cells told None waits = append-nil told ∙ waits.all

@@ -45,7 +45,7 @@ use Rattle.direction_reader.proofs.SyncInTime.{WordLaws}
 
 -- ---- the windows that were told stay
 
--- a window that was there, where more cells follow
+-- a window that was there, if more cells follow
 window_stays : (system : System) (tick : ℕ) (cells more : List Cell) (k : ℕ) → k + 80 ≤ length cells
     → (length cells < k + 96 → NeedsNone system tick cells k)
     → firm_events_at system tick (cells ++ more) k ≡ firm_events_at system tick cells k
@@ -75,7 +75,7 @@ needs_none system tick cells k none within young = elim (waits_or_not system tic
   | inr needs ↦ needs
 ]
 
--- where none waits, all windows
+-- if none waits, all windows
 all_stay : (system : System) (tick : ℕ) (cells more : List Cell) → NoneWaits system tick cells
     → spans system tick (cells ++ more) 0 (length cells - 79) ≡ firm_events_of_cells system tick cells
 all_stay system tick cells more none =
@@ -83,7 +83,7 @@ all_stay system tick cells more none =
     (λ j low high. window_stays system tick cells more j (omega arith)
     (λ young. needs_none system tick cells j none (omega arith) young))
 
--- where one waits, those before it, and its forward candidate
+-- if one waits, those before it, and its forward candidate
 abbrev told_before : System → ℕ → List Cell → ℕ → List FirmEvent
 told_before system tick cells k = spans system tick cells 0 k ++ firm_candidate_at system tick cells k Forward
 
@@ -240,7 +240,7 @@ cells_before laws system tick now later until last cells more told told_later (i
     before_stays laws system tick cells more one.0 one.1 ∙ sym one.2 in
     (up.0, two.2 ∙ up.1 ∙ ap (λ (es : List FirmEvent). es ++ up.0) front)
 
--- ---- what follows, where nothing more comes
+-- ---- what follows, if nothing more comes
 
 -- what is told ends at a tick, and the first of what follows ends there
 pub record Ends (told : List FirmEvent) (until : ℕ) (events : List FirmEvent) (now : ℕ) : Type 0 where

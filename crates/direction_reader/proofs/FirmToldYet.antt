@@ -91,7 +91,7 @@ all_broken system l (s ∷ ss) all =
     behind_broken system l s ss (flat_map (firm_events_of_stretch system l) ss) (sum l) s.broken_at refl
     (All-head IsBroken s ss all) (all_broken system l ss (All-tail IsBroken s ss all))
 
--- where others follow a stretch it is broken
+-- if others follow a stretch it is broken
 pub followed : (profile : Profile) (l : List ℕ) (ss : List Stretch) (o : Option ℕ) → (ss ≡ [] → ⊥)
     → MatchOption o (ss ≡ []) (λ place. AreStretchesFrom profile l place ss)
     → (place : ℕ) × (o ≡ Some place) × AreStretchesFrom profile l place ss
@@ -223,7 +223,7 @@ one_told one laws system profile l es fs m n (ss, stretches, are) (ts, others, t
 
 -- ---- each list has one
 
--- a window behind which fewer than 16 cells stand is a word that waits, or needs no witness
+-- a window that fewer than 16 cells follow is a word that waits, or needs no witness
 of_event : (system : System) (tick : ℕ) (cells : List Cell) (k : ℕ) (e : Event) → k + 80 ≤ length cells
     → length cells < k + 96 → candidate_at system tick cells k Backward ≡ e ∷ []
     → IsWaiting system tick cells k ⊎ NeedsNone system tick cells k

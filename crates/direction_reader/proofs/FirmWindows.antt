@@ -96,7 +96,7 @@ forward_stays system tick cells more k within =
     ap₂ (λ (b : Bool) (es : List Event). map (judged b) es) (forward_firm_stays cells more k within)
     (candidate_stays system tick cells more k Forward within)
 
--- the 16 cells behind it, where they are there already, and where they are not there yet
+-- the 16 cells behind it, if they are there already, and if they are not there yet
 pub behind_stays : (cells more : List Cell) (k : ℕ) → k + 96 ≤ length cells
     → is_firm Backward (cells ++ more) k ≡ is_firm Backward cells k
 behind_stays cells more k within =

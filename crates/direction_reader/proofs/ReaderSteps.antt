@@ -166,7 +166,7 @@ cell_ended r n x l es own s cell takes is_bits is_boundaries are long waits stan
 
 -- ---- a stretch begins
 
--- where no stretch is open there are no events of one
+-- if no stretch is open there are no events of one
 none_open : (r : ReaderState) (l : List ℕ) (es : List Event) (stands : StandsFor r l es) → stands.open_yet ≡ None
     → es ≡ stands.past
 none_open r l es stands closed =
@@ -343,7 +343,7 @@ cell_told r n x l es own bit brought takes is_bits is_boundaries brings stands
     cell_ended r n x l es own s cell takes bits_too is_boundaries
     (told_of_cell n brought own brings told) long waits stands open_yet tracker
 
--- where nothing is told there is nothing new
+-- if nothing is told there is nothing new
 pub quiet : (n : ReaderState) (l : List ℕ) (es : List Event) (own : Events) → StandsFor n l es → own ≡ no_events
     → StandsFor n l (es ++ event_list own)
 quiet n l es own stands none = rw none (subst (λ e. StandsFor n l e) (sym (append-nil es)) stands)

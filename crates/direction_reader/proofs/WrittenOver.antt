@@ -73,7 +73,7 @@ latest_written xs k v e p =
     let long = turned_length xs k (omega arith) in
     ap (drop 175) (overwritten xs k v e p) ∙ latest-with_tick 175 (drop k xs ++ take k xs) v (omega arith)
 
--- the oldest of the latest entries stands 175 places behind the next one, round the ring
+-- the oldest of the latest entries is 175 places behind the next one, round the ring
 pub latest_oldest : (xs : List ℕ) (k : ℕ) → length xs ≡ 256 → k < 256
     → slice_index (latest_of xs k) 0 ≡ slice_index xs ((k + 175) % 256)
 latest_oldest xs k e p =

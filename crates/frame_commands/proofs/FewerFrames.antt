@@ -51,7 +51,7 @@ given_are : {S C : Type 0} (witness : Witness) (flight : C → Flight) (made : C
 given_are witness flight made has h f sink choice header intervals written s =
     ap (λ (n : ℕ). frames n (words_heard s.events) h.until) (sym s.limit_is) ∙ s.wheel.1
 
--- where these are too many, the limit is passed
+-- if these are too many, the limit is passed
 pub given_too_many : {S C : Type 0} (witness : Witness) (flight : C → Flight) (made : C → FrameText) (has : Given S C)
     (h : Hearer) (f : Frames) (sink : S) (choice : C) (header : IntervalHeader)
     (intervals written : List ℕ) (s : Stands witness flight made has h f sink choice header intervals written)
@@ -65,7 +65,7 @@ given_too_many witness flight made has h f sink choice header intervals written 
       (sym (given_are witness flight made has h f sink choice header intervals written s)) too_many;
 }
 
--- and it is not where they are within it
+-- and it is not if they are within it
 pub given_within : {S C : Type 0} (witness : Witness) → HeardInOrder witness → (flight : C → Flight)
     (made : C → FrameText) (has : Given S C) (h : Hearer) (f : Frames) (sink : S) (choice : C)
     (header : IntervalHeader) (intervals written : List ℕ)

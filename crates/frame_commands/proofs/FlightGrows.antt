@@ -1,4 +1,4 @@
--- What was sent grows by what the frames of an interval bring, and what stands last comes after all of them.
+-- What was sent grows by what the frames of an interval bring, and what comes last comes after all of them.
 use Rattle.std.proofs.Common.{◌≡◌, ℕ, ◌+◌, ◌≤◌, List, [], ◌∷◌, ◌++◌, count_by, Bool, sym, ◌∙◌, ap, subst, arith}
 use Rattle.std.proofs.Common.{append_assoc, append-nil, cond, length-append}
 use Rattle.std.specs.Prelude.{sum, length}

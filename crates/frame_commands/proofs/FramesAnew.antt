@@ -25,7 +25,7 @@ bytes_of_frames cell frames = intervals_bytes One (flat_map (intervals_of_frame 
 bytes_join : (a b : List ℕ) → intervals_bytes One (a ++ b) ≡ intervals_bytes One a ++ intervals_bytes One b
 bytes_join a b = flat_map-append (spelling One) a b
 
--- the file is what stands first, and then the bytes of the frames
+-- the file is what comes first, and then the bytes of the frames
 file_is : FrameByFrame → (j : Jamming) (header : IntervalHeader) (frames : List Frame)
     → clean_file j header frames
     ≡ (header_bytes (clean_header j header) ++ intervals_bytes One (intervals_of_lead j.cell))

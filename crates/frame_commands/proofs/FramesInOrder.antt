@@ -140,7 +140,7 @@ sends_then_front made given a b one two three fs more first second = λ choice h
 
 -- ---- frames that are due
 
--- a frame that is given where one is due is none that was heard
+-- a frame that is given when one is due is none that was heard
 pub not_heard : (frame : Frame) (tick : ℕ) (f : Frames) → IsPast frame tick
     → ((counted frame f).heard ≡ f.heard)
     × ((counted frame f).invented + (counted frame f).gone ≡ f.invented + f.gone + 1)

@@ -13,7 +13,7 @@ use Rattle.frame_commands.specs.LtcFly.{flown_recording, ShowsTheFrames}
 use Rattle.frame_commands.specs.OfFrames.{frames_of, words_heard}
 use Rattle.frame_commands.proofs.TapeIsHeard.{HearTheTape}
 
--- the frames of words are marked, and the words stand in them
+-- the frames of words are marked, and the words are in them
 pub record FramesLaws : Type 0 where
   pub marked : (limit last : ℕ) (words : List HeardWord) → AreMarked limit None (frames limit words last)
   pub heard : (limit last : ℕ) (words : List HeardWord) → words_in (frames limit words last) ≡ map word_of words

@@ -93,7 +93,7 @@ due_fits (Invented l d s t) tick past below =
     (omega (arith, before, below), omega (arith, step))
 due_fits (Gone t) tick past below = omega (arith, past, below)
 
--- where no frame was given, none was due
+-- if no frame was given, none was due
 by_due : (b : Bool) (word : HeardWord) (step limit : ℕ) (result : Option Frame) (new : Wheel)
     → (b ≡ true → step ≤ limit → (result ≡ Some (invented_after word step)) × (new ≡ running limit word step))
     → (b ≡ true → limit < step → (result ≡ Some (Gone (tick_after word step))) × (new ≡ still limit))
@@ -149,7 +149,7 @@ given_later limit (Some word) invented words from tick given late has =
       due = λ k one few. due_later word k from tick late (has.due k one few);
     }
 
--- nothing stands behind a list that is all
+-- nothing comes behind a list that is all
 all_of : (given rest more : List Frame) → given ≡ (given ++ rest) ++ more → rest ≡ []
 all_of given [] more is = refl
 all_of given (frame ∷ rest) more is =

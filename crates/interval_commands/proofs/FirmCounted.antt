@@ -99,7 +99,7 @@ counted_more c events more counts =
       );
     }
 
--- an event, where there is one, counts one
+-- an event, if there is one, counts one
 pub one_at_most : (o : Option FirmEvent) (c : Counts) → counts_in (all_told (firm_listed o) c) ≤ counts_in c + 1
 one_at_most None c = omega arith
 one_at_most (Some e) c = let more = one_more e c in omega (arith, more)

@@ -1,4 +1,4 @@
--- Where whole words are played one after another in one direction, each of them has its witness, so a report that asks
+-- If whole words are played one after another in one direction, each of them has its witness, so a report that asks
 -- for witnesses is the one that asks for none.
 use Rattle.std.proofs.Common.{◌≡◌, ℕ, ◌+◌, List, [], ◌∷◌, ◌++◌, map, false, true, refl, sym, ◌∙◌, ap, ap₂, Bool, cond}
 use Rattle.std.proofs.Common.{count_by, arith}

@@ -339,7 +339,7 @@ both_pushed stands before now choice old mid new r written more first printed pu
       subst (λ (w : List ℕ). Printed stands now choice r w) (append_assoc written more second.0) second.2,
     )
 
--- what was written is the part of the output, where nothing is gathered
+-- what was written is the part of the output, if nothing is gathered
 abbrev pub PrintsWell : {B C : Type 0} → Printing → Relation B C → C → Option B → Type 0
 PrintsWell p stands choice after = (r : Recording) (written : List ℕ) → Printed stands after choice r written
     → IsPartOf p r written
@@ -348,7 +348,7 @@ PrintsWell p stands choice after = (r : Recording) (written : List ℕ) → Prin
 all_of : (bytes : List ℕ) → IsFront bytes bytes
 all_of bytes = ([], sym (append-nil bytes))
 
--- the part stands where the command stopped, within a limit of its own
+-- the part is written when the command stopped, within a limit of its own
 pub settled_stop : {B C : Type 0} (p : Printing) (stands : Relation B C) (before after : Option B) (choice : C)
     (stop : Stop)
     (old mid new : Option (List ℕ)) (pulled written : List ℕ) → (stop ≡ WriteFault → ⊥)
@@ -369,7 +369,7 @@ settled_stop p stands before now choice WriteFault old mid new pulled written ot
     absurd (other refl)
 settled_stop p stands before now choice ReadFault old mid new pulled written other h pushes well within = absurd h.2
 
--- and where it passes a limit of its own, that is why it stops
+-- and if it passes a limit of its own, that is why it stops
 pub spent_stop : {B C : Type 0} (p : Printing) (stands : Relation B C) (before after : Option B) (choice : C)
     (stop : Stop)
     (old mid new : Option (List ℕ)) (pulled written : List ℕ) → (stop ≡ WriteFault → ⊥)
@@ -390,7 +390,7 @@ spent_stop p stands before now choice WriteFault old mid new pulled written othe
     absurd (other refl)
 spent_stop p stands before now choice ReadFault old mid new pulled written other h pushes well past = absurd h.2
 
--- where the push fails, a front of the part stands
+-- if the push fails, a front of the part is written
 front_pushed : {B C : Type 0} (p : Printing) (stands : Relation B C) (before : Option B) (choice : C)
     (old mid new : Option (List ℕ))
     (due pulled written more : List ℕ) → IsFront due pulled → Appends old mid more
@@ -431,7 +431,7 @@ push_stops p stands behind choice old new pulled written printed pushes =
     (subst (λ (w : List ℕ). Printed stands behind choice (recording_of pulled) w) (sym (append-nil written)) printed)
     pushes
 
--- an output that did not fail stands as before, whatever the command stops for
+-- an output that did not fail is as before, whatever the command stops for
 pub no_cause : (stop : Stop) (before now : ℕ) → (stop ≡ WriteFault → ⊥) → OutCause (status_of stop) before now
     → now ≡ before
 no_cause (Refused f) before now other cause = cause
@@ -476,7 +476,7 @@ passed_over d count between = record {
   no_part = between.no_part;
 }
 
--- bytes are those before a place, some that stand there, and the rest
+-- bytes are those before a place, some that are there, and the rest
 pub cut_some : (k n : ℕ) (bytes : List ℕ) → k ≤ length bytes
     → take k bytes ++ (take n (take (length bytes - k) (drop k bytes))
     ++ drop n (take (length bytes - k) (drop k bytes))) ≡ bytes

@@ -1,4 +1,4 @@
--- The input ends: where it may, what stands last is written behind the header, or a front of it.
+-- The input ends: if it may, what comes last is written behind the header, or a front of it.
 use Rattle.std.proofs.Common.{◌≡◌, ℕ, ◌∙◌, List, ◌++◌, Some, None, ap, subst, sym, append_assoc}
 use Rattle.std.specs.Option.{option_map}
 use Rattle.std.specs.declared.option.Option.{Option}
@@ -39,7 +39,7 @@ input said printing stands decoder behind count choice bytes written s ends = re
   end = ends_with said decoder None bytes s.stands.progress ends;
 }
 
--- behind the header, it is the whole output where the command says so of the header and the intervals
+-- behind the header, it is the whole output if the command says so of the header and the intervals
 whole : {B C : Type 0} (printing : C → Printing) (stands : Relation B C) (b : B) (choice : C)
     (bytes written more : List ℕ)
     (printed : Printed stands (Some b) choice (recording_of bytes) written)
@@ -50,7 +50,7 @@ whole printing stands b choice bytes written more printed is =
     (written ++ more))
     (sym printed.1) is
 
--- what stands last was taken
+-- what comes last was taken
 pub last_taken : ReadsWhatIsSaid → {B C : Type 0} (printing : C → Printing) (stands : Relation B C) (decoder : Progress)
     (behind : Option B) (b : B) (count : ℕ) (choice : C) (old new : Option (List ℕ)) → behind ≡ Some b
     → fault_at_end (end decoder) ≡ None

@@ -1,4 +1,4 @@
--- What a stop says that is passed on, and that no pull failed where none was made.
+-- What a stop says that is passed on, and that no pull failed if none was made.
 use Rattle.std.proofs.Common.{◌≡◌, ap, refl, Ok, Err}
 use Rattle.std.specs.Prelude.{IfErr}
 use Rattle.std.specs.Result.{IsErrAnd}
@@ -51,7 +51,7 @@ limit_is_no_read_fault is = absurd cc
 pub failed_push_is_no_limit : {A : Type 0} → WriteFault ≡ Limit → A
 failed_push_is_no_limit is = absurd cc
 
--- where only a push may fail, no pull did
+-- if only a push may fail, no pull did
 pub only_a_push : {T : Type 0} (P : Stop → Type 0) (result : Result T Stop)
     → IfErr result (λ stop. (stop ≡ WriteFault) × P stop) → result ≡ Err ReadFault → ⊥
 only_a_push P (Ok done) why is = absurd cc

@@ -28,14 +28,14 @@ use Rattle.lemmas.specs.Lists.{cut_more}
 use Rattle.tc_command.specs.KeptWorks.{After, Works, stops_on, works_on}
 use Rattle.interval_engine.proofs.AnItemMore.{Completes, Relation, a_fault, by_bad_number, by_number, cut_some}
 
--- what stands first in a window of m bytes stands first in the rest
+-- what comes first in a window of m bytes comes first in the rest
 in_window : (k n m : ℕ) (bytes : List ℕ) → k + m ≤ length bytes → n ≤ m
     → take n (take (length bytes - k) (drop k bytes)) ≡ take n (take m (drop k bytes))
 in_window k n m bytes within less =
     take-take n (length bytes - k) (drop k bytes) (omega (arith, within, less))
     ∙ sym (take-take n m (drop k bytes) less)
 
--- what stands in the window is no more than that
+-- what is in the window is no more than that
 pub within_window : (k n m : ℕ) (bytes : List ℕ) → n ≤ length (take m (drop k bytes)) → n ≤ m
 within_window k n m bytes less = grind (arith, common_steps)
 
@@ -75,7 +75,7 @@ works_in_window start mid after old between new k n m bytes within less first se
     subst (λ (b : List ℕ). Works start after old new b) (cut_window k n m bytes within (within_window k n m bytes less))
     (works_on start mid after old between new (take k bytes) (take n (take m (drop k bytes))) first second)
 
--- what the bytes of an interval make of a decoder that stands before them, as it is said of the bytes before
+-- what the bytes of an interval make of a decoder that comes before them, as it is said of the bytes before
 made_of : (decoder : Progress) (version : FileVersion) (place width : ℕ) (window front : List ℕ)
     (result : Result ℕ IntervalFileFault)
     → Makes version place window width result → IsBetween decoder → decoder.version ≡ version → place ≡ decoder.taken

@@ -1,4 +1,4 @@
--- A verdict that is not good stays, whatever bytes follow, and so does all that the bytes say of the recording. Where
+-- A verdict that is not good stays, whatever bytes follow, and so does all that the bytes say of the recording. If
 -- it is good, more intervals may
 -- follow, behind the same header.
 use Rattle.std.proofs.Common.{◌≡◌, ℕ, List, [], ◌∷◌, ◌++◌, Bool, true, false, refl, sym, ◌∙◌, ap, subst, fold, length}

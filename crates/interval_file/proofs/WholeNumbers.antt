@@ -29,7 +29,7 @@ at taken version system part r =
       recording = r;
     }
 
--- where nothing is completed, what the bytes say stays
+-- if nothing is completed, what the bytes say stays
 pub nothing_more : (r : Recording) → with_taken r Nothing ≡ r
 nothing_more r = whatever r.verdict
   where

@@ -172,7 +172,7 @@ the_limit law s front written stands byte rest is =
 
 -- ---- the end
 
--- where no line is left that says a label or none, the text is an input
+-- if no line is left that says a label or none, the text is an input
 pub ends_so : (s : LabelAnswers) (bytes written : List ℕ) → Stands s bytes written → (said : LineRead)
     → at_end s.reader ≡ said → fault_said said ≡ None → IsInput (along_labels s.run) bytes
 ends_so s bytes written stands said is no_fault =

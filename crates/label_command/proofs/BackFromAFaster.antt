@@ -27,7 +27,7 @@ use Rattle.label_command.specs.ThereAndBack.{BeginBefore, BeginTogether, IsAsFas
 
 -- ---- the first label
 
--- it stands first in a list
+-- it comes first in a list
 record IsFirst (first : Address) (all : List Address) : Type 0 where
   pub rest : List Address
   pub are : all ≡ first ∷ rest

@@ -40,7 +40,7 @@ too_many p byte past = rw (lt-ltb MAX_LINES p.number past) refl
 
 -- ---- a line
 
--- the bytes of a line, where there is room for them
+-- the bytes of a line, if there is room for them
 along_line : (base : Timebase) (n : ℕ) (line bytes more : List ℕ) → n ≤ MAX_LINES → IsLine bytes
     → length line + length bytes ≤ MAX_LINE
     → reading_from (place_at base n line) (bytes ++ more) ≡ reading_from (place_at base n (line ++ bytes)) more

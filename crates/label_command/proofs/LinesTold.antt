@@ -244,7 +244,7 @@ one_fault base text a b (inr one) (inl other) =
     absurd (no_good_refused (reading_of base text).verdict b one.0 other)
 one_fault base text a b (inr one) (inr other) = one_some (end_fault_of base text) a b one.1 other.1
 
--- where a text has a fault, it is that of its first line that says no label
+-- if a text has a fault, it is that of its first line that says no label
 record FirstRefused (base : Timebase) (text : List ℕ) (lines : List (List ℕ)) (fault : LineFault) : Type 0 where
   pub labels : List Address
   pub first : IsFirstRefused base lines labels fault

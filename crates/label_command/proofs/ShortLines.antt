@@ -103,7 +103,7 @@ read_front laws base line n most = elim (cases_lt n (length line)) [
   | inr short ↦ ap (read_line base) (take_all n line short)
 ]
 
--- and says a label only where it has eleven at most
+-- and says a label only if it has eleven at most
 pub says_in_eleven : LabelLaws → (base : Timebase) (line : List ℕ) (a : Address) → read_line base line ≡ Ok a
     → length line ≤ 11
 says_in_eleven laws base line a is = elim (cases_lt 11 (length line)) [

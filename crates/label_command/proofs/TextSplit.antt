@@ -1,4 +1,4 @@
--- A text has one list of lines: newlines stand only where they end.
+-- A text has one list of lines: newlines are only where they end.
 use Rattle.std.proofs.Common.{◌≡◌, ℕ, List, [], ◌∷◌, ◌++◌, refl, sym, ap, ap₂, ◌∙◌, inl, inr}
 use Rattle.std.proofs.Common.{append_assoc, append-nil}
 use Rattle.std.specs.List.{AllByRecursion}

@@ -50,7 +50,7 @@ number_is_read base a n few is =
     asked_is_read base (decimal n) a (number_is_asked base (decimal n) number
     ∙ ap (slice_get (labels (count_of base))) (written_value n fits) ∙ is)
 
--- seconds, where the frame is the one that begins nearest to them
+-- seconds, if the frame is the one that begins nearest to them
 seconds_are_asked : (base : Timebase) (line : List ℕ) → is_number line ≡ false → is_seconds line ≡ true
     → asked base line ≡ slice_get (labels (count_of base)) (frame_at (rate_of base) (milliseconds_in line))
 seconds_are_asked base line number seconds = rw (number, seconds) refl

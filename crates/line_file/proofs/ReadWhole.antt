@@ -1,5 +1,5 @@
 -- Bytes that are read whole are the file of their header and their fields: each piece that was read is spelled so, and
--- the rest stands behind it.
+-- the rest comes behind it.
 use Rattle.std.proofs.Common.{◌≡◌, ◌⊎◌, inl, inr, ℕ, zero, suc, ◌+◌, ◌*◌, ◌/◌, ◌%◌, ◌<◌, ◌≤◌, Bool, true, false, List}
 use Rattle.std.proofs.Common.{[]}
 use Rattle.std.proofs.Common.{◌∷◌, ◌++◌, Some, None, length, drop, refl, sym, ap, ap₂, subst, ◌∙◌, arith, append_assoc}
@@ -207,7 +207,7 @@ field_from place (count ∷ more) lines are e = a_field place count more lines (
 
 -- ---- fields
 
--- where they are good and whole, they are those that are spelled
+-- if they are good and whole, they are those that are spelled
 abbrev AreSpelled : ℕ → List ℕ → Fields → Type 0
 AreSpelled left bytes f = f.verdict ≡ good → f.is_whole ≡ true
     → (bytes ≡ flat_map field_bytes f.fields) × AreFields f.fields × (length f.fields ≤ left)

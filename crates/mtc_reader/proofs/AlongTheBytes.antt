@@ -1,4 +1,4 @@
--- The events of a list of bytes, told along the list: each byte goes on the message and the row that stand before it.
+-- The events of a list of bytes, told along the list: each byte goes on the message and the row that come before it.
 use Rattle.std.proofs.Common.{◌≡◌, ℕ, ◌+◌, Bool, true, false, List, [], ◌∷◌, ◌++◌, length, cond, refl, sym, ◌∙◌, ap}
 use Rattle.std.proofs.Common.{append-nil, append_assoc, length-append}
 use Rattle.std.specs.Prelude.{reverse}

@@ -131,7 +131,7 @@ eight_ahead cells some =
     let c = length-drop 8 cells in
     omega (arith, a, b, c, some)
 
--- the intervals of cells in front of these and of those behind which enough others stand
+-- the intervals of cells in front of these and of those that enough others follow
 judged_come_first : (ticks least : ℕ) (cells front waiting : List Measured) (all : List Measured)
     → (front ++ take 8 cells) ++ drop 8 cells ≡ all → waiting ≡ reverse (front ++ take 8 cells)
     → intervals_before ticks least (drop 8 cells) waiting ≡ intervals_of_judged ticks least cells

@@ -1,4 +1,4 @@
--- A ring keeps the latest samples: a sample that is written over the oldest one stands behind the others.
+-- A ring keeps the latest samples: a sample that is written over the oldest one comes behind the others.
 use Rattle.std.proofs.Common.{◌≡◌, ℕ, zero, suc, ◌+◌, ◌-◌, ◌*◌, ◌<◌, ◌≤◌, ◌==◌, Bool, true, false, cond, ℤ, pos, ◌+ℤ◌}
 use Rattle.std.proofs.Common.{◌-ℤ◌, List, [], ◌∷◌, ◌++◌, length}
 use Rattle.std.proofs.Common.{replicate, take, drop, get_or, unsigned_abs, refl, ap, ap₂, subst, sym, ◌∙◌, append-nil}

@@ -152,7 +152,7 @@ pub one_taken : (state now : FinderState) (window pushed : WindowState) (s y : �
 one_taken state now window pushed s y distance some is pushed_is now_is distance_is =
     rw (pushed_is, now_is, distance_is) (one_step state window s y some is)
 
--- ---- the same where each sample stands for itself
+-- ---- the same if each sample stands for itself
 
 pub one_sample : (window : WindowState) (s : ℤ) → IsAlone window → s ≡ total (window.kept ++ s ∷ [])
 one_sample window s is = sym (ap (λ kept. total (kept ++ s ∷ [])) is.1 ∙ alone s)

@@ -1,4 +1,4 @@
--- The frames of words go on step by step: an invented frame, and a word that joins, stands one step after the frame
+-- The frames of words go on step by step: an invented frame, and a word that joins, is one step after the frame
 -- before it.
 use Rattle.std.proofs.Common.{◌≡◌, ℕ, zero, suc, ◌+◌, Bool, true, false, not, ◌&&◌, cond, ℤ, pos, ◌+ℤ◌, List, [], ◌∷◌}
 use Rattle.std.proofs.Common.{◌++◌, length, map, Option}

@@ -97,7 +97,7 @@ next_tick tick fineness k n now new other is same next =
     let both = sum_times fineness k n in
     let more : other * n ≡ fineness * n = ap (λ (x : ℕ). x * n) same in omega (arith, is, next, both, more)
 
--- the samples of a run stand behind those before it
+-- the samples of a run come behind those before it
 pub joined : (k n : ℕ) (front xs : List ℤ) → k ≤ length xs → k + n ≤ length xs
     → (front ++ take k xs) ++ take n (take (length xs - k) (drop k xs)) ≡ front ++ take (k + n) xs
 joined k n front xs within less = append_assoc front (take k xs) _

@@ -39,7 +39,7 @@ pub lines_of_all : (most : ℕ) (bytes : List ℕ) → length bytes ≤ most
     → lines_within most bytes ≡ event_lines (events_in bytes)
 lines_of_all most bytes within = ap (λ (l : List ℕ). event_lines (events_in l)) (take_all most bytes within)
 
--- and where the bytes reach it, whatever follows
+-- and if the bytes reach it, whatever follows
 pub lines_at_limit : (most : ℕ) (front more : List ℕ) → length front ≡ most
     → lines_within most (front ++ more) ≡ event_lines (events_in front)
 lines_at_limit most front more is =

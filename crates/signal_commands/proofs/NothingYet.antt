@@ -1,4 +1,4 @@
--- Where nothing was worked on yet, what stood before stands, and nothing was written.
+-- If nothing was worked on yet, what was before stays, and nothing was written.
 use Rattle.std.proofs.Common.{ℕ, List, [], ◌++◌, Option, sym, subst, append-nil}
 use Rattle.std.proofs.KnownBytes.{Appends-nil}
 use Rattle.tc_command.specs.KeptWorks.{Works}

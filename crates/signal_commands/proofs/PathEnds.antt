@@ -1,4 +1,4 @@
--- When a sound has ended, the file of its best path stands whole, or a front of it where a push failed.
+-- When a sound has ended, the file of its best path is written whole, or a front of it if a push failed.
 use Rattle.std.proofs.Common.{◌≡◌, ℕ, ℤ, List, ◌++◌, reverse, refl, ap, subst, sym, ◌∙◌}
 use Rattle.std.proofs.Common.{append_assoc}
 use Rattle.std.proofs.KnownBytes.{Appends-trans}
@@ -89,7 +89,7 @@ abbrev pub SomeWhole : Type 0
 SomeWhole = (grid : Grid) (ticks least : ℕ) (samples : List ℤ)
     → (intervals : List ℕ) × AreIntervals grid ticks least samples intervals
 
--- a push failed while intervals were given: a front of the file stands
+-- a push failed while intervals were given: a front of the file is written
 pub gather_fails : SomeWhole → GivenFirstAtEnd → (s mid next : PathSound) (a b : Option (List ℕ))
     (samples : List ℤ) (written : List ℕ) (hears : HearsSamples s samples written) → mid.gathered ≡ s.gathered
     → HasFailed mid next a b (reverse samples) hears.given → IsOfWords next

@@ -152,7 +152,7 @@ only_two [] some = absurd (omega (arith, some))
 only_two (low ∷ []) some = absurd (omega (arith, some))
 only_two (low ∷ high ∷ more) some = refl
 
--- the samples of all bytes, where half a sample is none
+-- the samples of all bytes, if half a sample is none
 pub same_samples : (s : PcmSound) (bytes written : List ℕ) (stands : Stands s bytes written)
     → samples_of bytes ≡ samples_of stands.whole
 same_samples s bytes written stands =

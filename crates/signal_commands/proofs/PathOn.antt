@@ -186,7 +186,7 @@ GivenFirstSoFar = (state : FrontState) (samples : List ℤ) (given intervals : L
     → AreIntervalsSoFar state.judging.cells.steps.grid state.ticks state.judging.cells.steps.hold.least samples
     intervals → (rest : List ℕ) × (intervals ≡ given ++ rest)
 
--- a push failed: a front of what is due stands
+-- a push failed: a front of what is due is written
 pub hear_fails : SomeSoFar → GivenFirstSoFar → (s mid next : PathSound) (a b : Option (List ℕ))
     (samples : List ℤ) (sample : ℤ) (written : List ℕ) (hears : HearsSamples s samples written)
     → mid.gathered ≡ s.gathered → HasFailed mid next a b (sample ∷ reverse samples) hears.given → IsOfWords next

@@ -46,7 +46,7 @@ three_parts p =
     ∙ ap (λ (l : List ℕ). intervals_bytes One first ++ l)
     (flat_map-append (spelling One) (option_to_list p.rest) (replicate p.begun p.length))
 
--- nothing has begun where nothing has passed
+-- nothing has begun if nothing has passed
 pub none_begun : (pace : Pace) → begun pace 0 ≡ []
 none_begun Ended = refl
 none_begun (Passing length) = ap (λ n. replicate n length) (zero-div length)

@@ -1,4 +1,4 @@
--- A run that is sent whole is read, whatever bytes stand before it and behind it, and all that is read are messages.
+-- A run that is sent whole is read, whatever bytes come before it and behind it, and all that is read are messages.
 use Rattle.std.proofs.Common.{◌≡◌, ◌<◌, ℕ, List, ◌++◌, length, map, refl, sym, ◌∙◌, ap, subst, append_assoc}
 use Rattle.tc_address.specs.declared.direction.Direction.{Direction}
 use Rattle.tc_address.specs.declared.direction.Direction.TheVariants.{Forward, Backward}

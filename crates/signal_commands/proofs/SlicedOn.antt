@@ -136,7 +136,7 @@ part_of : (slicing : words.Slices) (bytes written : List ℕ) → length (sample
 part_of slicing bytes written within are = are
     ∙ ap (sliced slicing) (sym (take_all MAX_SAMPLES (samples_of bytes) within))
 
--- a push failed: a front of what is due stands
+-- a push failed: a front of what is due is written
 pub grown_part : (s next : SlicedSound) (whole written bytes rest : List ℕ) (count : ℕ) (brought : Intervals)
     (old new : Option (List ℕ))
     → Slices s whole written → Grows s next (take count bytes) brought
@@ -231,7 +231,7 @@ length-bytes s bytes written stands =
     ap length stands.are ∙ length-append stands.whole (option_to_list s.half)
     ∙ ap (λ (n : ℕ). n + length (option_to_list s.half)) stands.slices.count
 
--- all of it was written, where nothing is gathered
+-- all of it was written, if nothing is gathered
 pub all_written : (s : SlicedSound) (bytes written : List ℕ) → s.gathered.room.items ≡ [] → Stands s bytes written
     → written
     ≡ sliced s.slicing (samples_of bytes)
@@ -360,7 +360,7 @@ half_then front whole bytes half low are is some =
     ∙ ap (λ (l : List ℕ). l ++ (high ∷ [])) (are ∙ ap (λ (h : Option ℕ). whole ++ option_to_list h) is)
     ∙ append_assoc whole (low ∷ []) (high ∷ []) ∙ sym (append-nil (whole ++ (low ∷ high ∷ [])))
 
--- no half stands before them
+-- no half comes before them
 pub no_half : (front whole : List ℕ) (half : Option ℕ) → front ≡ whole ++ option_to_list half → half ≡ None
     → front ≡ whole
 no_half front whole half are is = are ∙ ap (λ (h : Option ℕ). whole ++ option_to_list h) is ∙ append-nil whole

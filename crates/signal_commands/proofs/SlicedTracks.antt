@@ -98,7 +98,7 @@ pub record Decodes (s next : SlicedTrack) (bytes : List ℕ) (samples : List ℤ
   pub told : (all : List ℕ) (given : List ℤ) → StandsFor next.decoder all given
       → IsTold (reading_of next.decoder.asked all) (format_in_decoding next.decoder) given good
 
--- what it says, where it tells the format too
+-- what it says, if it gives the format too
 pub decodes_more : (s next : SlicedTrack) (bytes : List ℕ) (samples : List ℤ) (told : Option WaveFormat)
     → next.slicing ≡ s.slicing → next.decoder.asked ≡ s.decoder.asked
     → ((front : List ℕ) (before : List ℤ) → StandsFor s.decoder front before
@@ -243,7 +243,7 @@ begun reads s next front written bytes format old new stands decodes slicer befo
 
 -- ---- what stops it
 
--- a push failed: a front of what is due stands
+-- a push failed: a front of what is due is written
 pub slice_stop : Reads → (s next : SlicedTrack) (front written bytes due : List ℕ) (count : ℕ) (samples : List ℤ)
     (old new : Option (List ℕ))
     (stands : Stands s front written) → Decodes s next (take count bytes) samples

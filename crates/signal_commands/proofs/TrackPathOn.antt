@@ -64,7 +64,7 @@ none_heard t None before samples written out heard none = (
   ),
 )
 
--- the same where nothing was to be pushed
+-- the same if nothing was to be pushed
 pub none_pushed : (t : SlicesTrackPath) (format : Option WaveFormat) (samples : List ℤ) (written : List ℕ)
     (out : Option (List ℕ)) → HearsTrack t None format samples written
     → (more : List ℕ) × Appends out out more × HearsTrack t None format samples (written ++ more)
@@ -138,7 +138,7 @@ pub record Decodes (old new : Decoding) (bytes : List ℕ) (samples : List ℤ) 
   pub told : (all : List ℕ) (given : List ℤ) → StandsFor new all given
       → IsTold (reading_of new.asked all) (format_in_decoding new) given good
 
--- what it says, where it tells the format too
+-- what it says, if it gives the format too
 pub decodes_more : (old new : Decoding) (bytes : List ℕ) (samples : List ℤ) (told : Option WaveFormat)
     → new.asked ≡ old.asked
     → ((front : List ℕ) (before : List ℤ) → StandsFor old front before
@@ -272,7 +272,7 @@ begun s next front written bytes format out stands path decodes before now heard
 
 -- ---- what stops it
 
--- a push failed: a front of what is due stands
+-- a push failed: a front of what is due is written
 pub hear_stop : (s : TrackSound) (next : Decoding) (front written bytes : List ℕ) (count : ℕ) (samples : List ℤ)
     (old new : Option (List ℕ)) (stands : Stands s front written) → Decodes s.decoder next (take count bytes) samples
     → format_in_decoding next ≡ format_in_decoding s.decoder

@@ -1,4 +1,4 @@
--- A distance that fits an interval is written as it is, and at each pace where nothing lasts longer than a piece.
+-- A distance that fits an interval is written as it is, and at each pace if nothing lasts longer than a piece.
 use Rattle.std.proofs.Common.{◌≡◌, ℕ, ◌-◌, ◌*◌, ◌/◌, ◌<◌, ◌≤◌, Bool, true, false, ℤ, List, [], ◌∷◌, ◌++◌}
 use Rattle.std.proofs.Common.{replicate}
 use Rattle.std.proofs.Common.{ap, ap₂, refl, ◌∙◌, arith}

@@ -1,4 +1,4 @@
--- Where a cell is compared with the sum of the four before it, each of the four is wrong by a delay at most, and
+-- If a cell is compared with the sum of the four before it, each of the four is wrong by a delay at most, and
 -- together they differ from four times the next cell by ten drifts: what is asked of a cell leaves room for both.
 use Rattle.std.proofs.Common.{◌≡◌, ℕ, ◌+◌, ◌*◌, ◌<◌, ◌≤◌, List, [], ◌∷◌, arith}
 use Rattle.biphase.specs.declared.cell.Cell.{Cell}

@@ -1,4 +1,4 @@
--- A tape whose lengths are counted in samples is as steady in ticks, where the delay is a sample.
+-- A tape whose lengths are counted in samples is as steady in ticks, if the delay is a sample.
 use Rattle.std.proofs.Common.{◌≡◌, ℕ, ◌+◌, ◌*◌, ◌<◌, ◌≤◌, Bool, true, false, List, [], ◌∷◌, map, refl, ap, sym}
 use Rattle.std.proofs.Common.{subst, mul-add}
 use Rattle.std.proofs.Common.{mul-le-mul_left, arith}

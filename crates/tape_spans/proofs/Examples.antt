@@ -59,7 +59,7 @@ one_word : mean_speed 48_000 F25 (record {
 }) ≡ 0
 one_word = refl
 
--- ---- how labels stand to each other
+-- ---- how labels are related
 
 mark : Address → Direction → Mark
 mark label direction = mark_at label direction 100

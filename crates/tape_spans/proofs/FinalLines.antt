@@ -77,7 +77,7 @@ final-split rate system frames done running split =
 
 -- ---- what a frame adds
 
--- nothing, where it goes on or nothing is open
+-- nothing, if it goes on or nothing is open
 pub nothing_told : (lines : List ℕ) → lines ≡ lines ++ []
 nothing_told lines = sym (append-nil lines)
 

@@ -1,4 +1,4 @@
--- Of places that share out the bits of a register each one keeps its number where others are written.
+-- Of places that share out the bits of a register each one keeps its number if others are written.
 use Rattle.std.proofs.Common.{◌≡◌, ℕ, zero, suc, ◌+◌, ◌-◌, ◌*◌, ◌/◌, ◌%◌, ◌^◌, ◌<◌, ◌≤◌, Bool, true, false, cond, subst}
 use Rattle.std.proofs.Common.{List, [], ◌∷◌, arith, refl, sym, ap, ◌∙◌, ◌⊎◌, inl, inr}
 use Rattle.std.specs.Prelude.{◌&&◌, ◌==◌, nat_le, nat_lt, count_by}
@@ -62,7 +62,7 @@ regroup : (high w v f low old above clear : ℕ) → old ≡ (above * w + clear)
     → (high * w + v) * f + low ≡ v * f + old
 regroup high w v f low old above clear parts same zeros = rw (parts, same, zeros) (grind arith)
 
--- to add a number where zeros stand is to write it there
+-- to add a number where there are zeros is to write it there
 added : (old : ℕ) (p : Place) (value : ℕ) → number_in p old ≡ 0 → value < 2 ^ p.width
     → Replaces old (value * 2 ^ p.first + old) p.first p.width value
 added old p value clear fits =

@@ -85,7 +85,7 @@ thirty_two_bits = refl
 
 -- ---- sizes of 64 bits
 
--- the size of the data stands at byte 8 of ds64; what follows the data is passed over
+-- the size of the data is at byte 8 of ds64; what follows the data is passed over
 long_sizes : file_at (of_track 1) (rf64 ++ unknown ++ wave ++ ds64 ++ 16 ∷ 0 ∷ 0 ∷ 0 ∷ 9 ∷ 9 ∷ 9 ∷ 9 ∷ 9 ∷ 9 ∷ 9 ∷ 9 ∷ 2
     ∷ 0 ∷ 0
     ∷ 0 ∷ 0 ∷ 0 ∷ 0 ∷ 0 ∷ fmt

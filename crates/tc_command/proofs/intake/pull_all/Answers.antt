@@ -90,7 +90,7 @@ returns-in_err-feed-clause-stops g c =
       rw (same, ← same_choice) (along _ c.in_err-feed.field-0.0 _ _ _ last.2),
     ))
 
--- no pull stood at the end before, and the last one did where it brought no byte
+-- no pull was at the end before, and the last one was if it brought no byte
 pub returns-in_err-flush-clause-once : goal.returns-in_err-flush-clause-once
 returns-in_err-flush-clause-once g c = λ none_yet.
     unseen_by c.from_residual.result _ c.from_residual.ensures.0 (c.pulls.invariant.open_end none_yet)

@@ -7,7 +7,7 @@ use Rattle.lemmas.specs.Results.{through}
 use Rattle.frame_commands.specs.Heard.{AreHeardYet}
 use Rattle.frame_commands.proofs.flight.FlightToBehind.begin.Goals as goal
 
--- what stands first was written, and there is no frame yet
+-- what comes first was written, and there is no frame yet
 pub returns-clause-begins : goal.returns-clause-begins
 returns-clause-begins g c =
     let reader = c.start-reader.result in

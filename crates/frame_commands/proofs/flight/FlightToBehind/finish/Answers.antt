@@ -24,7 +24,7 @@ give-requires-clause-turns g c =
     rw c.ticks-ticks.ensures.value (turns_of h s.frames (g.T.FrameSink.taken s.sink) c.requires.fits.0 h.tick
     c.last_words-self.result c.requires.fits.2 c.last_words-self.ensures.in_turn)
 
--- what waited was sent, and what stands last
+-- what waited was sent, and what comes last
 pub returns-clause-ends : goal.returns-clause-ends
 returns-clause-ends g c =
     let s = c.args.self.now in
@@ -65,7 +65,7 @@ returns-in-Err-clause-front g c = (
       (p.0 ++ p.1, p.2, front_of_more _ _ p.0 p.1 p.3)),
 )
 
--- what waited, and a front of what stands last
+-- what waited, and a front of what comes last
 pub returns-clause-front : goal.returns-clause-front
 returns-clause-front g c =
     let s = c.args.self.now in

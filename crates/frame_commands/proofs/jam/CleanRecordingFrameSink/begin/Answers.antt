@@ -9,7 +9,7 @@ use Rattle.lemmas.specs.Results.{through}
 use Rattle.frame_commands.proofs.FramesAnew.{file_begins}
 use Rattle.frame_commands.proofs.jam.CleanRecordingFrameSink.begin.Goals as goal
 
--- what stands first was pushed
+-- what comes first was pushed
 pub returns-clause-begins : goal.returns-clause-begins
 returns-clause-begins g c =
     let jam = c.args.jam in

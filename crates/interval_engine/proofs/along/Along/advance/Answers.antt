@@ -7,7 +7,7 @@ use Rattle.interval_engine.proofs.PassedOn.{done_is_no_pull, retold}
 use Rattle.lemmas.specs.Results.{passed_on}
 use Rattle.interval_engine.proofs.along.Along.advance.Goals as goal
 
--- whole intervals that stand first stop the command
+-- whole intervals that come first stop the command
 pub returns-in_err-count : goal.returns-in_err-count
 returns-in_err-count g c =
     let e = c.in_err-count.ensures in
@@ -31,7 +31,7 @@ returns-in_default g c =
       no_pull = done_is_no_pull;
     }
 
--- no whole interval stands first, and the first byte stops the command
+-- no whole interval comes first, and the first byte stops the command
 pub returns-in_err-byte-in-0 : goal.returns-in_err-byte-in-0
 returns-in_err-byte-in-0 g c =
     let s = c.args.self.now in

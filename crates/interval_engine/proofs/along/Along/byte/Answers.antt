@@ -60,7 +60,7 @@ returns-in_err-begin-in-Header g c =
       no_pull = failed_push_is_no_pull;
     }
 
--- the header stands first
+-- the header comes first
 pub returns-in_ok-begin-in-Header : goal.returns-in_ok-begin-in-Header
 returns-in_ok-begin-in-Header g c =
     let s = c.args.self.now in

@@ -5,7 +5,7 @@ use Rattle.tc_command.specs.Status.{status_of}
 use Rattle.interval_engine.proofs.AnItemMore.{no_cause, settled_stop, spent_stop, unsettled_stop}
 use Rattle.interval_engine.proofs.along.Along.stopped.Goals as goal
 
--- the part stands, and passes a limit of the command's own
+-- the part is written, and passes a limit of the command's own
 pub returns-then-is_spent : goal.returns-then-is_spent
 returns-then-is_spent g c =
     let s = c.args.self.now in
@@ -24,7 +24,7 @@ returns-then-is_spent g c =
       no_pull = λ is. absurd cc;
     }
 
--- the part stands, within such a limit
+-- the part is written, within such a limit
 pub returns-else-is_spent : goal.returns-else-is_spent
 returns-else-is_spent g c =
     let s = c.args.self.now in

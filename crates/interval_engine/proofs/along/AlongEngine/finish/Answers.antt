@@ -33,7 +33,7 @@ returns-in-Err g c =
       no_pull = refusal_is_no_pull;
     }
 
--- what stands last is taken, or a front of it
+-- what comes last is taken, or a front of it
 pub returns : goal.returns
 returns g c =
     let s = c.args.self.now in

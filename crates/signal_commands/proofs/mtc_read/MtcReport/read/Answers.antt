@@ -5,7 +5,7 @@ use Rattle.mtc_reader.specs.StandsFor.{events_of}
 use Rattle.signal_commands.proofs.SlicedOn.{same_front}
 use Rattle.signal_commands.proofs.mtc_read.MtcReport.read.Goals as goal
 
--- what is taken of the bytes within the limit stands in front of all of them
+-- what is taken of the bytes within the limit comes in front of all of them
 pub returns-clause-stands : goal.returns-clause-stands
 returns-clause-stands c = λ front stands.
     subst (λ (l : List ℕ). reads.StandsFor c.take.new.self (front ++ l))

@@ -25,7 +25,7 @@ slice_all-requires-clause-within g c =
     within_few c.args.self.now.samples c.args.bytes.now c.within-samples.result.now c.requires.going.within
     c.within-samples.ensures.front
 
--- those within the limit stand first
+-- those within the limit come first
 pub returns-clause-count : goal.returns-clause-count
 returns-clause-count g c =
     let most = 2 * (MAX_SAMPLES - c.args.self.now.samples) in

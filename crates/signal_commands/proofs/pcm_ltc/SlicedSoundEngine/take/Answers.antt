@@ -71,7 +71,7 @@ returns-then-bytes-eq1-clause-budget g c =
     falls_by_half c.args.self.now.samples c.args.self.now.half (get_or c.args.bytes.now 0 0) c.in_default.is
     c.requires.going.within
 
--- whole samples stand first
+-- whole samples come first
 pub returns-clause-budget : goal.returns-clause-budget
 returns-clause-budget g c =
     let e = c.slice-2.ensures in

@@ -69,7 +69,7 @@ returns-then-bytes-eq1-clause-budget g c =
     falls_by_half c.args.self.now.samples c.args.self.now.half (get_or c.args.bytes.now 0 0) c.in_default.is
     c.requires.going.within
 
--- two bytes stand first
+-- two bytes come first
 pub returns-in_err-hear_within-2-clause-stops : goal.returns-in_err-hear_within-2-clause-stops
 returns-in_err-hear_within-2-clause-stops g c =
     let s = c.args.self.now in
