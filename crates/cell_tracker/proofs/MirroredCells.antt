@@ -1,4 +1,4 @@
--- Of a recording within the tolerance and its mirror, the kinds of the pairs tell the cells between the greater
+-- Of a recording within the tolerance and its mirror, the kinds of the pairs give the cells between the greater
 -- intervals of the first and the last unequal pair. So there the cells of the mirror are those of the recording in the
 -- other order of time.
 use Rattle.std.proofs.Common.{◌≡◌, ℕ, ◌+◌, ◌-◌, ◌<◌, ◌≤◌, List, [], ◌∷◌, ◌++◌, length, drop, take, get_or, reverse, map}

@@ -109,7 +109,7 @@ was_locked count Locked master position loses = refl
 
 -- ---- the kind of a loss
 
--- no code is told without a master, and the window with one
+-- no code is reported without a master, and the window with one
 abbrev IsKind : Loss → Option Master → Type 0
 IsKind NoCode master = master ≡ None
 IsKind (Window error) master = (m : Master) × (master ≡ Some m)

@@ -1,5 +1,5 @@
 -- Each cell lasts a tick at least and twice the greatest interval at most, so the boundaries that are
--- kept tell how long a window can be.
+-- kept say how long a window can be.
 use Rattle.std.proofs.Common.{◌≡◌, ◌<◌, ◌≤◌, ℕ, ◌+◌, ◌-◌, ◌*◌, List, [], ◌∷◌, ◌++◌, length, drop, Bool, arith, refl}
 use Rattle.std.proofs.Common.{true, false}
 use Rattle.std.specs.Prelude.{slice_index, nat_lt}

@@ -1,4 +1,4 @@
--- 80 bits that end in the sync word spell a word or are at fault, so a window has events, and so has each stretch, and
+-- 80 bits that end in the sync word spell a word or have a fault, so a window has events, and so has each stretch, and
 -- each list.
 use Rattle.std.proofs.Common.{◌≡◌, ◌<◌, ◌≤◌, ◌⊎◌, ℕ, ◌-◌, ◌^◌, List, [], ◌∷◌, ◌++◌, length, take, drop, map, Bool, Some}
 use Rattle.std.proofs.Common.{None, inl, inr}

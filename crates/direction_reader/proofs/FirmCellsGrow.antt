@@ -1,4 +1,4 @@
--- What waits and what was told of some cells becomes what waits and is told of one cell more: a word that is read
+-- What waits and what was given of some cells becomes what waits and is given of one cell more: a word that is read
 -- backward waits until its sixteen cells are there, and what comes in the meantime comes behind it, one event at most.
 use Rattle.std.proofs.Common.{◌≡◌, ◌<◌, ◌≤◌, ℕ, zero, suc, ◌+◌, ◌-◌, Bool, true, false, List, [], ◌∷◌, ◌++◌, length}
 use Rattle.std.proofs.Common.{take, drop, map, Option, Some, None}
@@ -112,14 +112,14 @@ both_ways system tick cells k = refl
 
 -- ---- a window is heard if none waits
 
--- what is told with the window from place k on, but for its backward candidate
+-- what is given with the window from place k on, but for its backward candidate
 abbrev IsReady : System → ℕ → List Cell → ℕ → List FirmEvent → Type 0
 IsReady system tick cells k told = told ≡ spans system tick cells 0 k ++ firm_candidate_at system tick cells k Forward
 
 judged_list : (firm : Bool) (event : Event) → map (judged firm) (event ∷ []) ≡ judged firm event ∷ []
 judged_list firm event = refl
 
--- all is told of it
+-- all is given of it
 all_told : (system : System) (tick : ℕ) (cells : List Cell) (k : ℕ) (told last : List FirmEvent) → length cells ≡ k + 80
     → IsReady system tick cells k told → last ≡ firm_candidate_at system tick cells k Backward
     → told ++ last ≡ firm_events_of_cells system tick cells

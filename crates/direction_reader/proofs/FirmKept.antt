@@ -1,5 +1,5 @@
 -- The register of 96 bits holds the latest 96 cells, so it shows what is beside the latest window. And what is kept
--- of the latest cells tells the candidates of that window.
+-- of the latest cells gives the candidates of that window.
 use Rattle.std.proofs.Common.{◌≡◌, ◌<◌, ◌≤◌, ℕ, zero, suc, ◌+◌, ◌-◌, ◌*◌, ◌/◌, ◌%◌, ◌^◌, Bool, true, false, List, []}
 use Rattle.std.proofs.Common.{◌∷◌, ◌++◌, length, take, drop, map}
 use Rattle.std.proofs.Common.{ap, ap₂, sym, ◌∙◌, arith, refl, subst, append_assoc, append-nil, length-append, inl, inr}

@@ -1,4 +1,4 @@
--- What a reader has told is what is told of its list while more may follow. At most one word waits, so a list has one
+-- What a reader has given is what is given of its list while more may follow. At most one word waits, so a list has one
 -- such list of events.
 use Rattle.std.proofs.Common.{◌≡◌, ◌<◌, ◌≤◌, ℕ, zero, suc, ◌+◌, ◌-◌, List, [], ◌∷◌, ◌++◌, length, Some, None, Option}
 use Rattle.std.proofs.Common.{ap, sym, ◌∙◌}
@@ -37,7 +37,7 @@ use Rattle.direction_reader.proofs.FirmTicks.{first_tick, one_at_most}
 use Rattle.direction_reader.proofs.OneListOfEvents.{HasOneList}
 use Rattle.direction_reader.proofs.SyncInTime.{WordLaws}
 
--- a word is told otherwise without a witness
+-- a word without a witness is given otherwise
 pub no_need : (word : Event) (es : List Event) → es ≡ word ∷ [] → is_word word ≡ true
     → map (judged true) es ≡ map (judged false) es → ⊥
 no_need (Word d w t n) es there is same =
@@ -45,7 +45,7 @@ no_need (Word d w t n) es there is same =
 no_need (Refused d f t) es there is same = absurd cc
 no_need (Lost p t) es there is same = absurd cc
 
--- ---- what a reader has told
+-- ---- what a reader has given
 
 told_of_cells : (system : System) (tick now : ℕ) (cells : List Cell) (waits : Option Waiting) (told : List FirmEvent)
     → WaitsFor waits system tick cells told → AreToldOfCells system tick cells now told (until_of now waits)
@@ -65,7 +65,7 @@ told_of_cells system tick now cells (Some w) told one =
       first_tick system tick cells one.place Backward w.word [] one.word,
     )
 
--- what is told of a stretch by its end
+-- what is given of a stretch by its end
 abbrev TellsOpen : System → List ℕ → Stretch → List Stretch → List FirmEvent → ℕ → Type 0
 TellsOpen system l s ss told until =
     (ss ≡ []) × AreToldOfCells system (begin_of l s) s.cells (sum l) told until

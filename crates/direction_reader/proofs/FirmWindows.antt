@@ -1,5 +1,5 @@
 -- One cell more makes one window more, and decides of one window alone whether it has its witness: the one that ended
--- sixteen cells before. So what was told stays.
+-- sixteen cells before. So what was given stays.
 use Rattle.std.proofs.Common.{◌≡◌, ◌<◌, ◌≤◌, ℕ, zero, suc, ◌+◌, ◌-◌, Bool, true, false, List, [], ◌∷◌, ◌++◌, length}
 use Rattle.std.proofs.Common.{take, drop, map}
 use Rattle.std.proofs.Common.{ap, ap₂, sym, ◌∙◌, arith, refl, subst, append_assoc, append-nil, length-append, inl, inr}

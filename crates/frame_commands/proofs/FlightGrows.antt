@@ -29,7 +29,7 @@ use Rattle.frame_commands.specs.OfFrames.{FrameText, IsFlightPart, IsFlightWhole
 use Rattle.frame_commands.specs.OfFrames.{words_heard}
 use Rattle.frame_commands.proofs.FramesInOrder.{Given}
 
--- what a reader has told are the events that are heard yet
+-- what a reader has given are the events that are heard yet
 abbrev pub TheHeard : Witness → Hearer → Type 0
 TheHeard witness h = (intervals : List ℕ) (events : List Event) → h.stands intervals events
     → AreHeardYet witness h.system h.profile intervals events h.until
@@ -151,7 +151,7 @@ flown_part witness flight made has h now f sink choice header intervals written 
 
 -- ---- the end
 
--- the events that are told at the end
+-- the events that are given at the end
 abbrev pub Ends : Witness → Hearer → List Event → Type 0
 Ends witness h own = (intervals : List ℕ) (events : List Event) → h.stands intervals events
     → AreHeard witness h.system h.profile intervals (events ++ own)

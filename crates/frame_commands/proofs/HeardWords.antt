@@ -93,9 +93,9 @@ pub in_turn : (n from tick : ℕ) (own : Events) → tick < 2 ^ 60 → from ≤ 
 in_turn n from tick own below before brings =
     at_in_turn from tick (words_heard (event_list own)) before (words_at n tick own below brings)
 
--- ---- of a reader that asks for witnesses
+-- ---- of a reader that needs witnesses
 
--- what is told of one behind another
+-- what is given of one behind another
 pub told_events-append : (fs gs : List FirmEvent) → told_events (fs ++ gs) ≡ told_events fs ++ told_events gs
 told_events-append [] gs = refl
 told_events-append (Told e ∷ fs) gs = ap (λ (es : List Event). e ∷ es) (told_events-append fs gs)
@@ -115,7 +115,7 @@ none_third (Some (Told (events.Refused d f t))) none = refl
 none_third (Some (Told (events.Lost i t))) none = refl
 none_third (Some (Alone d t)) none = refl
 
--- the words of what is told are those of the first two
+-- the words of what is given are those of the first two
 pub words_of_two : (told : FirmEvents) → IfSome told.third IsNoWord
     → words_told (firm_list told) ≡ words_told (firm_listed told.first) ++ words_told (firm_listed told.second)
 words_of_two told none =
@@ -160,7 +160,7 @@ told_in_range n sum told below brings = rw (words_of_two told brings.no_word)
     (All-append IsInRange (words_told (firm_listed told.first)) (words_told (firm_listed told.second))
     (told_range n sum told.first below brings.first) (told_range n sum told.second below brings.second))
 
--- words come in turn, as all that is told
+-- words come in turn, as all that is given
 earlier_turn : (ticks : List ℕ) (a b c : ℕ) → a ≤ b → DoNotFall b ticks c → DoNotFall a ticks c
 earlier_turn [] a b c before turn = omega (arith, before, turn)
 earlier_turn (t ∷ ticks) a b c before turn = let first = turn.0 in (omega (arith, before, first), turn.1)

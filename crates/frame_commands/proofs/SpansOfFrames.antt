@@ -32,7 +32,7 @@ same_cut : (rate own : ℕ) (system its : System) (cut : Cut) → rate ≡ own �
     → cut_lines own its cut ≡ cut_lines rate system cut
 same_cut rate own system its cut r s = sym (ap₂ (λ (n : ℕ) (y : System). cut_lines n y cut) r s)
 
--- a frame adds the lines of what it tells
+-- a frame adds the lines of what it completes
 pub cut_added : (tape : Tape) (rate : ℕ) (system : System) (header : IntervalHeader) (frames : List Frame)
     (frame : Frame) (cut : Cut)
     → HasTold tape rate system header frames

@@ -1,4 +1,4 @@
--- What is told of the commands along frames holds.
+-- What is claimed of the commands along frames holds.
 use Rattle.std.proofs.Common.{ℕ, List}
 use Rattle.flywheel.specs.declared.frame.Frame.{Frame}
 use Rattle.interval_file.specs.Recording.{recording_of}

@@ -1,4 +1,4 @@
--- What is worked with a reader that asks for witnesses, or one that asks for none, is worked as the words choose it.
+-- What is worked with a reader that needs witnesses, or one that needs none, is worked as the words choose it.
 use Rattle.std.proofs.Common.{◌≡◌, ℕ, List, Option, sym, subst}
 use Rattle.std.specs.Prelude.{Result}
 use Rattle.tc_command.specs.declared.stop.Stop.{Stop}

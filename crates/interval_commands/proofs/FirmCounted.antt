@@ -1,4 +1,4 @@
--- What is counted of what is told is how many there are of each kind, and each has its line.
+-- What is counted of what is given is how many there are of each kind, and each has its line.
 use Rattle.std.proofs.Common.{◌≡◌, ◌≤◌, ℕ, ◌+◌, ◌*◌, List, [], ◌∷◌, ◌++◌, count_by, arith, cond, IfSome, length, Bool}
 use Rattle.std.proofs.Common.{Some, None, Option, refl, ap, sym, ◌∙◌}
 use Rattle.std.proofs.lemmas.List.Sums.{sum_by-append, sum_by-cons}
@@ -104,7 +104,7 @@ pub one_at_most : (o : Option FirmEvent) (c : Counts) → counts_in (all_told (f
 one_at_most None c = omega arith
 one_at_most (Some e) c = let more = one_more e c in omega (arith, more)
 
--- what is told with an interval counts three at most
+-- what is given with an interval counts three at most
 pub three_at_most : (told : FirmEvents) (c : Counts) → counts_in (all_told (firm_list told) c) ≤ counts_in c + 3
 three_at_most told c =
     let f = firm_listed told.first in
@@ -118,7 +118,7 @@ three_at_most told c =
     let same = ap counts_in split in
     omega (arith, one, two, three, same)
 
--- ---- the numbers of what is told fit their lines
+-- ---- the numbers of what is given fit their lines
 
 told_fits : (n s : ℕ) (e : FirmEvent) → n ≤ MAX_INTERVALS → s ≤ n * MAX_INTERVAL → IsToldBy n s e → FitsFirmLine e
 told_fits n s (Told (Word d w t l)) few low told =

@@ -1,5 +1,5 @@
--- What was printed grows by the lines of what is told with an interval, and the last line counts all of it. What is
--- told
+-- What was printed grows by the lines of what is given with an interval, and the last line counts all of it. What is
+-- given
 -- of some intervals comes first, whatever intervals follow.
 use Rattle.std.proofs.Common.{◌≡◌, ℕ, ◌+◌, ◌≤◌, List, [], ◌∷◌, ◌++◌, sym, ◌∙◌, ap, refl, subst, append_assoc}
 use Rattle.std.proofs.Common.{append-nil}
@@ -25,7 +25,7 @@ use Rattle.interval_commands.specs.KeptFirmReport.{all_told, FirmStands}
 use Rattle.interval_commands.proofs.FirmCounted.{counted_more}
 use Rattle.interval_commands.proofs.LinesGrow.{same_line}
 
--- the lines of what was told with an interval
+-- the lines of what was given with an interval
 pub lines_of_three : (header : IntervalHeader) (told : FirmEvents)
     → firm_lines header (firm_list told) ≡ (firm_lines header (firm_listed told.first)
     ++ firm_lines header (firm_listed told.second)) ++ firm_lines header (firm_listed told.third)
@@ -36,7 +36,7 @@ lines_of_three header told =
     flat_map-append (firm_event_line header) (f ++ s) t
     ∙ ap (λ (l : List ℕ). l ++ firm_lines header t) (flat_map-append (firm_event_line header) f s)
 
--- what a reader has told is what is told of its list
+-- what a reader has given is what is given of its list
 abbrev pub TheTold : Type 0
 TheTold = (reader : FirmState) (intervals : List ℕ) (told : List FirmEvent) → FirmStandsFor reader intervals told
     → AreTold reader.system (profile_of reader.tracker) intervals told (told_until reader)
@@ -70,7 +70,7 @@ more_told law own reader next counts profile header intervals written x told s t
       counted = counted_more counts s.told (firm_list told) s.counted;
     }
 
--- the end: what waits is told, and the last line counts all
+-- the end: what waits is given, and the last line counts all
 pub ends_with : (own : IntervalHeader) (reader : FirmState) (counts : Counts) (profile : Profile)
     (header : IntervalHeader) (intervals written line : List ℕ) (last : FirmEvents)
     → FirmStands own reader counts profile header intervals written
@@ -100,7 +100,7 @@ ends_with own reader counts profile header intervals written line last s ends is
 
 -- ---- in order
 
--- what the laws of told events say
+-- what the laws of given events say
 pub record ToldLaws : Type 0 where
   pub some : (system : System) (profile : Profile) (intervals : List ℕ)
       → (told : List FirmEvent) × (until : ℕ) × AreTold system profile intervals told until

@@ -1,5 +1,5 @@
--- If whole words are played one after another in one direction, each of them has its witness, so a report that asks
--- for witnesses is the one that asks for none.
+-- If whole words are played one after another in one direction, each of them has its witness, so a report that needs
+-- witnesses is the one that needs none.
 use Rattle.std.proofs.Common.{◌≡◌, ℕ, ◌+◌, List, [], ◌∷◌, ◌++◌, map, false, true, refl, sym, ◌∙◌, ap, ap₂, Bool, cond}
 use Rattle.std.proofs.Common.{count_by, arith}
 use Rattle.std.specs.Prelude.{drop, take}

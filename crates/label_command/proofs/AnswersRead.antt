@@ -218,7 +218,7 @@ lines_say_labels laws base (line ∷ lines) (a ∷ labels) say =
 
 -- ---- two ways
 
--- what the second way answers to the label that the first one told
+-- what the second way answers to the label that the first one gave
 two_answers : AnswerLaws → (base : Timebase) (first next whole : Way) (a : Address) → AreTogether first next whole
     → IsOf base a → answer base next (label_told first a) ≡ answer base whole a
 two_answers laws base ways.Number next whole a together is = ap (λ (way : Way). answer base way a) together

@@ -314,7 +314,7 @@ stopped_at_a_line laws run text written lines left fault has (inr ends) =
       are = ends.1.2 ∙ ap (answers run) first.are;
     }
 
--- ---- what is told of it
+-- ---- what is claimed of it
 
 keeps : LabelLaws → (run : LabelRunning) (text written : List ℕ) (lines : List (List ℕ)) → HasLines text lines
     → IsInput (along_labels run) text → Meaning.output (along_labels run) text written → Said run.base 1 lines

@@ -240,7 +240,7 @@ fields_from (suc left) place (byte ∷ more) are =
 
 -- ---- the header
 
--- a byte of the head is the one that its place asks for
+-- a byte of the head is the one that belongs to its place
 right_byte : (count place byte : ℕ) (more : List ℕ) (u : Unit {0}) → head_at (suc count) place (byte ∷ more) ≡ whole u
     → (is_wrong place byte ≡ false) × (head_at count (place + 1) more ≡ whole u)
 right_byte count place byte more u e = by_test (is_wrong place byte) refl e
@@ -293,7 +293,7 @@ header_said (Some system) n header e = by_length (is_line_length n) e
         (ap (λ (h : LineHeader). Some h.system) same, ap (λ (h : LineHeader). h.length) same)
     by_length false e = absurd cc
 
--- the byte that a place of the head asks for
+-- the byte that belongs to a place of the head
 right : (byte wanted : ℕ) → not (byte == wanted) ≡ false → byte ≡ wanted
 right byte wanted e = eqb-true byte wanted (not-false (byte == wanted) e)
 

@@ -100,7 +100,7 @@ numbered answers before after answer are =
     ∙ append_assoc (answer_lines 0 before) (line ++ behind) (last_field_line answers)
     ∙ ap (λ (l : List ℕ). answer_lines 0 before ++ l) (append_assoc line behind (last_field_line answers))
 
--- ---- what is told of it
+-- ---- what is claimed of it
 
 reads : FieldsLaws → (bytes written : List ℕ) → AreBytes bytes → IsInput along_fields bytes
     → (answers : List FieldAnswer) → AreAnswersOf (reading_of bytes) answers → written ≡ field_report answers

@@ -1,4 +1,4 @@
--- What is sliced of sound tells its crossings, and is of all samples in the bytes.
+-- What is sliced of sound gives its crossings, and is of all samples in the bytes.
 use Rattle.std.proofs.Common.{◌≡◌, ℕ, ◌*◌, ◌%◌, ◌<◌, ◌≤◌, Bool, true, false, cond, ◌==◌, ℤ, List, [], ◌∷◌, length}
 use Rattle.std.proofs.Common.{Some, None, refl, sym, ◌∙◌, ap, arith}
 use Rattle.std.specs.List.{AllByRecursion}
@@ -25,7 +25,7 @@ use Rattle.signal_commands.specs.PcmLtc.{along_samples, odd_fault, pace_for, set
 use Rattle.signal_commands.specs.PcmLtc.{sliced_intervals, told_pcm_ltc, SlicesTheSound}
 use Rattle.signal_commands.proofs.PutMore.{is_pace}
 
--- intervals tell their crossings
+-- intervals give their crossings
 abbrev pub TellAll : Type 0
 TellAll = (pace : Pace) (s : Settings) (samples : List ℤ) → IsPace pace → 1 ≤ s.fineness → 1 ≤ least_of s.threshold
     → TellTheCrossings pace s samples

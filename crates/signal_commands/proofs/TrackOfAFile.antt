@@ -1,5 +1,5 @@
 -- A sound file that was made of blocks is read as them, so what is written of it is the file of its track, whose
--- intervals tell its crossings.
+-- intervals give its crossings.
 use Rattle.std.proofs.Common.{◌≡◌, ℕ, ◌*◌, List, sym, ◌∙◌, ap, arith}
 use Rattle.tc_job.specs.WaveSlicing.{IsWaveSlicing, SlicesWave}
 use Rattle.wave_file.specs.declared.format.WaveFormat.{WaveFormat}
@@ -33,7 +33,7 @@ slices_the_track law tell w is bytes written are = record {
   passing = λ format. pace_passing w.system (16 * format.rate) w.live;
 }
 
--- ---- what is told of a sliced track
+-- ---- what is claimed of a sliced track
 
 pub track_is_lawful : ((w : SlicesWave) → IsCommand (along_sound_file w)) → (w : SlicesWave) → IsLawful (told_wav_ltc w)
 track_is_lawful command w = record {

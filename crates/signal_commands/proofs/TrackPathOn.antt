@@ -329,7 +329,7 @@ flush_stop s front written old new stands f =
     subst (λ (l : List ℕ). Stops (along_track_path s.path) stops.WriteFault old new l written) (append-nil front)
     (gathered_stop s front written [] old new stands f)
 
--- what is told of bytes that end the reading
+-- what is said of bytes that end the reading
 told_stop : (s : TrackSound) (front written all : List ℕ) (v : Verdict WaveFault) (stands : Stands s front written)
     → ((more : List ℕ) → IsTold (reading_of s.decoder.asked (all ++ more)) (format_in_decoding s.decoder)
     stands.samples v)

@@ -1,4 +1,4 @@
--- What is sliced of a sound is the file of its distances, and the spans that are told of this file are those of its
+-- What is sliced of a sound is the file of its distances, and the spans that are written of this file are those of its
 -- events.
 use Rattle.std.proofs.Common.{◌≡◌, ℕ, ◌≤◌, None, List, ◌++◌, length, drop, ap, append_assoc, subst, sym, ◌∙◌}
 use Rattle.std.specs.List.{AllByRecursion}

@@ -1,5 +1,5 @@
 -- If a cell is compared with the sum of the four before it, each of the four is wrong by a delay at most, and
--- together they differ from four times the next cell by ten drifts: what is asked of a cell leaves room for both.
+-- together they differ from four times the next cell by ten drifts: what a cell needs leaves room for both.
 use Rattle.std.proofs.Common.{◌≡◌, ℕ, ◌+◌, ◌*◌, ◌<◌, ◌≤◌, List, [], ◌∷◌, arith}
 use Rattle.biphase.specs.declared.cell.Cell.{Cell}
 use Rattle.biphase.specs.declared.cell.Cell.TheVariants.{Zero, One}
@@ -60,7 +60,7 @@ sum_bounds delay c p q r s latest b nine near = record {
       omega (arith, four, b.last.0, b.second.0, b.third.0, b.fourth.0);
 }
 
--- a cell is as long as the sum asks
+-- a cell is as long as the sum needs
 cell_follows : (delay first last c x sum : ℕ) → first ≤ delay → last ≤ delay → c + last ≡ first + x
     → SumBounds delay c sum → FollowsSum ROUGH sum (Zero x)
 cell_follows delay first last c x sum early late is b = let least = b.least in let most = b.most in

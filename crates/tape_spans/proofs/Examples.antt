@@ -64,7 +64,7 @@ one_word = refl
 mark : Address → Direction → Mark
 mark label direction = mark_at label direction 100
 
--- labels of one count in one direction are told by a step
+-- labels of one count in one direction differ by a step
 a_step : (last next : Address) → relation_of (mark (record last { count = C25 }) Forward)
     (mark (record next { count = C25 }) Forward)
     ≡ Step (step_between (mark (record last { count = C25 }) Forward) (mark (record next { count = C25 }) Forward))
@@ -106,7 +106,7 @@ runs_behind : (last next : Address) → step_between (mark last Forward) (mark n
 unfolding mark
 runs_behind last next = refl
 
--- a turn tells no step, and two counts tell neither a turn nor a step
+-- a turn has no step, and two counts have neither a turn nor a step
 a_turn : relation_of (mark (address C25 10 0 0 0) Forward) (mark (address C25 10 0 0 1) Backward) ≡ Turn
 unfolding mark
 a_turn = refl

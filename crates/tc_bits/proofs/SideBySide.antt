@@ -14,7 +14,7 @@ use Rattle.tc_bits.specs.Register.{number_in}
 use Rattle.tc_bits.specs.Row.{is_in, are_within, Entry, places_of, Fit, Holds, sum_of, IsRow, SumHolds, OnlySumHolds}
 use Rattle.tc_bits.proofs.AroundAField.{Replaces, put_together, parts_of, other_bits, bit_of_low}
 
--- ---- what a test of all numbers below a bound tells
+-- ---- what a test of all numbers below a bound shows
 
 tested : (f : ℕ → Bool) (a n : ℕ) → list_all f (range_with_len a n) ≡ true → (i : ℕ) → i < n → f (a + i) ≡ true
 tested f a zero e i lt = absurd (omega arith)

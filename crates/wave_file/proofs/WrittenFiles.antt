@@ -340,7 +340,7 @@ long_file_read asked form file_size data_size before format blocks tail extent p
 
 -- ---- how far the data go
 
--- a size that is none of those that tell no length
+-- a size that is none of those that say no length
 told_size : (file_size place size : ℕ) (format : WaveFormat) → 1 ≤ size → size < 2 ^ 31 - 2 ^ 16
     → extent_of (noted (no_notes false file_size) format) place size ≡ Some (Announced size)
 told_size file_size place size format some less =

@@ -49,7 +49,7 @@ loop-frame-init g c =
       );
     }
 
--- the next frame may be asked for
+-- the next frame may be fetched
 pub next-requires : goal.next-requires
 next-requires g c =
     let ready = c.requires.ready in (ready.0, c.loop-frame.invariant.giving ready.0 ready.1)

@@ -9,7 +9,7 @@ is_quiet-requires-clause-heard_by g c =
     heard_later s.frames.wheel (g.R.Hearing.hearer s.reader).until c.tick_after.result c.tick_after.ensures.within
     c.requires.heard_by
 
--- and none is due by the tick up to which all is told
+-- and none is due by the tick up to which all is given
 pub returns-then-is_nothing-clause-quiet : goal.returns-then-is_nothing-clause-quiet
 returns-then-is_nothing-clause-quiet g c = λ none.
     let now = g.R.Hearing.hearer c.step-brought.new.self in

@@ -3,7 +3,7 @@ use Rattle.direction_reader.specs.Events.{event_list}
 use Rattle.frame_commands.proofs.HeardWords.{in_range, in_turn, two_words}
 use Rattle.frame_commands.proofs.hearing.DirectionReaderHearing.words.Goals as goal
 
--- they are the words of what was told
+-- they are the words of what was given
 pub returns-clause-told : goal.returns-clause-told
 returns-clause-told c = (
   event_list c.events.result,

@@ -10,7 +10,7 @@ use Rattle.frame_commands.proofs.hearing.FirmReaderHearing.last_words.Goals as g
 pub told-requires : goal.told-requires
 told-requires c = c.finish.ensures.brings.no_word
 
--- with what waits all is told
+-- with what waits all is given
 pub returns-clause-told : goal.returns-clause-told
 returns-clause-told c =
     let last = firm_list c.finish.result in (

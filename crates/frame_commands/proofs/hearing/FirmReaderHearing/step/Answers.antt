@@ -23,7 +23,7 @@ pub returns-clause-later : goal.returns-clause-later
 returns-clause-later c = turn_end (map told_tick (firm_list c.feed-told.result)) (told_until c.args.self.now)
     (told_until c.feed-told.new.self) c.feed-told.ensures.in_turn
 
--- what it told is in turn
+-- what it gave is in turn
 pub returns-clause-may : goal.returns-clause-may
 returns-clause-may c =
     let count = c.feed-told.ensures.next.intervals in

@@ -1,6 +1,6 @@
 use Rattle.frame_commands.proofs.hearing.FirmReaderHearing.what_is_told_is_heard.Goals as goal
 
--- what was told are the events that are heard yet
+-- what was given are the events that are heard yet
 pub returns : goal.returns
 returns c = λ reader intervals events stands. (
   stands.0,

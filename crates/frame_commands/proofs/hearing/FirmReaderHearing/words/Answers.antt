@@ -9,7 +9,7 @@ use Rattle.frame_commands.proofs.hearing.FirmReaderHearing.words.Goals as goal
 pub told-requires : goal.told-requires
 told-requires c = c.requires.1.brings.no_word
 
--- they are the words of what was told
+-- they are the words of what was given
 pub returns-clause-told : goal.returns-clause-told
 returns-clause-told c = (told_events (firm_list c.args.brought), refl, c.told.ensures)
 

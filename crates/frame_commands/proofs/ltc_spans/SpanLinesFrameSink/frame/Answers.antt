@@ -5,7 +5,7 @@ use Rattle.tc_command.specs.PushLemmas.{front_of_more}
 use Rattle.frame_commands.proofs.SpansOfFrames.{cut_added, cut_first}
 use Rattle.frame_commands.proofs.ltc_spans.SpanLinesFrameSink.frame.Goals as goal
 
--- what the frame tells was pushed
+-- what the frame completes was pushed
 pub returns-clause-sends : goal.returns-clause-sends
 returns-clause-sends g c = on_ok c.push_cut.result c.push_cut.ensures.all (λ pushed choice header frames was.
     let s = c.args.self.now in

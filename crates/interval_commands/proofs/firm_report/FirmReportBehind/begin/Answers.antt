@@ -7,7 +7,7 @@ use Rattle.direction_reader.specs.FirmTold.{AreTold}
 use Rattle.direction_reader.specs.Tracker.{profile_of}
 use Rattle.interval_commands.proofs.firm_report.FirmReportBehind.begin.Goals as goal
 
--- nothing was printed, and nothing is told yet
+-- nothing was printed, and nothing is given yet
 pub returns-clause-begins : goal.returns-clause-begins
 returns-clause-begins g c =
     let reader = c.new.result in

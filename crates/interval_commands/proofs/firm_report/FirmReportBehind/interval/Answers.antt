@@ -25,7 +25,7 @@ returns-clause-fits g c = on_ok c.push.result c.push.ensures.counted (λ counted
       events = omega (arith, three, same, events);
     })
 
--- the lines of what is told were printed, and each of it was counted
+-- the lines of what is given were printed, and each of it was counted
 pub returns-clause-works : goal.returns-clause-works
 returns-clause-works g c =
     let r = c.args.self.now in
