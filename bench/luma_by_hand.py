@@ -45,7 +45,7 @@ class Row:
         return [self.fall(max(16 * pixel - cell, 0), 16 * pixel, 16 * pixel + cell) for pixel in range(self.width)]
 
     def coarse(self):
-        """The first of the best places at whole pixels, or None if nothing falls."""
+        """The first of the best places at whole pixels, or None where nothing falls."""
         falls = self.falls_at_pixels()
         best = None
         for distance in range(8 * self.ten_cells * 95 // 100, 8 * self.ten_cells * 105 // 100 + 1, 2 * self.grain):
@@ -62,7 +62,7 @@ class Row:
 
     @staticmethod
     def at(place, eighths):
-        """Where `eighths` eighths of a cell of the word end."""
+        """Where so many eighths of a cell of the word end."""
         first, last = place
         return (640 * first + eighths * (last - first) - 8 * (last - first)) // 640
 

@@ -27,7 +27,7 @@ class Tape:
     is_rate_given: bool
 
     def report(self, has_margin: bool = False) -> str:
-        """The report, with the margin of the tape if `has_margin`: that takes about a second."""
+        """The report, with the margin of the tape where it is asked for: that takes about a second."""
         mine = self.choice.reading
         if self.choice.is_found:
             level = levels.level_of(self.sound, mine.track)
