@@ -1,4 +1,4 @@
--- The difference of two lengths is within a bound where neither is more than the other and the bound.
+-- The difference of two lengths is within a bound if neither is more than the other and the bound.
 use Rattle.std.proofs.Common.{◌≡◌, ℕ, ◌+◌, ◌-◌, ◌*◌, ◌≤◌, ap, sym, ◌∙◌, inl, inr, arith}
 use Rattle.std.specs.Int.{abs_diff}
 use Rattle.std.proofs.lemmas.Bool.{cases_lt}

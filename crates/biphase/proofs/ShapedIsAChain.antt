@@ -100,7 +100,7 @@ bits_of_shaped shape k (bit ∷ list) = rw (bit_with (length_at shape k) bit, bi
 
 -- ---- intervals
 
--- an interval that stands in a file
+-- an interval that is in a file
 abbrev pub IsInterval : ℕ → Type 0
 IsInterval x = (1 ≤ x) × (x ≤ MAX_INTERVAL)
 

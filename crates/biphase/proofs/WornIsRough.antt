@@ -1,4 +1,4 @@
--- The halves of a one of a worn recording are so near to half of it that, where the one is near the mean of the
+-- The halves of a one of a worn recording are so near to half of it that, if the one is near the mean of the
 -- latest four cells, each of
 -- them is a half by the rough tolerance too. Its pairs are of the same kinds under both.
 use Rattle.std.proofs.Common.{ℕ, ◌+◌, List, [], ◌∷◌, arith}

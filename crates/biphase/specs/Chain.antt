@@ -89,7 +89,7 @@ Kinds profile (cell ∷ []) = Inner profile cell
 Kinds profile (cell ∷ next ∷ cells) = Inner profile cell × Meets profile cell next × Kinds profile (next ∷ cells)
 
 -- a chain, cells that keep the tolerance of a profile. Where the last cell alone is kept, each cell is near the one
--- before it. Where four are kept, the cells follow from each zero on, and the kinds of neighbouring intervals are as
+-- before it. If four are kept, the cells follow from each zero on, and the kinds of neighbouring intervals are as
 -- the cells say
 abbrev pub IsChain : Profile → List Cell → Type 0
 IsChain Rough cells = FollowEachZero Rough cells × Kinds Rough cells

@@ -1,4 +1,4 @@
--- Where the zeros of a chain stand among its intervals.
+-- Where the zeros of a chain are among its intervals.
 use Rattle.std.specs.Prelude.{◌≡◌, ℕ, ◌+◌, ◌<◌, List, ◌∷◌, ◌++◌, length}
 use Rattle.biphase.specs.declared.cell.Cell.{Cell}
 use Rattle.biphase.specs.declared.cell.Cell.TheVariants.{Zero}

@@ -106,8 +106,8 @@ pub fn a_pair_is_of_one_kind()
         → IsKind profile b a kind }
 {}
 
-/// Where a cell is compared with the one before it, two neighbours are equal where both are zeros or
-/// both are halves, and else unequal, and the greater of them is the zero. So the kind of a pair tells
+/// If a cell is compared with the one before it, two neighbours are equal if both are zeros or
+/// both are halves, and else unequal, and the greater of them is the zero. So the kind of a pair shows
 /// what it is.
 pub fn kinds_tell_zeros_from_halves()
     ensures zeros { (profile : Profile) → LooksAtLast profile → (c x : ℕ)
@@ -178,7 +178,7 @@ pub fn the_greater_of_an_unequal_pair_is_a_zero()
         → GreaterIsZero cells k a b }
 {}
 
-/// How the tolerances stand to each other: cells of the worn tolerance that stay, from each zero on,
+/// How the tolerances are related: cells of the worn tolerance that stay, from each zero on,
 /// within a quarter of the mean of the latest four keep the rough one.
 pub fn worn_cells_near_the_mean_are_rough()
     ensures { (cells : List Cell) → IsChain Worn cells → StayFromEachZero cells → IsChain Rough cells }

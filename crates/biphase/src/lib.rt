@@ -6,7 +6,7 @@
 //! `Profile`: two compare a cell with the one before it, and one with the mean of the latest four.
 //!
 //! What this crate promises:
-//! - `kind` tells whether two neighbouring intervals are equal, one the half of the other, or neither
+//! - `kind` says whether two neighbouring intervals are equal, one the half of the other, or neither
 //!   (`specs/Pair.antt`, `IsKind`).
 //! - `is_zero`, `may_begin_one` and `is_one` are the tests of the tolerance, exact for all lengths
 //!   (`specs/Tolerance.antt`, `IsNext`, `IsFirstHalf` and `AreHalves`, a row each profile), and
@@ -20,7 +20,7 @@
 //! (`LooksAtLast`).
 //!
 //! Read `cell`, `pair`, `latest`, `tolerance`, `profile` and `shaper`, in this order, and `specs/Tolerance.antt` and
-//! `Chain.antt` beside them. What the proofs of the crates above want of a tolerance stands, proved, in
+//! `Chain.antt` beside them. What the proofs of the crates above need of a tolerance is, proved, in
 //! `specs/ToleranceLemmas.antt`, `KindLemmas.antt`, `ChainLemmas.antt`, `MirrorLemmas.antt` and `ZeroLemmas.antt`.
 //! Nothing here allocates or refuses.
 #![tactic(auto)]

@@ -14,7 +14,7 @@ pub enum PairKind {
     Wild,
 }
 
-/// Tells what the neighbouring intervals `a` and `b`, in ticks, can be to each other. Their order
+/// What the neighbouring intervals `a` and `b`, in ticks, can be to each other. Their order
 /// does not matter.
 pub fn kind(profile: Profile, a: u32, b: u32) -> PairKind
     ensures { IsKind profile a b result }

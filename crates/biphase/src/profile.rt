@@ -2,8 +2,8 @@
 ghost use Rattle.std.specs.Prelude.{◌≡◌, ◌*◌, ◌<◌, ◌^◌, ◌↔◌, IsTrue};
 ghost use Rattle.biphase.specs.Profile.{equal_of, unequal_of, IsAtLeast, IsAtMost, IsWithin};
 
-// Each interval asks which one it is. The compiler asks for the first variant first, where another
-// one's arm stands first in a `match`.
+// The code tests at each interval which one it is. The compiler tests the first variant first if another
+// one's arm comes first in a `match`.
 /// How much the cells of a recording may differ.
 #[derive(Clone, Copy, Debug, PartialEq, Eq)]
 pub enum Profile {
@@ -120,7 +120,7 @@ fn times(number: u8, ticks: u64) -> u64
     u64::from(number) * ticks
 }
 
-/// Tells whether `a` ticks are at least this part of `b` ticks.
+/// Whether `a` ticks are at least this part of `b` ticks.
 pub(crate) fn is_at_least(ratio: Ratio, a: u64, b: u64) -> bool
     requires first { a < 2 ^ 40 }
     requires second { b < 2 ^ 40 }
@@ -129,7 +129,7 @@ pub(crate) fn is_at_least(ratio: Ratio, a: u64, b: u64) -> bool
     times(ratio.part, b) <= times(ratio.whole, a)
 }
 
-/// Tells whether `a` ticks are at most this part of `b` ticks.
+/// Whether `a` ticks are at most this part of `b` ticks.
 pub(crate) fn is_at_most(ratio: Ratio, a: u64, b: u64) -> bool
     requires first { a < 2 ^ 40 }
     requires second { b < 2 ^ 40 }
@@ -138,7 +138,7 @@ pub(crate) fn is_at_most(ratio: Ratio, a: u64, b: u64) -> bool
     times(ratio.whole, a) <= times(ratio.part, b)
 }
 
-/// Tells whether `number` times the difference of `a` and `b` is at most `length`, all in ticks. What is
+/// Whether `number` times the difference of `a` and `b` is at most `length`, all in ticks. What is
 /// below 0 wraps to more than any length, so one comparison tests both ends.
 #[tactic(auto, using(crate::proofs::EitherWay::times_apart))]
 pub(crate) fn is_within(number: u8, a: u64, b: u64, length: u64) -> bool

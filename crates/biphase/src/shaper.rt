@@ -5,7 +5,7 @@ ghost use Rattle.biphase.specs.Shape.{cell_with, shape_with, shaped, IsFirstFaul
 use crate::cell::Cell;
 use std::marker::Model;
 
-/// The least length of a cell that is made, in ticks. Of so many ticks the halves of a one may differ
+/// The least length of a cell that is made, in ticks. The halves of a one of this length may differ
 /// by one.
 pub const MIN_SHAPED: u32 = 16;
 
@@ -74,7 +74,7 @@ impl Shaper {
     }
 }
 
-/// A cell of so many ticks with this bit.
+/// A cell of `length` ticks with this bit.
 fn cell_with(length: u32, bit: bool) -> Cell
     ensures { result ≡ cell_with length bit }
 {
@@ -85,7 +85,7 @@ fn cell_with(length: u32, bit: bool) -> Cell
     }
 }
 
-/// Whether a cell that is made may last so many ticks.
+/// Whether a cell of `ticks` ticks can be made.
 fn is_shaped(ticks: u32) -> bool
     ensures { IsTrue result ↔ IsShaped ticks }
 {

@@ -11,7 +11,7 @@ use crate::profile::{
     NORMAL, Profile, ROUGH, Ratio, Tolerance, WORN, is_at_least, is_at_most, is_within,
 };
 
-/// Tells whether an interval of `x` ticks can be a zero after the latest cells, of which
+/// Whether an interval of `x` ticks can be a zero after the latest cells, of which
 /// `reference` is the number that the profile compares with.
 // The profile is chosen in each of the three tests, and not once for all of them: after the choice the numbers are
 // constants, and the tests cost a third less.
@@ -27,7 +27,7 @@ pub fn is_zero(profile: Profile, reference: u32, x: u32) -> bool
     }
 }
 
-/// Tells whether an interval of `x` ticks can be the first half of a one after the latest cells, of which
+/// Whether an interval of `x` ticks can be the first half of a one after the latest cells, of which
 /// `reference` is the number that the profile compares with.
 #[inline(always)]
 pub fn may_begin_one(profile: Profile, reference: u32, x: u32) -> bool
@@ -41,7 +41,7 @@ pub fn may_begin_one(profile: Profile, reference: u32, x: u32) -> bool
     }
 }
 
-/// Tells whether two intervals of `x` and `y` ticks can be a one after the latest cells, of which
+/// Whether two intervals of `x` and `y` ticks can be a one after the latest cells, of which
 /// `reference` is the number that the profile compares with.
 #[inline(always)]
 pub fn is_one(profile: Profile, reference: u32, x: u32, y: u32) -> bool
@@ -82,7 +82,7 @@ fn next_one(tolerance: Tolerance, c: u32, x: u32, y: u32) -> bool
         && is_within(tolerance.half, first, second, next)
 }
 
-/// Tells whether `a` ticks are at least and at most such parts of `b` ticks.
+/// Whether `a` ticks are at least and at most these parts of `b` ticks.
 fn lies_between(least: Ratio, greatest: Ratio, a: u64, b: u64) -> bool
     requires first { a < 2 ^ 40 }
     requires second { b < 2 ^ 40 }
@@ -91,7 +91,7 @@ fn lies_between(least: Ratio, greatest: Ratio, a: u64, b: u64) -> bool
     is_at_least(least, a, b) && is_at_most(greatest, a, b)
 }
 
-/// Tells whether a cell of `length` ticks can follow four cells of this sum.
+/// Whether a cell of `length` ticks can follow four cells of this sum.
 fn is_cell_of_sum(sum: u64, length: u64) -> bool
     requires first { sum < 2 ^ 40 }
     requires second { length < 2 ^ 40 }
@@ -100,7 +100,7 @@ fn is_cell_of_sum(sum: u64, length: u64) -> bool
     lies_between(ROUGH.least_cell, ROUGH.greatest_cell, length, sum)
 }
 
-/// Tells whether an interval of `x` ticks can be a half of a one that follows four cells of this sum.
+/// Whether an interval of `x` ticks can be a half of a one that follows four cells of this sum.
 fn is_half_of_sum(sum: u64, x: u64) -> bool
     requires first { sum < 2 ^ 40 }
     requires second { x < 2 ^ 40 }
@@ -109,7 +109,7 @@ fn is_half_of_sum(sum: u64, x: u64) -> bool
     lies_between(ROUGH.least_half, ROUGH.greatest_half, x, sum)
 }
 
-/// Tells whether intervals of `x` and `y` ticks can be a one that follows four cells of this sum.
+/// Whether intervals of `x` and `y` ticks can be a one that follows four cells of this sum.
 fn is_one_of_sum(sum: u64, x: u64, y: u64) -> bool
     requires first { sum < 2 ^ 40 }
     requires second { x < 2 ^ 32 }

@@ -60,7 +60,7 @@ low_or_here way other low =
     let cases : (rank_of_way other < rank_of_way way) ⊎ (rank_of_way way ≡ rank_of_way other) = grind arith in
     elim cases [ inl less ↦ inl less | inr same ↦ inr (same_way way other same) ]
 
--- with one more way: what was best stays, where it is not below the new one
+-- with one more way: what was best stays, if it is not below the new one
 pub way_stays : (lengths : List ℕ) (steps : List Step) (place : ℕ) (sign : Sign) (number : ℤ) (way more : Way) (new : ℤ)
     → IsBestBefore lengths steps (rank_of_way more) place sign number way
     → IsBestOfWay lengths steps place sign more new → new ≤ℤ number
@@ -101,7 +101,7 @@ way_comes lengths steps place sign number way more new best comes above =
       ];
     }
 
--- where there is no beginning of that way, the best stays too
+-- if there is no beginning of that way, the best stays too
 pub way_fails : (lengths : List ℕ) (steps : List Step) (place : ℕ) (sign : Sign) (number : ℤ) (way more : Way)
     → IsBestBefore lengths steps (rank_of_way more) place sign number way
     → ((others : List Cell) → Begins lengths steps 0 place sign more others → ⊥)
@@ -235,7 +235,7 @@ jump_costs : (lengths : List ℕ) (steps : List Step) (place : ℕ) (path : List
 jump_costs lengths steps place [] some is = absurd (omega arith)
 jump_costs lengths steps place (cell ∷ path) some is = refl
 
--- a jump stands behind the best of all
+-- a jump comes behind the best of all
 pub jump_best : (lengths : List ℕ) (steps : List Step) (place from : ℕ) (sign end : Sign) (e : ℤ) → 0 < length steps
     → IsBestEnd lengths steps from end e
     → IsBestOfWay lengths steps place sign Jump (e -ℤ pos (JUMP * length_in lengths place * level_at steps))

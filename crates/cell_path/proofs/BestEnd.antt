@@ -94,7 +94,7 @@ has_bit_at place sign (cell ∷ before) ends = refl
 wins-same : (s : ℤ) (path : List Cell) → Wins s path s path
 wins-same s path = inr (refl, stands_first-same path)
 
--- where the one is not above the zero, the zero it is
+-- if the one is not above the zero, the zero it is
 pub zero_ends : (lengths : List ℕ) (steps : List Step) (place : ℕ) (sign : Sign) (low high : ℤ) (way other_way : Way)
     → IsBeginning lengths steps (length_in lengths place) place (sign_before Zero sign) low way
     → IsBeginning lengths steps (length_in lengths place) place (sign_before One sign) high other_way
@@ -125,7 +125,7 @@ zero_ends lengths steps place sign low high way other_way zero one some within b
       bit_is = refl;
     }
 
--- and where it is above, the one
+-- and if it is above, the one
 pub one_ends : (lengths : List ℕ) (steps : List Step) (place : ℕ) (sign : Sign) (low high : ℤ) (way other_way : Way)
     → IsBeginning lengths steps (length_in lengths place) place (sign_before Zero sign) low way
     → IsBeginning lengths steps (length_in lengths place) place (sign_before One sign) high other_way

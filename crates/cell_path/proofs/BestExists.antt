@@ -34,7 +34,7 @@ record SomeEnd (steps : List Step) (place : ℕ) (sign : Sign) : Type 0 where
   bit : Bit
   is : IsEnd LENGTHS steps place sign number bit
 
--- of those in the first so many ends
+-- of those in the first `most` ends
 record SomeBelow (steps : List Step) (most : ℕ) : Type 0 where
   place : ℕ
   sign : Sign
@@ -48,13 +48,13 @@ record SomeBest (steps : List Step) : Type 0 where
   number : ℤ
   is : IsBestEnd LENGTHS steps place sign number
 
--- there is a best beginning so many steps ago
+-- there is a best beginning `ago` steps ago
 record SomeBeginning (steps : List Step) (ago place : ℕ) (sign : Sign) : Type 0 where
   number : ℤ
   way : Way
   is : IsBeginning LENGTHS steps ago place sign number way
 
--- of the first so many ways
+-- of the first `most` ways
 record SomeWay (steps : List Step) (most place : ℕ) (sign : Sign) : Type 0 where
   number : ℤ
   way : Way
@@ -91,7 +91,7 @@ more_end steps place sign end best = elim (below_or_above best.number end.number
 counted : (steps : List Step) (m n : ℕ) → m ≡ n → SomeBelow steps m → SomeBelow steps n
 counted steps m n same best = subst (SomeBelow steps) same best
 
--- the ends of so many lengths and one more
+-- the ends of `more` lengths and one more
 so_many : (steps : List Step) → HaveEnds steps → (more : ℕ) → more < 45 → SomeBelow steps (2 * suc more)
 so_many steps ends zero within =
     let plus = ends 0 Plus within in

@@ -58,7 +58,7 @@ ends_in_number place sign (cell ∷ before) below =
           inr (p, same_rank cell.sign sign r)
     ]
 
--- of paths that end in different numbers the lower stands first
+-- of paths that end in different numbers the lower comes first
 lower_wins : (place : ℕ) (sign : Sign) (path : List Cell) (s : ℤ) (other_place : ℕ) (other_sign : Sign)
     (other : List Cell) (t : ℤ)
     → EndsIn place sign path → EndsIn other_place other_sign other
@@ -72,7 +72,7 @@ lower_wins place sign (cell ∷ path) s other_place other_sign (d ∷ other) t e
     let q : rank_of_sign d.sign ≡ rank_of_sign other_sign = ap rank_of_sign other_ends.1 in
     wins_by-rank s (rank cell) path t (rank d) other above (omega (arith, ends.0, other_ends.0))
 
--- with one more end: what was best stays, where it is not below the new end
+-- with one more end: what was best stays, if it is not below the new end
 pub best_stays : (lengths : List ℕ) (steps : List Step) (place : ℕ) (sign : Sign) (number : ℤ) (more : ℕ)
     (end : Sign) (new : ℤ) (bit : Bit)
     → IsBestBelow lengths steps (end_number more end) place sign number → IsEnd lengths steps more end new bit
@@ -159,7 +159,7 @@ best_of_all lengths steps place sign number some best = record {
   };
 }
 
--- the best of the first so many ends, whatever steps they stand for
+-- the best of the first `most` ends, whatever steps they stand for
 pub record BestSoFar (ends : Numbers) (most : ℕ) (so_far : Best) : Type 0 where
   pub best : (steps : List Step) → NumbersEnd ends steps → IsBestBelow LENGTHS steps most so_far.place so_far.sign
       so_far.number
@@ -191,7 +191,7 @@ or_end ends steps so_far place sign new result within new_is stays comes ends_ar
           (best_comes LENGTHS steps so_far.place so_far.sign so_far.number place sign new end.bit best is above)
     ]
 
--- so many ends are tried, by another way to count them
+-- n ends are tried if m are, by another way to count them
 pub counted : (ends : Numbers) (steps : List Step) (m n : ℕ) (best : Best) → m ≡ n
     → IsBestBelow LENGTHS steps m best.place best.sign best.number
     → IsBestBelow LENGTHS steps n best.place best.sign best.number

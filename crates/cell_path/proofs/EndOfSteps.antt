@@ -67,7 +67,7 @@ below_or_above a b = grind (arith, ints)
 abbrev pub end_of : ℤ → Bit → End
 end_of number bit = record { number = number; bit = bit }
 
--- the better of two bits, each behind the best that can stand before it
+-- the better of two bits, each behind the best that can come before it
 pub better_ends : (step : Step) (before : List Step) (ago place : ℕ) (sign : Sign) (low high x y : ℤ) (result : End)
     → length_in LENGTHS place ≡ ago + 1 → place < 45
     → HasBeginning LENGTHS before ago place (sign_before Zero sign) low

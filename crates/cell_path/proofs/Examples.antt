@@ -65,13 +65,13 @@ scores_by_hand : map (score (2 ∷ []) steps) all_paths ≡
 unfolding total
 scores_by_hand = refl
 
--- ---- jumps by hand, in cells of 20 steps, which stand in place 16: a quarter of them is 5 steps
+-- ---- jumps by hand, in cells of 20 steps, which are in place 16: a quarter of them is 5 steps
 
 abbrev zero_at : ℕ → Sign → Way → Placed
 zero_at end sign way = record { end = end; cell = record { place = 16; bit = Zero; sign = sign; way = way } }
 
 -- the first cell jumps; one that begins where it ended, or 5 steps earlier or later, does not, and 6 steps are too
--- many; nor may a zero have the sign of the zero before it, or stand behind a jump of its path
+-- many; nor may a zero have the sign of the zero before it, or come behind a jump of its path
 jumps_by_hand : map (λ cell. cell.jumps)
     (in_time (zero_at 180 Minus Same ∷ zero_at 160 Plus Jump ∷ zero_at 140 Minus Same ∷ zero_at 120 Minus Same
     ∷ zero_at 106 Plus Same ∷ zero_at 80 Minus Same ∷ zero_at 65 Plus Same ∷ zero_at 40 Minus Same

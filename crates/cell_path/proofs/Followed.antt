@@ -25,7 +25,7 @@ use Rattle.cell_path.specs.Paths.{PathsState, PathsStandFor}
 abbrev pub no_cell : Placed
 no_cell = record { end = 0; cell = record { place = 0; bit = Zero; sign = Plus; way = Jump } }
 
--- what is left to decide of a path that ends so many steps ago
+-- what is left to decide of a path that ends `ago` steps ago
 abbrev pub left : ℕ → ℕ → ℕ → ℕ → List Cell → List Placed
 left delay count done ago rest = filter (is_decided delay count done) (placed (count - ago) rest)
 
@@ -33,7 +33,7 @@ abbrev pub ago_of : ℕ → Option Point → ℕ
 ago_of count None = count
 ago_of count (Some point) = point.ago
 
--- where the path is followed to, with so many cells gathered
+-- where the path is followed to, with `many` cells gathered
 abbrev pub IsHere : ℕ → ℕ → ℕ → Option Point → Type 0
 IsHere delay count many None = 0 < many
 IsHere delay count many (Some point) =

@@ -117,7 +117,7 @@ front_wins x s t k cell p q (inl less) = inl (omega (arith, ints))
 front_wins x s t k cell p q (inr same) =
     inr (omega (arith, ints, same.0), elim same.1 [ inl first ↦ absurd (omega arith) | inr like ↦ like.1 ])
 
--- behind a jump stands the best path of all
+-- behind a jump comes the best path of all
 pub jumped_from : (lengths : List ℕ) (steps : List Step) (place : ℕ) (sign : Sign) (cell : Cell) (rest : List Cell)
     (from : ℕ) (end : Sign) (number : ℤ)
     → IsBest lengths steps place sign (cell ∷ rest) → cell.way ≡ Jump
@@ -145,7 +145,7 @@ jumped_from lengths steps place sign cell rest from end number best jump some e 
     } in
     best_ends_there lengths (drop n steps) from end number e rest all
 
--- where nothing is left, nothing stands before, and the first cell stands behind a jump
+-- if nothing is left, nothing comes before, and the first cell comes behind a jump
 pub first_cell : (lengths : List ℕ) (steps : List Step) (place : ℕ) (sign : Sign) (cell : Cell) (rest : List Cell)
     → IsBest lengths steps place sign (cell ∷ rest) → length (drop (length_in lengths cell.place) steps) ≡ 0
     → (cell.way ≡ Jump) × (rest ≡ [])

@@ -83,7 +83,7 @@ empty_wins ago place sign number other [] is follows path =
 empty_wins ago place sign number other (cell ∷ others) is follows path =
     let some = path.0 in let none = ap length (nothing ago) in absurd (omega (arith, some, none))
 
--- a cell that began before the sound, or with it, stands behind nothing, in a jump
+-- a cell that began before the sound, or with it, comes behind nothing, in a jump
 pub empty_beginning : (ago place : ℕ) (sign : Sign) (number : ℤ) → number ≡ score_before LENGTHS [] ago place Jump []
     → HasBeginning LENGTHS [] ago place sign number
 empty_beginning ago place sign number is = record {

@@ -1,4 +1,4 @@
--- What comes into the ring of numbers stands there as the latest, within its limit, and everything else is one step
+-- What comes into the ring of numbers is there as the latest, within its limit, and everything else is one step
 -- older.
 use Rattle.std.proofs.Common.{◌≡◌, ℕ, zero, suc, ◌+◌, ◌%◌, ◌^◌, ◌<◌, ◌≤◌, ℤ, pos, neg_ℤ, [], length, replicate, ap}
 use Rattle.std.proofs.Common.{subst, sym, ◌∙◌, arith}

@@ -1,4 +1,4 @@
--- What holds of the first so many lengths holds of one more, where the two that come with it have it.
+-- What holds of some first lengths holds of one more, if the two that come with it have it.
 use Rattle.std.proofs.Common.{◌≡◌, ◌≢◌, ℕ, ◌+◌, ◌*◌, ◌<◌, ◌^◌, ◌⊎◌, inl, inr, ℤ, List, ◌∷◌, subst, sym, arith}
 use Rattle.cell_path.specs.declared.cell.Bit.{Bit}
 use Rattle.cell_path.specs.declared.cell.Sign.{Sign}

@@ -1,4 +1,4 @@
--- Of paths one stands first, and of those with scores one wins: what wins over a winner wins over what it beat.
+-- Of paths one comes first, and of those with scores one wins: what wins over a winner wins over what it beat.
 use Rattle.std.proofs.Common.{◌≡◌, ℕ, ◌+◌, ◌<◌, ℤ, ◌+ℤ◌, ◌<ℤ◌, ◌≤ℤ◌, ◌⊎◌, inl, inr, List, [], ◌∷◌, arith}
 use Rattle.std.proofs.lemmas.Int.{ints}
 use Rattle.cell_path.specs.declared.cell.Cell.{Cell}

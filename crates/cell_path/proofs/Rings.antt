@@ -1,4 +1,4 @@
--- What comes into a ring stands there as the latest, and everything else is one step older.
+-- What comes into a ring is there as the latest, and everything else is one step older.
 use Rattle.std.proofs.Common.{◌≡◌, ℕ, zero, suc, ◌+◌, ◌-◌, ◌*◌, ◌%◌, ◌^◌, ◌<◌, ◌≤◌, ℤ, pos, ◌+ℤ◌, ◌-ℤ◌, FitsSigned}
 use Rattle.std.proofs.Common.{List, length, get_or, replicate, refl, ap, subst, sym, ◌∙◌, arith}
 use Rattle.std.specs.Int.{w64}
@@ -38,7 +38,7 @@ pub sum_others : (sums : SumsState) (sum : ℤ) (ago : ℕ) → ago < 127
     → sum_ago (pushed sums sum) (ago + 1) ≡ sum_ago sums ago
 sum_others sums sum ago near = ring_others sums.ring sums.count ago sum (pos 0) near
 
--- sums stay within their bounds, where the next step is within its own
+-- sums stay within their bounds, if the next step is within its own
 size-by : (sums : SumsState) (sound : ℤ) (ago : ℕ) → AreSums sums → IsWithin (2 ^ 16) sound → ago ≤ 96
     → IsWithin ((sums.count + 1) * 2 ^ 16) (sum_ago (pushed sums (sum_ago sums 0 +ℤ sound)) ago)
 size-by sums sound zero are sounds near =

@@ -1,4 +1,4 @@
--- The best path: no other that ends as it does has a greater score, and of equal ones it stands first.
+-- The best path: no other that ends as it does has a greater score, and of equal ones it comes first.
 use Rattle.std.specs.Prelude.{◌≡◌, ℕ, ◌+◌, ◌*◌, ◌<◌, ℤ, ◌<ℤ◌, ◌⊎◌, List, [], ◌∷◌}
 use Rattle.cell_path.specs.declared.cell.Bit.{Bit}
 use Rattle.cell_path.specs.declared.cell.Bit.TheVariants.{Zero, One}

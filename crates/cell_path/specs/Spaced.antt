@@ -1,4 +1,4 @@
--- How far apart the ends of cells stand. Lists of cells begin with the latest.
+-- How far apart the ends of cells are. Lists of cells begin with the latest.
 use Rattle.std.specs.Prelude.{ℕ, ◌+◌, ◌≤◌, List, [], ◌∷◌}
 use Rattle.cell_path.specs.declared.placed.Placed.{Placed}
 use Rattle.cell_path.specs.Decided.{end_behind}

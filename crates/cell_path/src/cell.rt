@@ -35,7 +35,7 @@ pub enum Way {
     Shorter,
     /// The one before has the next length above.
     Longer,
-    /// Nothing joins them. The first cell of a path stands behind a jump too.
+    /// Nothing joins them. The first cell of a path comes after a jump too.
     Jump,
 }
 

@@ -51,7 +51,7 @@ fn sound(sums: &Sums, length: usize, bit: Bit) -> i64
     }
 }
 
-/// The score of a path that ends with a bit, behind the best that can stand before it.
+/// The score of a path that ends with a bit, after the best that can come before it.
 fn behind(rows: &Rows, length: usize, place: usize, bit: Bit, sign: Sign, sound: i64) -> i64
     requires place { place < 45 }
     requires least { 4 ≤ length }

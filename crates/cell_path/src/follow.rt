@@ -14,19 +14,19 @@ use crate::placed::Placed;
 use crate::point::Point;
 use crate::waiting::Waiting;
 
-/// A cell is decided so many steps behind its end: 30 to 57 cells at play speed, where paths that end
+/// By how many steps a cell ends before it is decided: 30 to 57 cells at play speed, where paths that end
 /// differently have long met.
 pub const DELAY: u64 = 800;
 
-/// So many steps lie between two decisions: the path is followed back over some 1,900 steps, so that
+/// The steps from one decision to the next: the path is followed back over some 1,900 steps, so that
 /// a step pays for less than two.
 pub const EVERY: u64 = 1_024;
 
-/// The first decision falls due after so many steps: after 1,024 it would decide 224 only.
+/// The steps before the first decision: after 1,024 it would decide 224 only.
 pub const FIRST: u64 = 2_048;
 
-/// The cells of the best path that ended so long ago or earlier, behind what was decided before, which
-/// ended there.
+/// The cells of the best path that ended `delay` steps ago or earlier, after what was decided before, which
+/// ended at `done`.
 fn decided_now(paths: &Paths, best: Point, delay: u64, count: u64, done: u64) -> Waiting
     requires count { count ≡ paths.now.scores.sums.count }
     requires first { 0 < delay → 2_048 ≤ count }

@@ -28,7 +28,7 @@ pub fn there_is_one_best_path()
         → IsBest lengths steps place sign path → IsBest lengths steps place sign other → path ≡ other }
 {}
 
-/// What stands before the latest cell of a best path is the best path that ends as it does.
+/// What comes before the latest cell of a best path is the best path that ends as it does.
 pub fn what_stands_before_is_best()
     ensures { (lengths : List ℕ) (steps : List Step) (place before_place : ℕ) (sign before_sign : Sign) (cell : Cell)
         (before : List Cell) → IsBest lengths steps place sign (cell ∷ before) → EndsIn before_place before_sign before
@@ -49,7 +49,7 @@ pub fn one_list_is_decided()
         → all ≡ others }
 {}
 
-/// A sound of fewer steps than the first decision wants decides nothing, whatever paths it has: with
+/// A sound of fewer steps than the first decision needs decides nothing, whatever paths it has: with
 /// fewer than four steps all of them begin before it does.
 pub fn a_short_sound_decides_nothing()
     ensures { (steps : List Step) (all : List Placed) → length steps < FIRST → AreDecided steps all → all ≡ [] }
@@ -61,7 +61,7 @@ pub fn what_is_decided_stays()
         → (before new : List Placed) × AreDecided steps before × (all ≡ new ++ before) }
 {}
 
-/// In the order of time, what is decided later stands behind what was decided before.
+/// In the order of time, what is decided later comes after what was decided before.
 pub fn what_is_decided_comes_in_time()
     ensures { (new before : List Placed)
         → in_time (new ++ before) ≡ in_time before ++ joined (latest_of before) (reverse new) }

@@ -18,21 +18,21 @@
 //! - While the sound goes on, its cells are decided: every 1,024 steps the best path is followed back, and
 //!   those of its cells that ended 800 steps ago or earlier, behind what was decided before, are given one
 //!   by one in the order of time (`Decisions::feed`, `Decisions::give`; `specs/Decided.antt`, `AreDecided`:
-//!   what is decided depends on the steps alone, not on when it is asked for). When the sound ends, the
-//!   rest of its best path is decided too (`Decisions::finish`; `AreDecidedInAll`). A cell jumps where it
+//!   what is decided depends on the steps alone, not on when it is fetched). When the sound ends, the
+//!   rest of its best path is decided too (`Decisions::finish`; `AreDecidedInAll`). A cell jumps if it
 //!   does not meet the one before it within a quarter of its length and with its sign. At most 512 are
 //!   decided at once, so nothing is allocated.
 //! - No score overflows in 2^40 steps, since a step adds 2^22 in the mean at most (`specs/Kept.antt`,
 //!   `limit`).
-//! - A sound has one best path for each end, and what stands before the latest cell of a best path is a
-//!   best path itself; what is decided stays, and what is decided later stands behind it. When it ends, one list
+//! - A sound has one best path for each end, and what comes before the latest cell of a best path is a
+//!   best path itself; what is decided stays, and what is decided later comes after it. When it ends, one list
 //!   of cells is decided in all, and covers it to within a quarter of a cell (`laws`).
 //!
 //! Read `lengths` and `cell` with `specs/Path.antt` and `specs/Best.antt`, then `scores` with
 //! `specs/Number.antt` and `specs/StandsFor.antt`, `paths` with `specs/KeptMarks.antt`, and `decisions`
-//! with `specs/Decided.antt`; below them stand `end`, `best` and `start`, which try one length each, and
+//! with `specs/Decided.antt`; below them are `end`, `best` and `start`, which try one length each, and
 //! `follow`. Lists of steps and of cells begin with the latest.
-//! Nothing here allocates or refuses. What makes the steps of samples, and what tells cells from noise, stands in
+//! Nothing here allocates or refuses. What makes the steps of samples, and what separates cells from noise, is in
 //! path_front.
 #![tactic(auto)]
 

@@ -16,7 +16,7 @@ use crate::numbers::PLACES;
 use crate::point::{Back, Point, point_before};
 use std::marker::Model;
 
-/// So many steps are kept of which a path can be followed back.
+/// How many steps are kept, through which a path can be followed back.
 pub const KEPT: usize = 4_096;
 
 /// The marks of the latest steps, in a ring.
@@ -66,7 +66,7 @@ impl Marks {
         self.ring[self.count as usize % KEPT] = marks;
     }
 
-    /// The marks of the step so long ago.
+    /// The marks of the step `ago` steps before the latest.
     fn ago(&self, ago: usize) -> &StepMarks
         requires { ago < 4_096 }
         ensures value { result.now ≡ marks_ago self.now ago }

@@ -17,7 +17,7 @@ pub struct Placed {
 #[derive(Clone, Copy, Debug, PartialEq, Eq)]
 pub struct Decided {
     pub placed: Placed,
-    /// It does not go on where the cell before it ended.
+    /// It does not begin where the cell before it ended.
     pub jumps: bool,
 }
 

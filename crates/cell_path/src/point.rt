@@ -6,7 +6,7 @@ use crate::cell::{Cell, Sign, Way};
 use crate::mark::StepMarks;
 use crate::numbers::PLACES;
 
-/// The end of a cell: so many steps ago, of the length in this place, and with this sign.
+/// The end of a cell: how many steps ago, the place of its length, and its sign.
 #[derive(Clone, Copy, Debug, PartialEq, Eq)]
 pub struct Point {
     pub ago: usize,

@@ -10,7 +10,7 @@ use crate::lengths::EARLY;
 use crate::numbers::Numbers;
 use std::marker::Model;
 
-/// The numbers of the latest 97 steps, in a ring: the best scores of what stands before a cell that
+/// The numbers of the latest 97 steps, in a ring: the best scores of what comes before a cell that
 /// begins there.
 #[derive(Drop)]
 pub(crate) struct Rows {
@@ -41,7 +41,7 @@ impl Rows {
         Rows { ring, count: 0 }
     }
 
-    /// The number of the step so long ago.
+    /// The number that the step `ago` steps before the latest has in a place, with a sign.
     pub(crate) fn ago(&self, ago: usize, place: usize, sign: Sign) -> i64
         requires ago { ago ≤ 96 }
         requires place { place < 45 }

@@ -13,7 +13,7 @@ use crate::cell::{Sign, Way};
 use crate::lengths::{JUMP, length_at};
 use crate::numbers::{Numbers, PLACES};
 
-/// The best way to begin: the score of what stands before, less the costs, and the way.
+/// The best way to begin: the score of what comes before, less the costs, and the way.
 #[derive(Clone, Copy, Debug, PartialEq, Eq)]
 pub(crate) struct Start {
     pub(crate) number: i64,
@@ -34,7 +34,7 @@ impl Start {
     }
 }
 
-/// A number less so many times the mean size.
+/// A number less `times` times the mean size.
 fn less(number: i64, times: usize, level: u32) -> i64
     requires number { IsWithin (2 ^ 62 + 2 ^ 40) number }
     requires times { times ≤ 288 }
@@ -103,7 +103,7 @@ impl Start {
     }
 }
 
-/// The best way to begin a cell of one length behind the latest step, where the cell before has to end
+/// The best way to begin a cell of one length behind the latest step, if the cell before has to end
 /// with this sign.
 #[inline(always)]
 pub(crate) fn best_start(ends: &Numbers, best: i64, level: u32, place: usize, sign: Sign) -> Start

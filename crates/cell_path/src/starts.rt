@@ -19,7 +19,7 @@ pub struct Ways {
     pub minus: [Way; PLACES],
 }
 
-/// The best ways to begin behind one step, for each length and sign before: the scores of what stands
+/// The best ways to begin behind one step, for each length and sign before: the scores of what comes
 /// before, and the ways.
 #[derive(Clone, Copy, Debug, PartialEq, Eq)]
 pub struct Starts {

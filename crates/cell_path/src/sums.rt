@@ -34,7 +34,7 @@ impl Sums {
         }
     }
 
-    /// The sum up to the step so long ago.
+    /// The sum up to the step `ago` steps before the latest.
     fn ago(&self, ago: usize) -> i64
         requires { ago ≤ 96 }
         ensures value { result ≡ sum_ago self.now ago }
@@ -43,7 +43,7 @@ impl Sums {
         self.ring[(self.count as usize + 128 - ago) % 128]
     }
 
-    /// The sum of the sound behind the step so long ago, up to a later one.
+    /// The sum of the sound after the step `ago` steps before the latest, up to a later one.
     pub(crate) fn between(&self, ago: usize, later: usize) -> i64
         requires order { later ≤ ago }
         requires within { ago ≤ 96 }

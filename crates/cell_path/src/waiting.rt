@@ -6,7 +6,7 @@ use crate::cell::{Bit, Cell, Sign, Way};
 use crate::placed::Placed;
 use std::marker::Model;
 
-/// So many cells can be decided at once: where a sound ends before its first decision, of 2,048 steps,
+/// How many cells can be decided at once: if a sound ends before its first decision, of 2,048 steps,
 /// with a cell in four steps.
 pub const ROOM: usize = 512;
 

@@ -1,4 +1,4 @@
--- A search goes on where no pair is unequal, and else a stretch begins at the lock.
+-- A search goes on if no pair is unequal, and else a stretch begins at the lock.
 use Rattle.biphase.specs.Tolerance.{IsFirstHalf}
 use Rattle.std.proofs.Common.{◌≡◌, ◌≢◌, ℕ, ◌+◌, ◌-◌, ◌<◌, ◌≤◌, List, [], ◌∷◌, ◌++◌, length, drop, get_or, Some, None}
 use Rattle.std.proofs.Common.{refl, ap, subst, sym}
@@ -25,7 +25,7 @@ last_of-push intervals x =
     slice_get-get_or (intervals ++ x ∷ []) (length (intervals ++ x ∷ []) - 1) 0 (omega (arith, length_push intervals x))
     ∙ ap Some (get_or_push intervals x 0 (length (intervals ++ x ∷ []) - 1) (omega (arith, length_push intervals x)))
 
--- an interval that is the last of a list stands at its place
+-- an interval that is the last of a list is at its place
 pub last_at : (intervals : List ℕ) (z : ℕ) → last_of intervals ≡ Some z → (0 < length intervals)
     × (get_or intervals (length intervals - 1) 0 ≡ z)
 last_at intervals z is = (
@@ -53,7 +53,7 @@ stretches_then state intervals stretches new x stands step =
     last_changes state.profile intervals x 0 stretches [] new (omega arith) stands.all_broken step
     (subst (AreStretches state.profile intervals) (sym (append-nil stretches)) stands.stretches_are)
 
--- the search goes on where the interval makes no unequal pair
+-- the search goes on if the interval makes no unequal pair
 hunt_on : (state : HuntingState) (intervals : List ℕ) (stretches : List Stretch) (x : ℕ)
     → HuntingStandsFor state intervals stretches
     → ((z : ℕ) → state.before ≡ Some z → ¬ AreUnequal state.profile z x)
@@ -111,7 +111,7 @@ begins state intervals stretches z x new stands before unequal rising falling is
       after,
     ))
 
--- what stands at the end of a list with one interval more
+-- what is at the end of a list with one interval more
 drop_last : (intervals : List ℕ) (z x k : ℕ) → last_of intervals ≡ Some z → k + 1 ≡ length intervals
     → drop k (intervals ++ x ∷ []) ≡ z ∷ x ∷ []
 drop_last intervals z x k is end =
@@ -122,7 +122,7 @@ drop_last intervals z x k is end =
     ∙ ap (λ y. y ∷ drop (k + 1) intervals) (ap (λ n. get_or intervals n 0) same ∙ there.1)
     ∙ ap (λ xs. z ∷ xs) (drop_all (k + 1) intervals (omega arith)))
 
--- no pair stands past the end of a list with one interval more
+-- no pair is past the end of a list with one interval more
 pub none_past : (profile : Profile) (intervals : List ℕ) (x : ℕ)
     → HasNoLock profile (intervals ++ x ∷ []) (length intervals)
 none_past profile intervals x k past at = omega (arith, at.0, length_push intervals x)

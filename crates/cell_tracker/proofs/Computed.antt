@@ -24,7 +24,7 @@ use Rattle.cell_tracker.specs.StandsFor.{HuntingStandsFor, AtCellStandsFor, MidC
 use Rattle.cell_tracker.proofs.BeginsAtTheLock.{hunt_first, hunt_equal, start_at, start_mid, start_broken}
 use Rattle.cell_tracker.proofs.GainsOrBreaks.{gains_zero, waits, breaks, gains_one, breaks_behind}
 
--- the test is true exactly where the fact holds
+-- the test is true exactly if the fact holds
 record Tells (test : Bool) (P : Type 0) : Type 0 where
   yes_it_is : test ≡ true → P
   no_it_is_not : test ≡ false → P → ⊥

@@ -131,7 +131,7 @@ zeros_end even whole l (One x y ∷ cells) (h ∷ g ∷ hs) more rest some is ev
 abbrev pub kept_ones : ℕ → ℕ → ℕ → ℕ → ℕ → ℕ → ℕ → ℕ → Latest
 kept_ones a b c d e f g h = latest_with (g + h) (e + f) (c + d) (a + b)
 
--- cells that go on behind a run: they have its zero where it stands, and what is kept before it is what is kept of the
+-- cells that go on behind a run: they have its zero where it is, and what is kept before it is what is kept of the
 -- last four ones of all the run
 pub record GoOn (run : List ℕ) (latest : Latest) (cells : List Cell) (whole : ℕ) (hs : List ℕ) : Type 0 where
   pub older : List Cell

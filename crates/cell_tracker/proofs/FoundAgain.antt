@@ -1,4 +1,4 @@
--- Whatever stands before a recording within the tolerance, the tracker has the recording's own phase from its second
+-- Whatever comes before a recording within the tolerance, the tracker has the recording's own phase from its second
 -- unequal pair on. A stretch that goes on over the first unequal pair has the greater interval of it as a zero, as the
 -- recording has, and from there on its cells are the recording's.
 use Rattle.std.proofs.Common.{◌≡◌, ℕ, zero, suc, ◌+◌, ◌-◌, ◌<◌, ◌≤◌, List, [], ◌∷◌, ◌++◌, length, drop, get_or, Option}
@@ -132,7 +132,7 @@ record Shares (tape : List Cell) (cut n : ℕ) (stretch : Stretch) (q : ℕ) : T
 abbrev stretch_by : ℕ → List Cell → Option ℕ → Stretch
 stretch_by lock cells place = record { lock = lock; cells = cells; broken_at = place }
 
--- where the last cell alone is kept, what is kept from one of the zeros on is what is kept of all
+-- if the last cell alone is kept, what is kept from one of the zeros on is what is kept of all
 kept_from_zero : (profile : Profile) → LooksAtLast profile → (older newer : List Cell) (x : ℕ)
     → kept_of profile (older ++ Zero x ∷ newer) ≡ kept_of profile (Zero x ∷ newer)
 kept_from_zero profile looks [] newer x = refl
@@ -252,7 +252,7 @@ one_of_front [] rest a more same one = absurd (omega arith)
 one_of_front (x ∷ []) rest a more same one = let first : x ≡ a = cc in ap (λ v. v ∷ []) first
 one_of_front (x ∷ y ∷ xs) rest a more same one = absurd (omega arith)
 
--- what stands in the list at a place stands in the stretch there
+-- what is in the list at a place is in the stretch there
 in_stretch : (profile : Profile) (l : List ℕ) (s : Stretch) (k j : ℕ) (is : IsStretch profile l s) → s.lock + k ≡ j
     → j ≤ end_of s → drop k (flat s.cells) ++ is.chain.front.0 ≡ drop j l
 in_stretch profile l s k j is at within =
@@ -345,7 +345,7 @@ at_zero profile before kept tape cut q y s is at zero_there =
       zero_there = zero_there;
     }
 
--- where a break is past a place, so is the end of the cells, or the interval at that place waits as a half
+-- if a break is past a place, so is the end of the cells, or the interval at that place waits as a half
 late_end : (profile : Profile) (c : Latest) (after : ℕ) (rest : List ℕ) (place : Option ℕ) (limit : ℕ)
     → IsBreak profile c after rest place
     → ((b : ℕ) → place ≡ Some b → limit < b) → limit + 1 < after + length rest
@@ -363,7 +363,7 @@ late_end profile c after (x ∷ y ∷ rest) place limit broken late within =
       | inr no_half ↦ inl (late after (broken.1 no_half))
     ]
 
--- no stretch waits with a half at the second interval of the first pair where the second pair begins there
+-- no stretch waits with a half at the second interval of the first pair if the second pair begins there
 no_wait : (profile : Profile) → LooksAtLast profile → (before kept : List ℕ) (tape : List Cell) (cut k x : ℕ)
     (more : List ℕ) (s : Stretch)
     → IsPiece profile kept tape cut → IsUnequalAt profile kept k → IsUnequalAt profile kept (k + 1)
@@ -619,7 +619,7 @@ found profile looks before kept tape cut second start (s ∷ more) is2 piece low
       ]
     ]
 
--- whatever stands before a recording
+-- whatever comes before a recording
 pub found_again : (profile : Profile) → LooksAtLast profile
     → (before kept : List ℕ) (tape : List Cell) (cut second : ℕ) (ss : List Stretch)
     → IsPiece profile kept tape cut → IsSecondLock profile kept second → AreStretches profile (before ++ kept) ss

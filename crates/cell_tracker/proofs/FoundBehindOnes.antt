@@ -1,4 +1,4 @@
--- Behind a run of even ones the tracker has the recording's own phase, whatever stands before it. A stretch that comes
+-- Behind a run of even ones the tracker has the recording's own phase, whatever comes before it. A stretch that comes
 -- over the run either breaks at the zero behind it at the latest, or has this zero, and what is kept there is what the
 -- recording's own stretch keeps, which begins at the zero before the run. So both go on alike.
 use Rattle.std.proofs.Common.{◌≡◌, ℕ, ◌+◌, ◌-◌, ◌<◌, ◌≤◌, List, [], ◌∷◌, ◌++◌, length, drop}
@@ -257,7 +257,7 @@ found_behind before kept tape cut end second start (s ∷ more) run piece next l
       ]
     ]
 
--- whatever stands before a recording
+-- whatever comes before a recording
 pub found_behind_ones : (before kept : List ℕ) (tape : List Cell) (cut end second : ℕ) (ss : List Stretch)
     → IsPiece Rough kept tape cut → IsEvenRun kept tape cut end → IsLock Rough kept end second
     → AreStretches Rough (before ++ kept) ss

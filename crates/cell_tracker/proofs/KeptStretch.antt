@@ -1,4 +1,4 @@
--- A list that is a piece of a chain has one stretch, where it has a lock: the cells of the chain that lie wholly in the
+-- A list that is a piece of a chain has one stretch, if it has a lock: the cells of the chain that lie wholly in the
 -- list from the lock on.
 use Rattle.std.proofs.Common.{◌≡◌, ℕ, ◌+◌, ◌<◌, ◌≤◌, List, [], ◌∷◌, ◌++◌, length, drop, get_or, None, inl, inr, refl}
 use Rattle.std.proofs.Common.{ap, subst, sym, ◌∙◌, arith}
@@ -22,7 +22,7 @@ use Rattle.cell_tracker.proofs.CellsOfAPiece.{from_low, lies_between, none_fits_
 use Rattle.cell_tracker.proofs.LocalStretch.{stretch_from}
 use Rattle.cell_tracker.proofs.OneStretch.{stretch_is_one}
 
--- what stands in a chain from a place of the piece on is what stands in the piece, with more behind it
+-- what is in a chain from a place of the piece on is what is in the piece, with more behind it
 pub piece_from : (profile : Profile) (intervals : List ℕ) (cells : List Cell) (cut k : ℕ)
     (is : IsPiece profile intervals cells cut)
     → k ≤ length intervals → drop (cut + k) (flat cells) ≡ drop k intervals ++ is.part.0
@@ -81,7 +81,7 @@ cells_at_zero cells before after cut place x intervals are ends within =
     ∙ from_low (cut + place) (cut + length intervals) 0 before (Zero x ∷ after) (omega (arith, ends))
     ∙ lies_between (cut + place) (cut + length intervals) (cut + place) (Zero x) after (omega arith) (omega arith)
 
--- what stands behind a zero of the chain
+-- what comes behind a zero of the chain
 behind_there : (profile : Profile) (intervals : List ℕ) (cells : List Cell) (cut place x : ℕ)
     (is : IsPiece profile intervals cells cut)
     (zero : IsZeroAt cells (cut + place) x) → place < length intervals
@@ -98,7 +98,7 @@ abbrev pub stretch_of_piece_at : ℕ → List Cell → ℕ → List ℕ → ℕ 
 stretch_of_piece_at n cells cut intervals place =
     record { lock = n + place; cells = cells_from cells cut intervals place; broken_at = None }
 
--- it stands at each zero of the chain, whatever stands before the piece
+-- it is at each zero of the chain, whatever comes before the piece
 pub stretch_at_zero : (profile : Profile) (before intervals : List ℕ) (cells : List Cell) (cut place x : ℕ)
     → IsPiece profile intervals cells cut → IsZeroAt cells (cut + place) x → place < length intervals
     → IsStretch profile (before ++ intervals) (stretch_of_piece_at (length before) cells cut intervals place)
@@ -123,7 +123,7 @@ stretch_at_zero profile before intervals cells cut place x is zero within =
       broken = no_break_cut profile (kept_of profile (Zero x ∷ more)) (end_of s) lie.left lie.cut;
     })
 
--- at the lock of a piece stands the stretch of its cells
+-- at the lock of a piece is the stretch of its cells
 pub stretch_at_lock : (profile : Profile) (intervals : List ℕ) (cells : List Cell) (cut start lock : ℕ)
     → IsPiece profile intervals cells cut
     → IsLock profile intervals start lock → IsStretch profile intervals (stretch_of_piece cells cut intervals lock)

@@ -1,4 +1,4 @@
--- A chain is the longest one exactly where no next cell fits what follows it.
+-- A chain is the longest one exactly if no next cell fits what follows it.
 use Rattle.std.proofs.Common.{◌≡◌, ℕ, ◌≤◌, List, [], ◌∷◌, ◌++◌, length, drop, get_or, inl, inr, refl, ap, subst, sym}
 use Rattle.std.proofs.Common.{◌∙◌, arith}
 use Rattle.std.proofs.Common.{append_assoc, length-append, add-zero}
@@ -62,7 +62,7 @@ no_longer profile c cells others rest other chain chain_too none same =
       | inr (more, is) ↦ omega (arith, ap length is, length-append others more)
     ]
 
--- a stretch by what stands at its end: its cells are a first zero and more, and no cell fits the rest of the list
+-- a stretch by what is at its end: its cells are a first zero and more, and no cell fits the rest of the list
 pub record IsLocally (profile : Profile) (intervals : List ℕ) (stretch : Stretch) (first : ℕ) (more : List Cell)
     (rest : List ℕ) : Type 0 where
   pub cells : stretch.cells ≡ Zero first ∷ more
@@ -82,7 +82,7 @@ rest_is intervals stretch first more rest cells there =
     ∙ ap (λ xs. drop (length (flat xs)) (first ∷ (flat more ++ rest))) cells
     ∙ drop_at (first ∷ flat more) rest (length (first ∷ flat more)) refl
 
--- what a list of intervals has at a place where something is known to stand
+-- what a list of intervals has at a place where something is known to be
 head_is : (intervals : List ℕ) (k x : ℕ) (rest : List ℕ) → drop k intervals ≡ x ∷ rest → get_or intervals k 0 ≡ x
 head_is intervals k x rest there =
     ap (λ n. get_or intervals n 0) (sym (add-zero k)) ∙ sym (get_or-drop k intervals 0 0)

@@ -47,7 +47,7 @@ lock_stays profile intervals x start lock is =
           ) is.falling;
     }
 
--- there is no lock where the new pair is not unequal
+-- there is no lock if the new pair is not unequal
 pub no_lock_on : (profile : Profile) (intervals : List ℕ) (x start : ℕ) → HasNoLock profile intervals start
     → ((k : ℕ) → k + 1 ≡ length intervals → ¬ IsUnequalAt profile (intervals ++ x ∷ []) k)
     → HasNoLock profile (intervals ++ x ∷ []) start
@@ -57,7 +57,7 @@ no_lock_on profile intervals x start none new k low at =
       | inr past ↦ new k (omega (arith, at.0, length_push intervals x)) at
     ]
 
--- there is one where it is
+-- there is one if it is
 pub lock_at_end : (profile : Profile) (intervals : List ℕ) (x start k lock : ℕ) → HasNoLock profile intervals start
     → start ≤ k
     → k + 1 ≡ length intervals

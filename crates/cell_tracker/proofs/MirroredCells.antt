@@ -1,4 +1,4 @@
--- Of a recording within the tolerance and its mirror, the kinds of the pairs tell the cells between the greater
+-- Of a recording within the tolerance and its mirror, the kinds of the pairs give the cells between the greater
 -- intervals of the first and the last unequal pair. So there the cells of the mirror are those of the recording in the
 -- other order of time.
 use Rattle.std.proofs.Common.{◌≡◌, ℕ, ◌+◌, ◌-◌, ◌<◌, ◌≤◌, List, [], ◌∷◌, ◌++◌, length, drop, take, get_or, reverse, map}
@@ -104,7 +104,7 @@ no_cells (cell ∷ cells) none = absurd (omega (
   none,
 ))
 
--- of a list with these intervals, what stands there in the other order
+-- of a list with these intervals, what is there in the other order
 turned_there : (l one middle tail : List ℕ) (last : ℕ) → l ≡ one ++ (middle ++ tail) → length tail ≡ last
     → drop last (reverse l) ≡ reverse middle ++ reverse one
 turned_there l one middle tail last are many =
@@ -137,7 +137,7 @@ tells_cells profile x mid after rest kinds others same =
 
 -- ---- the cells
 
--- the cells of the recording from its first lock to its last zero, and what stands before and behind them
+-- the cells of the recording from its first lock to its last zero, and what comes before and behind them
 record Middle (profile : Profile) (l : List ℕ) (tape : List Cell) (cut first last : ℕ) : Type 0 where
   mid : List Cell
   x : ℕ
@@ -249,7 +249,7 @@ middle_of profile l tape cut first last piece lock turned =
       );
     }
 
--- what stands behind a zero of a piece
+-- what comes behind a zero of a piece
 behind_zero_there : (profile : Profile) (intervals : List ℕ) (cells : List Cell) (cut place x : ℕ)
     (is : IsPiece profile intervals cells cut)
     (z : IsZeroAt cells (cut + place) x) → place ≤ length intervals

@@ -26,7 +26,7 @@ use Rattle.cell_tracker.proofs.RunOfOnes.{halves_of, two_each, LastFour, last_fo
 
 -- ---- a stretch that comes over the run
 
--- some cells up to a place among their intervals, or to the end of the cell in which it stands
+-- some cells up to a place among their intervals, or to the end of the cell in which it is
 pub record SplitAt (cells : List Cell) (d : ℕ) : Type 0 where
   pub older : List Cell
   pub newer : List Cell
@@ -66,7 +66,7 @@ split_at (One a b ∷ cells) (suc (suc d)) within =
       place = place;
     }
 
--- a break comes by a limit, where the cells end before it, or at it with an interval behind them that is no half
+-- a break comes by a limit, if the cells end before it, or at it with an interval behind them that is no half
 pub breaks_soon : (c : Latest) (after limit : ℕ) (rest : List ℕ) (place : Option ℕ) → IsBreak Rough c after rest place
     → 1 ≤ length rest → (after < limit → 2 ≤ length rest) → after ≤ limit
     → (after ≡ limit → (x : ℕ) (more : List ℕ) → rest ≡ x ∷ more → ¬ IsFirstHalf Rough c x)
@@ -144,7 +144,7 @@ over_end l s place whole ones even more over =
       length-append (flat over.older) (flat over.newer),
     )
 
--- where its cells end in the run it breaks
+-- if its cells end in the run it breaks
 pub over_breaks : (l : List ℕ) (s : Stretch) (place whole : ℕ) (ones : List Cell) (even : ℕ) (more : List ℕ)
     (over : Over l s place whole ones even more) → place < length l
     → EndIn (kept_after Rough (kept_at_lock Rough over.first) over.older) over.newer whole over.hs

@@ -219,7 +219,7 @@ at_boundary state intervals earlier stretch cells cut stands is =
           ∙ ap (λ (s : Stretch). (kept_of state.profile s.cells).last) its.is ∙ lie.last;
     }
 
--- what stands in the chain behind these cells is the last interval of the piece
+-- what is in the chain behind these cells is the last interval of the piece
 half_there : (profile : Profile) (intervals : List ℕ) (cells : List Cell) (cut half : ℕ) (before rest : List Cell)
     (cell : Cell)
     → IsPiece profile intervals cells cut → last_of intervals ≡ Some half → cells ≡ before ++ cell ∷ rest

@@ -1,4 +1,4 @@
--- A run of even ones in a tape: its halves, what is kept behind its last four, where it stands in a recording, and the
+-- A run of even ones in a tape: its halves, what is kept behind its last four, where it is in a recording, and the
 -- recording's own stretch there.
 use Rattle.std.proofs.Common.{◌≡◌, ℕ, ◌+◌, ◌-◌, ◌*◌, ◌<◌, ◌≤◌, List, [], ◌∷◌, ◌++◌, length, drop}
 use Rattle.std.proofs.Common.{get_or}
@@ -99,7 +99,7 @@ same_last front other a b c d e f g h p q r s t u v w same =
     let four : g + h ≡ v + w = cc in
     cc
 
--- no zero stands among them
+-- no zero is among them
 pub none_among : (even x whole : ℕ) (mid ones rest after : List Cell) → AreEvenOnes even ones
     → mid ++ Zero x ∷ rest ≡ ones ++ Zero whole ∷ after → length (flat mid) < length (flat ones) → ⊥
 none_among even x whole mid [] rest after are same less = omega (arith, less)
@@ -112,7 +112,7 @@ none_among even x whole (cell ∷ mid) (One a b ∷ ones) rest after are same le
     none_among even x whole mid ones rest after are.2 tail
     (omega (arith, less, long, length-append (intervals_of cell) (flat mid)))
 
--- ---- where the run stands
+-- ---- where the run is
 
 -- the place of the zero before the run
 abbrev pub zero_before : (kept : List ℕ) (tape : List Cell) (cut end : ℕ) → IsEvenRun kept tape cut end → ℕ

@@ -21,7 +21,7 @@ use Rattle.cell_tracker.proofs.LockStays.{lock_stays}
 pub place_within : (intervals : List ℕ) (k x : ℕ) (rest : List ℕ) → drop k intervals ≡ x ∷ rest → k < length intervals
 place_within intervals k x rest there = omega (arith, ap length there, length-drop k intervals)
 
--- what stands from a place on, with an interval at the end
+-- what comes from a place on, with an interval at the end
 pub there_push : (intervals : List ℕ) (lock first x : ℕ) (more rest : List ℕ)
     → drop lock intervals ≡ first ∷ (more ++ rest) → drop lock (intervals ++ x ∷ [])
     ≡ first ∷ (more ++ (rest ++ x ∷ []))
@@ -30,7 +30,7 @@ there_push intervals lock first x more rest there =
     drop-append-le lock intervals (x ∷ []) (omega arith) ∙ ap (λ xs. xs ++ x ∷ []) there
     ∙ ap (λ xs. first ∷ xs) (append_assoc more rest (x ∷ []))
 
--- an interval at the end does not touch a break, nor what stands before it
+-- an interval at the end does not touch a break, nor what comes before it
 rest_stays : (profile : Profile) (c : Latest) (after : ℕ) (rest : List ℕ) (place : Option ℕ) (broken x : ℕ)
     → NoneFits profile c rest → IsBreak profile c after rest place → place ≡ Some broken
     → NoneFits profile c (rest ++ x ∷ []) × IsBreak profile c after (rest ++ x ∷ []) place
@@ -103,7 +103,7 @@ some_value : {A : Type 0} (o : Option A) → IsSome o → (value : A) × (o ≡ 
 some_value None is = absurd (false≢true is)
 some_value (Some value) is = (value, refl)
 
--- where the stretches at the front are broken, those behind them alone change
+-- if the stretches at the front are broken, those behind them alone change
 pub last_changes : (profile : Profile) (intervals : List ℕ) (x start : ℕ) (earlier last new : List Stretch)
     → start ≤ length intervals - 1 → All IsBroken earlier
     → ((from : ℕ) → from ≤ length intervals - 1 → AreStretchesFrom profile intervals from last

@@ -1,4 +1,4 @@
--- A run of even ones, as a sync word has it: where a recording of the rough tolerance is found again, whatever stands
+-- A run of even ones, as a sync word has it: where a recording of the rough tolerance is found again, whatever comes
 -- before it. The rule is this project's own.
 use Rattle.std.specs.Prelude.{◌≡◌, ℕ, ◌+◌, ◌*◌, ◌<◌, ◌≤◌, List, [], ◌∷◌, ◌++◌, length}
 use Rattle.biphase.specs.declared.cell.Cell.{Cell}

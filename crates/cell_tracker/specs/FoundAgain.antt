@@ -1,4 +1,4 @@
--- Where a recording within the tolerance is found again, whatever stands before it.
+-- Where a recording within the tolerance is found again, whatever comes before it.
 use Rattle.std.specs.Prelude.{◌≡◌, ℕ, ◌+◌, ◌≤◌, List, [], ◌∷◌, ◌++◌, length, None, All, IsSomeAnd}
 use Rattle.biphase.specs.declared.profile.Profile.{Profile}
 use Rattle.biphase.specs.declared.cell.Cell.{Cell}

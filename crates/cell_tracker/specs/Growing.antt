@@ -1,4 +1,4 @@
--- What becomes of the stretches of a list where more intervals follow.
+-- What becomes of the stretches of a list if more intervals follow.
 use Rattle.std.specs.Prelude.{◌≡◌, List, [], ◌∷◌}
 use Rattle.biphase.specs.Chain.{Begins}
 use Rattle.cell_tracker.specs.Stretch.{Stretch, IsBroken}

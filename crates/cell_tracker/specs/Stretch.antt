@@ -31,7 +31,7 @@ pub record IsChainFrom (profile : Profile) (intervals : List ℕ) (lock : ℕ) (
   pub front : Begins (flat cells) (drop lock intervals)
 
 -- the place where a stretch breaks, if it does, behind the longest chain of its cells, so that no further cell fits.
--- `kept` is what is kept of its cells, and the list is that from the place `after` them on. Where the next interval may
+-- `kept` is what is kept of its cells, and the list is that from the place `after` them on. If the next interval may
 -- be a first half, the one behind it is no second half to it, and the break is there, once the list goes on so far.
 -- Else it is at the next interval
 abbrev pub IsBreak : Profile → Latest → ℕ → List ℕ → Option ℕ → Type 0

@@ -17,7 +17,7 @@ use limits::MAX_INTERVAL;
 use std::marker::Model;
 
 /// A stretch is open and ends with the last interval. Of the cells so far it holds the number that its
-/// profile compares with; the lengths of the latest four stand beside it.
+/// profile compares with; the lengths of the latest four are kept beside it.
 #[derive(Clone, Copy, Debug, PartialEq, Eq)]
 pub struct AtCell {
     profile: Profile,

@@ -82,7 +82,7 @@ impl Hunting {
         self.before
     }
 
-    /// Takes the next interval, of `x` ticks, and writes the four lengths where a stretch begins.
+    /// Takes the next interval, of `x` ticks, and writes the four lengths if a stretch begins.
     pub fn feed(self, four: &mut LatestFour, x: u32) -> FromHunting
         requires least { 1 ≤ x }
         requires most { x ≤ MAX_INTERVAL }

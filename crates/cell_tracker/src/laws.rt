@@ -26,7 +26,7 @@ pub fn a_list_has_one_list_of_stretches()
         → stretches ≡ others }
 {}
 
-/// Where more intervals follow, the stretches go on: a broken one stays as it is.
+/// If more intervals follow, the stretches go on: a broken one stays as it is.
 pub fn stretches_go_on()
     ensures { (profile : Profile) (front more : List ℕ) (stretches later : List Stretch)
         → AreStretches profile front stretches → AreStretches profile (front ++ more) later
@@ -40,7 +40,7 @@ pub fn a_place_has_one_lock()
         → lock ≡ other }
 {}
 
-/// Truth of the reading. A recording within the tolerance has no stretch where no two neighbours of it
+/// Truth of the reading. A recording within the tolerance has no stretch if no two neighbours of it
 /// are unequal. Else it has one, at its lock, without a break, and its cells are those of the
 /// recording's own that lie wholly in it from the lock on: of whatever chain it is a piece, they are
 /// the same.
@@ -56,8 +56,8 @@ pub fn a_recording_within_the_tolerance_is_one_stretch()
         → cells_from one cut intervals lock ≡ cells_from two other intervals lock }
 {}
 
-/// How the states follow a recording within the tolerance, of whatever chain it is a piece. Where the
-/// search goes on, no two neighbours were unequal; at a cell the state stands at a boundary of the
+/// How the states follow a recording within the tolerance, of whatever chain it is a piece. While the
+/// search goes on, no two neighbours were unequal; at a cell the state is at a boundary of the
 /// chain, and keeps the length of the cell that ends there; inside a cell it keeps the first half of a
 /// one of the chain, and the length of the cell before it.
 pub fn states_stand_in_the_recording()
@@ -75,7 +75,7 @@ pub fn states_stand_in_the_recording()
         → StandsInsideOne state cells (cut + length intervals) }
 {}
 
-/// Resynchronisation, where a cell is compared with the one before it alone: whatever stands before a
+/// Resynchronisation, if a cell is compared with the one before it alone: whatever comes before a
 /// recording within the tolerance, from the greater interval of its second unequal pair on the cells
 /// of the stretches are the recording's own, and nothing breaks behind it.
 pub fn a_recording_is_found_again_behind_anything()
@@ -85,7 +85,7 @@ pub fn a_recording_is_found_again_behind_anything()
         → AreFrom (length before + second) (cells_from cells cut kept second) stretches }
 {}
 
-/// Resynchronisation under the rough tolerance: whatever stands before a recording within it, which has
+/// Resynchronisation under the rough tolerance: whatever comes before a recording within it, which has
 /// in it a zero, nine neighbouring ones or more that are even, and a zero behind them, from the greater
 /// interval of the next unequal pair behind this zero on the cells of the stretches are the recording's
 /// own, and nothing breaks behind it. A sync word has twelve such ones.
@@ -116,7 +116,7 @@ pub fn rough_recordings_are_found_behind_even_ones_alone()
         } ∷ []) }
 {}
 
-/// Mirror: where a recording and the same intervals in the other order of time are both within the
+/// Mirror: if a recording and the same intervals in the other order of time are both within the
 /// tolerance, their cells are the same between the greater intervals of the first and of the last unequal
 /// pair, each in its order. The lock of the mirror is the number of intervals behind them.
 pub fn a_mirrored_recording_has_the_mirrored_cells()
@@ -146,7 +146,7 @@ pub fn small_recordings_have_these_stretches()
 
 /// Recordings of the rough tolerance, by hand: the lock at the first unequal pair; a zero too short by
 /// a tick, and one that is just long enough; four cells of 125 ticks, of which the next can be longer
-/// by a quarter and no more; and the least part of 99 ticks that is half of them, where of 100 it is
+/// by a quarter and no more; and the least part of 99 ticks that is half of them, while of 100 it is
 /// not.
 pub fn rough_recordings_have_these_stretches()
     ensures lock { AreStretches Rough (100 ∷ 100 ∷ 50 ∷ 50 ∷ 100 ∷ [])

@@ -88,7 +88,7 @@ frame_below C25 n direction = grind (arith, ints)
 frame_below C30 n direction = grind (arith, ints)
 frame_below Drop30 n direction = grind (arith, ints)
 
--- where the transport moves by m, and the master by f, what led from one to the other is changed by their difference
+-- if the transport moves by m, and the master by f, what led from one to the other is changed by their difference
 follow : (count : Count) (a b c e : ℕ) (d m f : ℤ) → Leads (day_of count) a b d → Leads (day_of count) a c m
     → Leads (day_of count) b e f →
     Leads (day_of count) c e ((d +ℤ f) -ℤ m)

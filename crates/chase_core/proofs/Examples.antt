@@ -102,7 +102,7 @@ behind_the_edge : trace (begun C25 39) (frame (Some Play) Forward 1 (pos 0) ∷ 
 unfolding begun frame bare line trace
 behind_the_edge = refl
 
--- a chase that locates plays where it is told to
+-- a chase that locates plays when it gets the command
 located_then_played : trace (begun C25 0) (bare (Some (Locate 100)) ∷ frame (Some Play) Forward 32 (pos 0) ∷ []) ≡
     line Locating (pos 8_000) (pos 2_560) None 2_560 ∷ line Locked (pos 0) (pos 80) None 2_640 ∷ []
 unfolding begun frame bare line trace

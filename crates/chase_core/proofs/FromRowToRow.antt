@@ -1,5 +1,5 @@
 -- What holds from a first row on holds in the middle of a longer list: rows before it only bring the loop to where it
--- stands,
+-- is,
 -- and rows after it change no line.
 use Rattle.std.proofs.Common.{◌≡◌, ℕ, suc, zero, ◌+◌, ◌-◌, ◌*◌, ◌<◌, ◌≤◌, refl, sym, ap, ◌∙◌, subst, Option, Some, List}
 use Rattle.std.proofs.Common.{[], ◌∷◌, take, length, arith}
@@ -106,7 +106,7 @@ held_over_a_slip (suc i) loop (r ∷ rows) row next leaves line p q here later r
     held_over_a_slip i (after_row loop r) rows row next leaves line (after_on_the_day loop r) (λ k. q (suc k)) here
     later reads slip e locked g
 
--- in a locked state or none, what is said of a line so many rows on
+-- in a locked state or none, what is said of a line further on
 further : (n i first : ℕ) (line : Traced) → suc first ≤ suc i → SaysPulled n (i - first) line
     → SaysPulled n (suc i - suc first) line
 further n i first line h s = subst (λ (k : ℕ). SaysPulled n k line) (omega arith) s

@@ -117,7 +117,7 @@ locks loop r bound h near = record {
   answer = h.answer ∙ pulled_near h.master.direction _ near;
 }
 
--- what is known of a line so many rows after one that is worked Pulling
+-- what is known of a line i rows after one that is worked Pulling
 pub record SaysPulled (n i : ℕ) (line : Traced) : Type 0 where
   pub no_loss : line.report.loss ≡ None
   pub locked : n ≤ i → line.report.state ≡ states.Locked

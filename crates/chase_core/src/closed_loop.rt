@@ -44,7 +44,7 @@ impl ClosedLoop {
         }
     }
 
-    /// Where the transport stands, in subframes.
+    /// The position of the transport, in subframes.
     pub fn position(&self) -> u32
         ensures value { result ≡ self.now.position }
         ensures day { IsOnTheDay self.now }
@@ -52,7 +52,7 @@ impl ClosedLoop {
         self.transport.position()
     }
 
-    /// Works a frame: the chase steps, and then the transport moves, and slips so many subframes. What the
+    /// Works a frame: the chase steps, and then the transport moves, and slips `slip` subframes. Gives what the
     /// chase says.
     pub fn work(
         &mut self,

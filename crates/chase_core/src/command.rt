@@ -1,7 +1,7 @@
 //! What a chase is given in a frame. Read next: `report`.
 use tc_address::Direction;
 
-/// What the operator wants.
+/// A command of the operator.
 #[derive(Clone, Copy, PartialEq, Eq)]
 pub enum Command {
     /// Follow the master.

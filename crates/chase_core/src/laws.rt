@@ -47,7 +47,7 @@ pub fn pulling_ends()
         → (line.report.loss ≡ None) × (81_510 ≤ i - first → line.report.state ≡ states.Locked) }
 {}
 
-/// A slip of up to 24 subframes costs no lock: where a row leaves the chase Locked, no command comes, the
+/// A slip of up to 24 subframes costs no lock: if a row leaves the chase Locked, no command comes, the
 /// master moves on and the transport slipped by at most 24 subframes, the next row is Locked too, without
 /// a loss, and its error is at most the slip and 16 subframes.
 pub fn a_slip_of_less_than_the_window_costs_no_lock()

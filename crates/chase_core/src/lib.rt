@@ -1,7 +1,7 @@
 //! A chase: the part of a synchroniser that makes a transport follow the timecode of a master.
 //!
 //! The chase works once a frame. It sees a command, what the master reads, and where the transport
-//! stands. It says where to the transport moves in this frame: with the master, and by some of the
+//! is. It says how the transport moves in this frame: with the master, and by some of the
 //! error, which is the shortest way from the transport to its place on the circle of a day. All of this
 //! is in subframes, which are eightieths of a frame. Locked, the error is at most half a frame, 40
 //! subframes. The control law is this project's own.

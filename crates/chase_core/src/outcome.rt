@@ -46,7 +46,7 @@ fn held(error: i32, most: u32) -> i32
     error.clamp(-(most as i32), most as i32)
 }
 
-/// Tells whether an error is at most half a frame.
+/// Whether an error is at most half a frame.
 fn is_near(error: i32) -> bool
     ensures { result ≡ is_near error }
 {

@@ -27,9 +27,9 @@ pub enum Loss {
 pub struct StepReport {
     /// The state after the frame.
     pub state: State,
-    /// The way from the transport to where it is wanted, in subframes. 0 where it is wanted nowhere.
+    /// The way from the transport to where it should be, in subframes. 0 if there is no such place.
     pub error: i32,
-    /// Where to the transport moves in this frame, in subframes.
+    /// By how much the transport has to move in this frame, in subframes.
     pub order: i32,
     /// The lock was there before this frame, and is lost.
     pub loss: Option<Loss>,

@@ -1,4 +1,4 @@
--- What so many digits write at most.
+-- What some digits write at most.
 use Rattle.std.proofs.Common.{◌≡◌, ℕ, zero, suc, ◌<◌, ◌≤◌, ◌+◌, ◌-◌, ◌*◌, ◌^◌, true, List, [], ◌∷◌, length, take}
 use Rattle.std.proofs.Common.{get_or, refl, arith}
 use Rattle.std.specs.Char.{is_ascii_digit}

@@ -67,7 +67,7 @@ abbrev pub rows_before : List ScriptRow → Script → Script
 rows_before rows (Ok more) = Ok (rows ++ more)
 rows_before rows (Err fault) = Err fault
 
--- so many records at most are left of bytes
+-- at most n records are left of bytes
 abbrev Suffices : ℕ → State → List ℕ → Type 0
 Suffices n s left = (length left < n) ⊎ ((s ≡ st.StartRecord) × (left ≡ []))
 
@@ -92,7 +92,7 @@ row_before : (rows : List ScriptRow) (row : ScriptRow) (script : Script)
 row_before rows row (Ok more) = ap (λ (all : List ScriptRow). Ok all) (sym (append_assoc rows (row ∷ []) more))
 row_before rows row (Err fault) = refl
 
--- the records from here on, where the next one is there
+-- the records from here on, if the next one is there
 next_of : (n : ℕ) (s : State) (left : List ℕ) (read : Read) → Suffices n s left
     → next_record default_config s [] [] left ≡ Some read
     → (m : ℕ) × Suffices m read.1 read.2

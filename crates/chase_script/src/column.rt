@@ -9,18 +9,18 @@ pub enum Column {
     Fields,
     /// The command is none of those that there are.
     Command,
-    /// The target is no label of the count, or stands without `locate`.
+    /// The target is no label of the count, or is given without `locate`.
     Target,
     /// The master's label is no label of the count.
     Master,
-    /// The direction is none, is missing, or stands without a master.
+    /// The direction is none, is missing, or is given without a master.
     Direction,
     /// The slip is no number of subframes up to a million, either way.
     Slip,
 }
 
 impl Column {
-    /// The number of the column, from 1; 0 where the number of fields is wrong.
+    /// The number of the column, from 1; 0 if the number of fields is wrong.
     pub fn number(self) -> u64
         ensures value { result ≡ number_of_column self }
     {

@@ -7,8 +7,8 @@
 //!
 //! What this crate promises:
 //! - `script_rows` reads exactly the rows of a script's records, and refuses a script at its first
-//!   refused record, with the least refused column (`specs/Script.antt`, `script_in`). Want of memory
-//!   is told apart.
+//!   refused record, with the least refused column (`specs/Script.antt`, `script_in`). Lack of memory
+//!   is a fault of its own.
 //! - `TraceLines` gives the lines of the trace byte for byte, in order, and the last line after them
 //!   (`specs/TraceText.antt`, `trace_text`). What is traced is the closed loop of `chase_core`.
 //! - The trace keeps its lock: while the master moves steadily, no command comes and the transport keeps

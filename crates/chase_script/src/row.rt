@@ -21,7 +21,7 @@ use tc_address::{Count, Label, number, read_text};
 /// What comes in one frame.
 #[derive(Clone, Copy, PartialEq, Eq)]
 pub struct ScriptRow {
-    /// What the operator wants.
+    /// The operator's command.
     pub command: Option<Command>,
     /// What the master reads.
     pub master: Option<Master>,

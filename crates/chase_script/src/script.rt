@@ -27,7 +27,7 @@ pub fn script_rows(alloc: Global, bytes: &[u8], count: Count) -> Result<Script, 
     let mut rows = Vec::new(alloc);
     let mut fields = ByteRecord::new(alloc);
     'records: for _record in 0..u64::MAX {
-        // Records of any length are asked for, as bytes, and from memory: only memory can be wanting.
+        // Records of any length are accepted, as bytes, and read from memory: only memory can run out.
         let found = match reader.read_byte_record(&mut fields) {
             Ok(found) => found,
             Err(error) => match error.kind() {

@@ -9,7 +9,7 @@ ghost use Rattle.chase_script.specs.KeptRow.{is_length};
 use crate::column::Column;
 use line_text::are_digits;
 
-/// A number of subframes: nothing for 0, else one to seven digits up to a million, behind a `-` where
+/// A number of subframes: nothing for 0, else one to seven digits up to a million, behind a `-` if
 /// the transport falls back.
 pub(crate) fn slip_in(field: &[u8]) -> Result<i32, Column>
     ensures value { result ≡ slip_in field.now }

@@ -8,7 +8,7 @@ use chase_core::{Loss, State, StepReport};
 use line_text::{Text, push_any_number, push_bytes, push_signed};
 use tc_address::{Count, label_at, text};
 
-/// The line of a step, counted from 1, after which the transport stands at this position.
+/// The line of a step, counted from 1, after which the transport is at this position.
 pub fn step_text(step: u64, report: &StepReport, count: Count, position: u32) -> Text
     requires { position < day_of count }
     ensures { result.items ≡ step_line count step (record { report = report.now; position = position }) }
@@ -39,7 +39,7 @@ pub fn step_end_text(steps: u64, losses: u64) -> Text
     line
 }
 
-/// Appends the name of a state, between the words that stand beside it. Bytes of a known length are
+/// Appends the name of a state, between the words on both sides of it. Bytes of a known length are
 /// appended without a call.
 fn push_state(line: &mut Text, state: State)
     requires { array_vec_len line.old + 16 ≤ 128 }

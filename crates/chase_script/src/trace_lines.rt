@@ -70,7 +70,7 @@ impl TraceLines {
         }
     }
 
-    /// The next line, if there is one. A row is worked when its line is asked for.
+    /// The next line, if there is one. A row is worked when its line is fetched.
     #[inline(always)]
     pub fn next_line(&mut self) -> Option<Text>
         ensures one { IfSome result (λ line. line.items ≡ first_line self.old) }
@@ -106,7 +106,7 @@ impl TraceLines {
     }
 }
 
-/// Works a row: what the chase says, and where the transport stands after it.
+/// Works a row: what the chase says, and where the transport is after it.
 fn worked(place: &mut ClosedLoop, row: &ScriptRow) -> (StepReport, u32)
     requires { IsRowFor place.old.chase.count row.now }
     ensures report { result.0 ≡ (traced place.old (row_of row.now)).report }

@@ -1,5 +1,5 @@
--- Only a locked chase loses its lock: of no code where the row has no master, and else out of the window. One that the
--- step before left locked keeps it where the next row reads on and the transport slipped by 24 subframes at most: so a
+-- Only a locked chase loses its lock: of no code if the row has no master, and else out of the window. One that the
+-- step before left locked keeps it if the next row reads on and the transport slipped by 24 subframes at most: so a
 -- loss of the window needs a row that does not.
 use Rattle.std.proofs.Common.{◌≡◌, ◌≢◌, ℕ, zero, suc, ◌+◌, ◌-◌, ◌≤◌, ◌⊎◌, inl, inr, Bool, true, false, nat_le, ℤ, List}
 use Rattle.std.proofs.Common.{[], ◌∷◌}
@@ -109,7 +109,7 @@ was_locked count Locked master position loses = refl
 
 -- ---- the kind of a loss
 
--- no code is told without a master, and the window with one
+-- no code is reported without a master, and the window with one
 abbrev IsKind : Loss → Option Master → Type 0
 IsKind NoCode master = master ≡ None
 IsKind (Window error) master = (m : Master) × (master ≡ Some m)
@@ -212,7 +212,7 @@ is_cause count frame before (Window e) kind never =
 one_frame : (frames : Option Frame) (a b : Frame) → frames ≡ Some a → frames ≡ Some b → a ≡ b
 one_frame frames a b p q = cc
 
--- the row behind one reads on where its frame goes on and has the count
+-- the row behind one reads on if its frame goes on and has the count
 reads_on_at : (laws : DayLaws) (count : Count) (bound seed : ℕ) (frames : List Frame) (i : ℕ) (row next : Row)
     (frame : Frame) → GoOn None frames →
     slice_get (rows_of count seed bound frames) i ≡ Some row
@@ -230,7 +230,7 @@ reads_on_at laws count bound seed frames i row next frame on here later there go
     subst (λ r. ReadsOn count row r) next_is (subst (λ r. ReadsOn count r (row_of count bound None after.value frame))
     (sym at.is) reads)
 
--- and it goes on steadily where the transport keeps its bound
+-- and it goes on steadily if the transport keeps its bound
 steadily : (count : Count) (row next : Row) → ReadsOn count row next → unsigned_abs row.slip ≤ 8 → GoesOn count row next
 steadily count row next on slip =
     record { no_command = on.no_command; master = on.master; reads = on.reads; steady = on.steady; slip = slip }

@@ -84,7 +84,7 @@ master_of_place count (Gone tick) = refl
 abbrev pub HasCount : Count → Frame → Type 0
 HasCount count frame = IfSome (position_of frame) (λ place. place.label.count ≡ count)
 
--- a master stands on the day
+-- a master is on the day
 master_below : (laws : DayLaws) (count : Count) (label : Address) (direction : Direction) (b : Bool)
     → is_same_count label.count count ≡ b → IsLabel label →
     IfSome (if b then Some (master_with (number_of label) direction) else None) (λ m. m.number < day_length count)
@@ -132,7 +132,7 @@ row_at count bound state command (frame ∷ more) (suc i) row e =
       is = rest.is ∙ ap (λ c. row_of count bound c rest.value rest.frame) (none_at i);
     }
 
--- each row stands on the day
+-- each row is on the day
 pub are_rows : (laws : DayLaws) (count : Count) (bound state : ℕ) (command : Option Command) (frames : List Frame)
     → HaveLabels frames →
     AreRowsOf count (rows_from count bound state command frames)
@@ -159,7 +159,7 @@ same_step : (direction : Direction) → steps_in direction 1 ≡ frame_in direct
 same_step Forward = refl
 same_step Backward = refl
 
--- where the next frame goes on and has the count, the next row reads on
+-- if the next frame goes on and has the count, the next row reads on
 pub row_reads_on : (laws : DayLaws) (count : Count) (bound : ℕ) (command : Option Command) (value other : ℕ)
     (a b : Frame) → Follows (position_of a) b →
     goes_on b ≡ true → HasCount count b →

@@ -71,7 +71,7 @@ impl CodeChase {
         self.place.work(command, master, slip)
     }
 
-    /// Where the transport stands, in subframes.
+    /// The position of the transport, in subframes.
     pub fn position(&self) -> u32
         ensures value { result ≡ self.now.loop.position }
         ensures day { result < day_of self.now.loop.chase.count }

@@ -28,8 +28,8 @@ pub fn a_frame_adds_a_line()
         ≡ code_trace label seed bound frames ++ next_line (after_frames (begun_at label seed bound) frames) frame ∷ [] }
 {}
 
-/// Each loss has its cause, by its kind: no code exactly where the frame is gone or has another count; and out
-/// of the window only where the frame was heard and does not join the one before it, or where the transport
+/// Each loss has its cause, by its kind: no code exactly if the frame is gone or has another count; and out
+/// of the window only if the frame was heard and does not join the one before it, or if the transport
 /// slipped by 25 subframes or more in the step before.
 pub fn each_loss_has_a_cause()
     ensures cause { (label : Address) (seed bound : ℕ) (frames : List Frame) (j : ℕ) (line : Traced) (loss : Loss)
@@ -49,9 +49,9 @@ pub fn each_loss_has_a_cause()
     number_and_label_are_inverse();
 }
 
-/// Where every frame behind the first is invented or joined and has the chase's count, and the transport
+/// If every frame behind the first is invented or joined and has the chase's count, and the transport
 /// slips by at most 24 subframes, no step has a loss, and from the first step that ends Locked on each
-/// error is at most half a frame. Where it keeps its bound of eight subframes, the error is at most 40
+/// error is at most half a frame. If it keeps its bound of eight subframes, the error is at most 40
 /// subframes in the first of these steps, 24 in the next, and 8 in each later one.
 pub fn whole_code_keeps_the_lock()
     ensures no_loss { (label : Address) (seed bound : ℕ) (frames : List Frame) (j : ℕ) (line : Traced)

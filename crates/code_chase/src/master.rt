@@ -7,7 +7,7 @@ use chase_core::Master;
 use flywheel::Frame;
 use tc_address::{Count, Direction, Label, number};
 
-/// What a label tells a chase of a count.
+/// What a label says to a chase of a count.
 fn master_at(count: Count, label: &Label, direction: Direction) -> Option<Master>
     ensures value { result ≡ master_at count label.now direction }
     ensures day { IfSome result (λ m. m.number < day_length count) }
@@ -22,7 +22,7 @@ fn master_at(count: Count, label: &Label, direction: Direction) -> Option<Master
     }
 }
 
-/// What a frame tells a chase of a count.
+/// What a frame says to a chase of a count.
 pub(crate) fn master_of(count: Count, frame: &Frame) -> Option<Master>
     ensures value { result ≡ master_of count frame.now }
     ensures day { IfSome result (λ m. m.number < day_length count) }

@@ -1,4 +1,4 @@
--- What clap is told of the command line: a required word, and any number of values.
+-- What clap is given of the command line: a required word, and any number of values.
 use Rattle.std.specs.Prelude.{true, Some, codes}
 use Rattle.clap.specs.Lexer.{usize_max}
 use Rattle.clap.specs.Words.{App, Rule, new_app, new_rule, with_rule}

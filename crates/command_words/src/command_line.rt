@@ -28,7 +28,7 @@ impl<'a> Model for CommandLine<'a> {
 }
 
 impl<'a> CommandLine<'a> {
-    /// Reads words of which none begins with a dash. Only want of memory is an error.
+    /// Reads words of which none begins with a dash. Only lack of memory is an error.
     pub fn read(alloc: Global, words: &'a [String]) -> Result<CommandLine<'a>, AllocError>
         requires some { 0 < length words.now }
         requires plain { NoDashes (map string_bytes words.now) }
@@ -58,7 +58,7 @@ impl<'a> CommandLine<'a> {
     }
 }
 
-// What clap finds. It fails for want of memory alone.
+// What clap finds. It fails for lack of memory alone.
 fn matches<'a>(alloc: Global, words: &'a [String]) -> Result<ArgMatches<'a>, Error>
     requires some { 0 < length words.now }
     requires plain { NoDashes (map string_bytes words.now) }

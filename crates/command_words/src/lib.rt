@@ -6,7 +6,7 @@
 //! beforehand.
 //!
 //! What this crate promises: of words without a dash in front, the first is the command and the
-//! others are the values, each as it was given and in order; and nothing fails but for want of
+//! others are the values, each as it was given and in order; and nothing fails but for lack of
 //! memory (`specs/CommandLine.antt`).
 //!
 //! Read `command_line`.

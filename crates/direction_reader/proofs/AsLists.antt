@@ -1,4 +1,4 @@
--- A word that bits spell is the one that stands there, and their first fault is that of the fields that stand there. So
+-- A word that bits spell is the one that is there, and their first fault is that of the fields that are there. So
 -- the events that are gathered of a window, of windows and of stretches are those of the lists, and the other way
 -- round.
 use Rattle.std.proofs.Common.{◌≡◌, ℕ, List, [], ◌∷◌, ◌++◌, true, false, Some, None, refl, ap, ap₂, sym, ◌∙◌, subst, ◌+◌}
@@ -46,7 +46,7 @@ pub record AreListed : Type 0 where
   pub listed : (system : System) (profile : Profile) (intervals : List ℕ) (events : List Event)
       → AreGathered system profile intervals events → AreEvents system profile intervals events
 
--- what stands in bits is what they spell
+-- what is in bits is what they spell
 pub record StandThere : Type 0 where
   pub word : (system : System) (word : LtcWord) (bits : ℕ) → Spells system word bits
       → (fault_in system bits ≡ None) × (word ≡ word_in system bits)

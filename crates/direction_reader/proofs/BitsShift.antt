@@ -25,7 +25,7 @@ slid-full b bs bit count =
     let more = number_of-append bs bit in
     rw (half, more, count) refl
 
--- a window that is filling, with so many places free before the bit
+-- a window that is filling, with `room` places free before the bit
 pub slid-filling : (bs : List Bool) (bit : Bool) (room : ℕ) → length bs + room ≡ 79 →
     slid_by (number_of bs * 2 ^ (room + 1)) bit ≡ number_of (bs ++ bit ∷ []) * 2 ^ room
 slid-filling bs bit room all =

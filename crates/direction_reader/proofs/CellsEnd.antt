@@ -1,5 +1,5 @@
 -- Each cell lasts a tick at least and twice the greatest interval at most, so the boundaries that are
--- kept tell how long a window can be.
+-- kept say how long a window can be.
 use Rattle.std.proofs.Common.{◌≡◌, ◌<◌, ◌≤◌, ℕ, ◌+◌, ◌-◌, ◌*◌, List, [], ◌∷◌, ◌++◌, length, drop, Bool, arith, refl}
 use Rattle.std.proofs.Common.{true, false}
 use Rattle.std.specs.Prelude.{slice_index, nat_lt}
@@ -38,7 +38,7 @@ kept end tick bs are later near = elim (dec_lt (length bs) 81) [
       rw test (added end tick (drop 1 bs) (without_oldest end bs are many) later near))
 ]
 
--- so many cells last so many ticks at least
+-- cells last a tick each at least
 span-least : (tick : ℕ) (bs : List ℕ) → AreBoundariesTo tick bs → slice_index bs 0 + length bs ≤ tick + 1
 span-least tick [] are = absurd are
 span-least tick (last ∷ []) are = omega arith
@@ -78,7 +78,7 @@ fits_after (MidCell m) (Hunting n) x tick bit bs steps are = absurd steps.1
 fits_after (MidCell m) (MidCell n) x tick bit bs steps are = absurd steps.1
 fits_after (MidCell m) (AtCell n) x tick bit bs steps are = are
 
--- what the reader keeps fits where a cell has ended
+-- what the reader keeps fits if a cell has ended
 pub cell_fits : (old next : Tracking) (x tick now : ℕ) (bit : Bool) (bs new : List ℕ) → FitsTracker old tick bs → 1 ≤ x
     → x ≤ MAX_INTERVAL
     → Steps old x next (Cell bit) → now ≡ tick + x → new ≡ with_boundary bs now → FitsTracker next now new

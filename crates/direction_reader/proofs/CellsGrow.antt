@@ -46,11 +46,11 @@ ticks-append tick end (d ∷ cells) cell is =
 bits-append : (cells : List Cell) (cell : Cell) → bits (cells ++ cell ∷ []) ≡ bits cells ++ bit_of cell ∷ []
 bits-append cells cell = map-append bit_of cells (cell ∷ [])
 
--- a boundary more where there are fewer than 81
+-- a boundary more if there are fewer than 81
 boundary_more : (bs : List ℕ) (end : ℕ) → length bs < 81 → with_boundary bs end ≡ bs ++ end ∷ []
 boundary_more bs end less = let test : nat_lt (length bs) 81 ≡ true = grind (arith, common_steps) in rw test refl
 
--- and in place of the oldest where there are 81
+-- and in place of the oldest if there are 81
 boundary_last : (b : ℕ) (bs : List ℕ) (end : ℕ) → length bs ≡ 80 → with_boundary (b ∷ bs) end ≡ bs ++ end ∷ []
 boundary_last b bs end all =
     let test : nat_lt (length (b ∷ bs)) 81 ≡ false = grind (arith, common_steps) in

@@ -1,5 +1,5 @@
 -- A chain that begins with a zero and a one is one stretch: their intervals are an unequal pair, so the lock is at the
--- first of them, and no longer chain stands there.
+-- first of them, and no chain there is longer.
 use Rattle.std.proofs.Common.{◌≡◌, ℕ, suc, ◌+◌, ◌≤◌, Bool, true, false, List, [], ◌∷◌, ◌++◌, length, drop, None, inl}
 use Rattle.std.proofs.Common.{inr, refl, sym}
 use Rattle.std.proofs.Common.{ap, ◌∙◌, append-nil, arith}

@@ -1,4 +1,4 @@
--- 80 bits that end in the sync word spell a word or are at fault, so a window has events, and so has each stretch, and
+-- 80 bits that end in the sync word spell a word or have a fault, so a window has events, and so has each stretch, and
 -- each list.
 use Rattle.std.proofs.Common.{◌≡◌, ◌<◌, ◌≤◌, ◌⊎◌, ℕ, ◌-◌, ◌^◌, List, [], ◌∷◌, ◌++◌, length, take, drop, map, Bool, Some}
 use Rattle.std.proofs.Common.{None, inl, inr}
@@ -110,7 +110,7 @@ window_events read system bits end length width =
       ]
     ]
 
--- so many bits are a number below that power of two
+-- n bits or fewer are a number below 2 to the n-th
 number_below : (n : ℕ) (bs : List Bool) → length bs ≤ n → number_of bs < 2 ^ n
 number_below zero [] within = omega arith
 number_below zero (b ∷ bs) within = absurd (omega arith)

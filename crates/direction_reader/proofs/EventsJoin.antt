@@ -1,4 +1,4 @@
--- Events of more windows, of more stretches and of more intervals stand behind those that were there.
+-- Events of more windows, of more stretches and of more intervals come behind those that were there.
 use Rattle.std.proofs.Common.{◌≡◌, ◌<◌, ◌≤◌, ℕ, ◌+◌, List, [], ◌∷◌, ◌++◌, length, sum, ap, sym, ◌∙◌, arith, refl, subst}
 use Rattle.std.proofs.Common.{append_assoc}
 use Rattle.std.proofs.Common.{append-nil, IfSome, Some, None, Option}
@@ -73,12 +73,12 @@ stretches_stay system l more (s ∷ ss) es inside (own, rest, is, others, join) 
   join,
 )
 
--- a place before so many is before more
+-- a place before n is before m, if m is no less
 some_more : (n m : ℕ) (place : Option ℕ) → n ≤ m → IfSome place (λ p. p < n) → IfSome place (λ p. p < m)
 some_more n m None le is = tt
 some_more n m (Some p) le is = omega arith
 
--- what is inside so many intervals is inside more
+-- what is inside n intervals is inside more
 inside_more : (n m : ℕ) (s : Stretch) → n ≤ m → IsInside n s → IsInside m s
 inside_more n m s le inside = record { lock = omega arith; broken = some_more n m s.broken_at le inside.broken }
 

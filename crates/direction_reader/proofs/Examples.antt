@@ -78,7 +78,7 @@ word_backward system bits end length word not_forward backward spells = record {
   none = λ _ not_backward. absurd (not_backward (is (reversed_bits bits) backward));
 }
 
--- a candidate both ways, whose units of frames are at fault both ways
+-- a candidate both ways, whose units of frames are wrong both ways
 abbrev refused_twice : ℕ → Events
 refused_twice end = record {
   first = Some (Refused Forward FrameUnits end);

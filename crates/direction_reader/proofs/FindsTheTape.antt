@@ -58,7 +58,7 @@ EndsBy end (Word direction word tick length) = tick ≤ end
 EndsBy end (Refused direction fault tick) = tick ≤ end
 EndsBy end (Lost interval tick) = Unit {0}
 
--- a break stands at the place `from` at the latest
+-- a break is at the place `from` at the latest
 abbrev LostBy : ℕ → Event → Type 0
 LostBy from (Lost interval tick) = interval ≤ from
 LostBy from event = Unit {0}
@@ -239,7 +239,7 @@ sum_later (x ∷ l) (suc i) (suc j) less =
       sum_later l i j (omega arith),
     )
 
--- a break does not stand before the end of the cells
+-- a break does not come before the end of the cells
 pub break_behind : (profile : Profile) (c : Latest) (after : ℕ) (rest : List ℕ) (place : Option ℕ) (p : ℕ)
     → IsBreak profile c after rest place
     → place ≡ Some p → after ≤ p
@@ -403,7 +403,7 @@ pub record Fronts : Type 0 where
   pub first : IsFrontFirst
   pub behind : IsBehind
 
--- what the events are from a place on, where the stretches of a front are the tape's from there on
+-- what the events are from a place on, if the stretches of a front are the tape's from there on
 pub tells_from : AreListed → Fronts → (system : System) (profile : Profile) (l : List ℕ) (es : List Event)
     → AreEvents system profile l es → (front behind : List ℕ) (from : ℕ) (cells : List Cell) → l ≡ front ++ behind
     → ((ss : List Stretch) → AreStretches profile front ss → AreFrom from cells ss)

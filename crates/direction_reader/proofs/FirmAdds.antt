@@ -1,5 +1,5 @@
 -- What is kept of some cells, with a word that waits, becomes what is kept of one cell more; and the numbers of what is
--- told lie within those of the cells.
+-- given lie within those of the cells.
 use Rattle.std.proofs.Common.{◌≡◌, ◌<◌, ◌≤◌, ℕ, ◌+◌, ◌-◌, Bool, true, false, List, [], ◌∷◌, ◌++◌, length, Option, Some}
 use Rattle.std.proofs.Common.{None, IfSome}
 use Rattle.std.proofs.Common.{ap, sym, ◌∙◌, arith, refl, subst, length-append, append-nil, inl, inr, map}
@@ -107,7 +107,7 @@ began_within tick first second (Some (Refused d f t)) one two back = (
 )
 began_within tick first second (Some (Lost p t)) one two back = absurd back
 
--- an event that is told at a tick is told no sooner than one that ended by it
+-- an event that is given at a tick is given no sooner than one that ended by it
 within_tick : (tick : ℕ) (event : Event) → IsWithin tick event → tick_of event ≤ tick
 within_tick tick (Word d w t n) is = is.0
 within_tick tick (Refused d f t) is = is
@@ -145,7 +145,7 @@ heard_within tick (Some w) sync forward backward waits one at back =
           rw test is)
     ]
 
--- a candidate of the window that ends at a tick is told of that tick
+-- a candidate of the window that ends at a tick has that tick
 at_tick : (tick : ℕ) (event : Event) → IsWordAt tick event → tick_of event ≡ tick
 at_tick tick (Word d w t n) at = at.0
 at_tick tick (Refused d f t) at = at
@@ -156,7 +156,7 @@ told_at : (tick : ℕ) (firm : Bool) (o : Option Event) → IfSome o (IsWordAt t
 told_at tick firm None at = tt
 told_at tick firm (Some event) at = judged_tick firm event ∙ at_tick tick event at
 
--- what one cell tells
+-- what one cell gives
 pub add_within : (before tick : ℕ) (waits : Option Waiting) (firm sync : Bool) (found : Candidates) → before ≤ tick
     → WaitsWithin before waits
     → FindsAt tick found
@@ -193,7 +193,7 @@ three_in_turn told a b c d one two three =
     (in_turn_append (map told_tick f ++ map told_tick s) (map told_tick t) a c d
     (in_turn_append (map told_tick f) (map told_tick s) a b c one two) three)
 
--- what is told where a cell ends at a tick
+-- what is given when a cell ends at a tick
 began_in_turn : (from tick : ℕ) (first second : Option FirmEvent) (backward : Option Event)
     → DoNotFall from (map told_tick (firm_listed first)) from
     → DoNotFall from (map told_tick (firm_listed second)) tick → IfSome backward (IsWordAt tick)
@@ -219,7 +219,7 @@ told_within : (tick : ℕ) (event : FirmEvent) → IsToldWithin tick event → t
 told_within tick (Told event) is = within_tick tick event is
 told_within tick (Alone d t) is = is
 
--- what stood behind a word
+-- what came behind a word
 waited_in_turn : (from before tick : ℕ) (a : Option FirmEvent) → from ≤ before → before ≤ tick
     → IfSome a (IsToldWithin before) → IfSome a (λ event. from ≤ told_tick event)
     → DoNotFall from (map told_tick (firm_listed a)) tick
@@ -239,7 +239,7 @@ ends_later : (ticks : List ℕ) (a b c : ℕ) → DoNotFall a ticks b → b ≤ 
 ends_later [] a b c turn late = omega (arith, turn, late)
 ends_later (t ∷ ticks) a b c turn late = (turn.0, ends_later ticks t b c turn.1 late)
 
--- what stood behind a word, or comes now
+-- what came behind a word, or comes now
 behind_in_turn : (from before tick : ℕ) (a b : Option FirmEvent) → from ≤ before → before ≤ tick
     → IfSome a (IsToldWithin before) → IfSome a (λ event. from ≤ told_tick event) → IfSome b (IsToldAt tick)
     → DoNotFall from (map told_tick (firm_listed (or_else a b))) tick
@@ -272,7 +272,7 @@ heard_in_turn before tick (Some w) sync forward backward late within one back =
           rw test is)
     ]
 
--- what one cell tells
+-- what one cell gives
 pub add_in_turn : (before tick : ℕ) (waits : Option Waiting) (firm sync : Bool) (found : Candidates) → before ≤ tick
     → WaitsWithin before waits → FindsAt tick found
     → DoNotFall (until_of before waits)
@@ -282,7 +282,7 @@ add_in_turn before tick waits firm sync found late within at =
     heard_in_turn before tick waits sync (option_map (judged firm) found.forward) found.backward late within
     (told_at tick firm found.forward at.forward) at.backward
 
--- what the end of a stretch tells
+-- what the end of a stretch gives
 pub end_in_turn : (before tick : ℕ) (waits : Option Waiting) → before ≤ tick → WaitsWithin before waits
     → DoNotFall (until_of before waits) (map told_tick (firm_list (ended waits))) tick
 end_in_turn before tick None late within = late
@@ -344,7 +344,7 @@ add_stands laws old new system begin tick bit found cells cell told is_bits is_b
       waits = rw waits heard_now;
     }
 
--- what is told where the stretch ends
+-- what is given when the stretch ends
 pub end_stands : (system : System) (begin : ℕ) (cells : List Cell) (told : List FirmEvent) (waits : Option Waiting)
     → WaitsFor waits system begin cells told → told ++ firm_list (ended waits) ≡ firm_events_of_cells system begin cells
 end_stands system begin cells told None waits = append-nil told ∙ waits.all

@@ -1,5 +1,5 @@
--- What waits and what was told of some cells becomes what waits and is told of one cell more: a word that is read
--- backward waits until its sixteen cells are there, and what comes in the meantime stands behind it, one event at most.
+-- What waits and what was given of some cells becomes what waits and is given of one cell more: a word that is read
+-- backward waits until its sixteen cells are there, and what comes in the meantime comes behind it, one event at most.
 use Rattle.std.proofs.Common.{◌≡◌, ◌<◌, ◌≤◌, ℕ, zero, suc, ◌+◌, ◌-◌, Bool, true, false, List, [], ◌∷◌, ◌++◌, length}
 use Rattle.std.proofs.Common.{take, drop, map, Option, Some, None}
 use Rattle.std.proofs.Common.{ap, ap₂, sym, ◌∙◌, arith, refl, subst, append_assoc, append-nil, length-append, inl, inr}
@@ -110,16 +110,16 @@ pub both_ways : (system : System) (tick : ℕ) (cells : List Cell) (k : ℕ)
 unfolding firm_events_at
 both_ways system tick cells k = refl
 
--- ---- a window is heard where none waits
+-- ---- a window is heard if none waits
 
--- what is told with the window from place k on, but for its backward candidate
+-- what is given with the window from place k on, but for its backward candidate
 abbrev IsReady : System → ℕ → List Cell → ℕ → List FirmEvent → Type 0
 IsReady system tick cells k told = told ≡ spans system tick cells 0 k ++ firm_candidate_at system tick cells k Forward
 
 judged_list : (firm : Bool) (event : Event) → map (judged firm) (event ∷ []) ≡ judged firm event ∷ []
 judged_list firm event = refl
 
--- all is told of it
+-- all is given of it
 all_told : (system : System) (tick : ℕ) (cells : List Cell) (k : ℕ) (told last : List FirmEvent) → length cells ≡ k + 80
     → IsReady system tick cells k told → last ≡ firm_candidate_at system tick cells k Backward
     → told ++ last ≡ firm_events_of_cells system tick cells
@@ -201,7 +201,7 @@ began_stands system tick cells k told first second (Some (Lost p t)) count found
       none = all_quiet system tick cells k count quiet needs;
     }
 
--- ---- one cell more, where none waits
+-- ---- one cell more, if none waits
 
 abbrev More : List Cell → Cell → List Cell
 More cells cell = cells ++ cell ∷ []
@@ -256,7 +256,7 @@ none_heard system tick cells cell told sync forward backward found none = elim (
       (λ j low high. needs_stay system tick cells cell j (omega arith) (none.none j (omega arith) (omega arith))))
 ]
 
--- ---- one cell more, where a word waits
+-- ---- one cell more, if a word waits
 
 -- of two that may be there, one is not
 pub one_of_two : (a b : Option FirmEvent) → (firm_listed a ≡ []) ⊎ (firm_listed b ≡ [])
@@ -419,7 +419,7 @@ judged_firm (Word d w t n) = refl
 judged_firm (Refused d f t) = refl
 judged_firm (Lost p t) = refl
 
--- a word that waits stands at the edge of its stretch
+-- a word that waits is at the edge of its stretch
 pub ended_stands : (system : System) (tick : ℕ) (cells : List Cell) (w : Waiting) (told : List FirmEvent)
     → OneWaits w system tick cells told
     → told ++ (Told w.word ∷ (firm_listed w.behind ++ [])) ≡ firm_events_of_cells system tick cells

@@ -1,5 +1,5 @@
--- What is told of the front of a list comes first in what is told of the list, and in its events: a further cell
--- decides of no window that was told whether it has its witness. And what follows ends later, since the windows of a
+-- What is given of the front of a list comes first in what is given of the list, and in its events: a further cell
+-- decides of no window that was given whether it has its witness. And what follows ends later, since the windows of a
 -- list end one after another, with witnesses as without.
 use Rattle.std.proofs.Common.{◌≡◌, ◌<◌, ◌≤◌, ◌⊎◌, ℕ, ◌+◌, ◌-◌, Bool, true, List, [], ◌∷◌, ◌++◌, length, take, drop, map}
 use Rattle.std.proofs.Common.{sum}
@@ -43,9 +43,9 @@ use Rattle.direction_reader.proofs.FrontsFirst.{StretchesGoOn, stretch_inside}
 use Rattle.direction_reader.proofs.OneListOfEvents.{HasOneList}
 use Rattle.direction_reader.proofs.SyncInTime.{WordLaws}
 
--- ---- the windows that were told stay
+-- ---- the windows that were given stay
 
--- a window that was there, where more cells follow
+-- a window that was there, if more cells follow
 window_stays : (system : System) (tick : ℕ) (cells more : List Cell) (k : ℕ) → k + 80 ≤ length cells
     → (length cells < k + 96 → NeedsNone system tick cells k)
     → firm_events_at system tick (cells ++ more) k ≡ firm_events_at system tick cells k
@@ -75,7 +75,7 @@ needs_none system tick cells k none within young = elim (waits_or_not system tic
   | inr needs ↦ needs
 ]
 
--- where none waits, all windows
+-- if none waits, all windows
 all_stay : (system : System) (tick : ℕ) (cells more : List Cell) → NoneWaits system tick cells
     → spans system tick (cells ++ more) 0 (length cells - 79) ≡ firm_events_of_cells system tick cells
 all_stay system tick cells more none =
@@ -83,7 +83,7 @@ all_stay system tick cells more none =
     (λ j low high. window_stays system tick cells more j (omega arith)
     (λ young. needs_none system tick cells j none (omega arith) young))
 
--- where one waits, those before it, and its forward candidate
+-- if one waits, those before it, and its forward candidate
 abbrev told_before : System → ℕ → List Cell → ℕ → List FirmEvent
 told_before system tick cells k = spans system tick cells 0 k ++ firm_candidate_at system tick cells k Forward
 
@@ -122,7 +122,7 @@ behind_one system tick cells k n =
 
 -- ---- one stretch, of which more cells follow
 
--- what was told comes first in all that the cells have
+-- what was given comes first in all that the cells have
 cells_first : WordLaws → (system : System) (tick now until : ℕ) (cells more : List Cell) (told : List FirmEvent)
     → AreToldOfCells system tick cells now told until
     → (rest : List FirmEvent) × (firm_events_of_cells system tick (cells ++ more) ≡ told ++ rest)
@@ -154,7 +154,7 @@ cells_first laws system tick now until cells more told (inr one) =
           ∙ ap (λ (es : List FirmEvent). es ++ rest) front,
     )
 
--- and in what is told of more cells. A word that waits later is no earlier one
+-- and in what is given of more cells. A word that waits later is no earlier one
 later_waits : WordLaws → (system : System) (tick : ℕ) (cells more : List Cell) (j k : ℕ)
     → IsWaiting system tick cells j → IsWaiting system tick (cells ++ more) k → j ≤ k
 later_waits laws system tick cells more j k one two =
@@ -173,7 +173,7 @@ later_waits laws system tick cells more j k one two =
       | inr from ↦ from
     ]
 
--- what was told up to a place comes first in what is told up to a later one
+-- what was given up to a place comes first in what is given up to a later one
 up_to_later : (system : System) (tick : ℕ) (cells : List Cell) (j k : ℕ) → j ≤ k
     → (rest : List FirmEvent) × (told_before system tick cells k ≡ told_before system tick cells j ++ rest)
 up_to_later system tick cells j k le = elim (cases_lt j k) [
@@ -240,9 +240,9 @@ cells_before laws system tick now later until last cells more told told_later (i
     before_stays laws system tick cells more one.0 one.1 ∙ sym one.2 in
     (up.0, two.2 ∙ up.1 ∙ ap (λ (es : List FirmEvent). es ++ up.0) front)
 
--- ---- what follows, where nothing more comes
+-- ---- what follows, if nothing more comes
 
--- what is told ends at a tick, and the first of what follows ends there
+-- what is given ends at a tick, and the first of what follows ends there
 pub record Ends (told : List FirmEvent) (until : ℕ) (events : List FirmEvent) (now : ℕ) : Type 0 where
   pub rest : List FirmEvent
   pub are : events ≡ told ++ rest
@@ -299,7 +299,7 @@ cells_end system tick now until cells told lasts (inr one) =
 abbrev all_of : System → List ℕ → List Stretch → List FirmEvent
 all_of system l ss = flat_map (firm_events_of_stretch system l) ss
 
--- what is told of a stretch by its end
+-- what is given of a stretch by its end
 abbrev TellsOpen : System → List ℕ → Stretch → List Stretch → List FirmEvent → ℕ → Type 0
 TellsOpen system l s ss told until =
     (ss ≡ []) × AreToldOfCells system (begin_of l s) s.cells (sum l) told until
@@ -336,7 +336,7 @@ stretch_lasts profile l s is =
     let second = sum_of_two (flat s.cells) front.0 in
     omega (arith, two, first, rest, second)
 
--- ---- what was told comes first in the events
+-- ---- what was given comes first in the events
 
 first_step : WordLaws → (system : System) (l more : List ℕ) (s t : Stretch) (ss ts : List Stretch)
     (told : List FirmEvent) (until : ℕ) (o : Option ℕ) → s.broken_at ≡ o → IsInside (length l) s → GrowsTo s t
@@ -383,7 +383,7 @@ told_first laws system l more (s ∷ ss) (t ∷ ts) told until inside go are =
     first_step laws system l more s t ss ts told until s.broken_at refl inside.0 go.0
     (λ rest told_of. told_first laws system l more ss ts rest until inside.1 go.1 told_of) are
 
--- ---- and in what is told of more intervals
+-- ---- and in what is given of more intervals
 
 -- of the open stretch, which may have broken since
 open_before : WordLaws → (system : System) (l more : List ℕ) (s t : Stretch) (ts : List Stretch)
@@ -555,7 +555,7 @@ pub record FrontLaws : Type 0 where
       → All (λ event. sum front ≤ tick_of event) rest
   pub words : WordLaws
 
--- what is told of the front of a list comes first in its events, and the rest ends later
+-- what is given of the front of a list comes first in its events, and the rest ends later
 pub all_behind : FrontLaws → (system : System) (profile : Profile) (front more : List ℕ) (told events : List FirmEvent)
     (until : ℕ) → AreTold system profile front told until → AreFirmEvents system profile (front ++ more) events
     → ComesFirst told until events (sum (front ++ more))
@@ -598,7 +598,7 @@ of_behind : (tail : List FirmEvent) (e : FirmEvent) (more : List FirmEvent) (unt
 of_behind [] e more until all = All-head (IsFrom until) e more all
 of_behind (t ∷ tail) e more until all = of_behind tail e more until (All-tail (IsFrom until) t (tail ++ e ∷ more) all)
 
--- the tick up to which a longer list is told is no earlier one
+-- the tick up to which a longer list is given is no earlier one
 until_later : (told tail last_rest rest : List FirmEvent) (until last sum_of_front now : ℕ) → until ≤ now
     → rest ≡ tail ++ last_rest → All (IsFrom until) rest
     → (last ≡ now) ⊎ ((e : FirmEvent) × (more : List FirmEvent) × (last_rest ≡ e ∷ more) × (told_tick e ≡ last))
@@ -618,7 +618,7 @@ front_from (t ∷ tail) rest until all =
     All-cons (IsFrom until) t tail (All-head (IsFrom until) t (tail ++ rest) all)
     (front_from tail rest until (All-tail (IsFrom until) t (tail ++ rest) all))
 
--- and it comes first in what is told of more intervals
+-- and it comes first in what is given of more intervals
 pub more_behind : FrontLaws → (system : System) (profile : Profile) (front more : List ℕ)
     (told later : List FirmEvent) (until now : ℕ) → AreTold system profile front told until
     → AreTold system profile (front ++ more) later now → ComesFirst told until later now

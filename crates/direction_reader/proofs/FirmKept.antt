@@ -1,5 +1,5 @@
--- The register of 96 bits holds the latest 96 cells, so it tells what stands beside the latest window. And what is kept
--- of the latest cells tells the candidates of that window.
+-- The register of 96 bits holds the latest 96 cells, so it shows what is beside the latest window. And what is kept
+-- of the latest cells gives the candidates of that window.
 use Rattle.std.proofs.Common.{◌≡◌, ◌<◌, ◌≤◌, ℕ, zero, suc, ◌+◌, ◌-◌, ◌*◌, ◌/◌, ◌%◌, ◌^◌, Bool, true, false, List, []}
 use Rattle.std.proofs.Common.{◌∷◌, ◌++◌, length, take, drop, map}
 use Rattle.std.proofs.Common.{ap, ap₂, sym, ◌∙◌, arith, refl, subst, append_assoc, append-nil, length-append, inl, inr}
@@ -138,7 +138,7 @@ cells_number cells n m =
     sym (bits_are (take n (drop m cells))) ∙ ap number_of (sym (take-map bit_of n (drop m cells)))
     ∙ ap (λ (l : List Bool). number_of (take n l)) (sym (drop-map bit_of m cells))
 
--- what stands before the latest window
+-- what comes before the latest window
 pub firm_before : (cells : List Cell) → 80 ≤ length cells
     → is_firm_before (beside_of none_beside (bits cells)) ≡ is_firm Forward cells (length cells - 80)
 firm_before cells many =

@@ -1,5 +1,5 @@
--- Where words are played one after another in one direction, each but the first or the last has its neighbour's sync
--- word beside it, and that one stands at the edge. So a witness changes nothing.
+-- If words are played one after another in one direction, each but the first or the last has its neighbour's sync
+-- word beside it, and that one is at the edge. So a witness changes nothing.
 use Rattle.std.proofs.Common.{◌≡◌, ◌<◌, ◌≤◌, ℕ, zero, suc, ◌+◌, ◌-◌, ◌*◌, ◌/◌, ◌%◌, ◌^◌, Bool, true, false, List, []}
 use Rattle.std.proofs.Common.{◌∷◌, ◌++◌, length, take, drop, map}
 use Rattle.std.proofs.Common.{ap, ap₂, sym, ◌∙◌, arith, refl, subst, length-append, append-nil, inl, inr, ◌⊎◌}
@@ -42,7 +42,7 @@ use Rattle.direction_reader.proofs.SyncInTime.{lead_forward, lead_backward, no_o
 use Rattle.direction_reader.proofs.SyncInTime.{backward_set}
 use Rattle.direction_reader.proofs.WordsAreRead.{starts_words, window_is, windows_are_read}
 
--- ---- where candidates are firm, a witness changes nothing
+-- ---- if candidates are firm, a witness changes nothing
 
 told_at : (system : System) (tick : ℕ) (cells : List Cell) (k : ℕ) → (IsForward cells k
     → is_firm Forward cells k ≡ true)
@@ -248,7 +248,7 @@ forward_walk laws system cells (w ∷ v ∷ more) p i are spelled way within fit
       ])
 ]
 
--- and no backward candidate stands there
+-- and no backward candidate is there
 forward_no_backward : WordLaws → (system : System) (cells : List Cell) (words : List Played) (p i : ℕ)
     → CellsAre cells p words → AreSpelled system words
     → AreOneWay Forward words → i + 80 ≤ 80 * length words → IsBackward cells (p + i) → ⊥
@@ -306,7 +306,7 @@ backward_walk laws system cells (w ∷ v ∷ more) p i are spelled way within fi
       (rw place at is)))
 ]
 
--- and no forward candidate stands there
+-- and no forward candidate is there
 backward_no_forward : WordLaws → (system : System) (cells : List Cell) (words : List Played) (p i : ℕ)
     → CellsAre cells p words → AreSpelled system words
     → AreOneWay Backward words → i + 80 ≤ 80 * length words → IsForward cells (p + i) → ⊥

@@ -1,4 +1,4 @@
--- Each step of the tracker takes the reader that asks for witnesses from a list, with what is told of it, to the list
+-- Each step of the tracker takes the reader that needs witnesses from a list, with what is given of it, to the list
 -- with one interval more.
 use Rattle.std.proofs.Common.{◌≡◌, ◌<◌, ◌≤◌, ℕ, ◌+◌, ◌-◌, List, [], ◌∷◌, ◌++◌, length, take, sum, map, ap, ap₂, sym}
 use Rattle.std.proofs.Common.{◌∙◌, arith, refl, subst}
@@ -53,7 +53,7 @@ past_stays system l more (s ∷ ss) inside =
     ap₂ (λ (a b : List FirmEvent). a ++ b) (stretch_stays system l more s (length l) refl inside.0) (past_stays system
     l more ss inside.1)
 
--- what was told of them
+-- what was given of them
 abbrev past_of : System → List ℕ → List Stretch → List FirmEvent
 past_of system l ss = flat_map (firm_events_of_stretch system l) ss
 
@@ -229,7 +229,7 @@ begins_before r n x first tick l told own takes starts adds stands after =
 abbrev lost_of : FirmState → FirmEvent
 lost_of n = Told (Lost (n.intervals - 1) n.tick)
 
--- all that is told of a stretch that breaks
+-- all that is given of a stretch that breaks
 breaks_with : (r : FirmState) (x : ℕ) (l : List ℕ) (o : Option Stretch) (s : Stretch) (told : List FirmEvent)
     → FirmLatest r l o told → MayBreak l o s
     → (s.lock ≤ length l) × (told ++ firm_list (ended r.cells.waits) ≡ firm_events_of_cells r.system (begin_of (l ++ x

@@ -82,7 +82,7 @@ first_tick system tick cells k d e more is =
 
 -- ---- windows from a tick on
 
--- it is told of that tick or later
+-- it has that tick or a later one
 abbrev pub IsFrom : ℕ → FirmEvent → Type 0
 IsFrom until event = until ≤ told_tick event
 

@@ -1,4 +1,4 @@
--- What a reader has told is what is told of its list while more may follow. At most one word waits, so a list has one
+-- What a reader has given is what is given of its list while more may follow. At most one word waits, so a list has one
 -- such list of events.
 use Rattle.std.proofs.Common.{◌≡◌, ◌<◌, ◌≤◌, ℕ, zero, suc, ◌+◌, ◌-◌, List, [], ◌∷◌, ◌++◌, length, Some, None, Option}
 use Rattle.std.proofs.Common.{ap, sym, ◌∙◌}
@@ -37,7 +37,7 @@ use Rattle.direction_reader.proofs.FirmTicks.{first_tick, one_at_most}
 use Rattle.direction_reader.proofs.OneListOfEvents.{HasOneList}
 use Rattle.direction_reader.proofs.SyncInTime.{WordLaws}
 
--- a word is told otherwise without a witness
+-- a word without a witness is given otherwise
 pub no_need : (word : Event) (es : List Event) → es ≡ word ∷ [] → is_word word ≡ true
     → map (judged true) es ≡ map (judged false) es → ⊥
 no_need (Word d w t n) es there is same =
@@ -45,7 +45,7 @@ no_need (Word d w t n) es there is same =
 no_need (Refused d f t) es there is same = absurd cc
 no_need (Lost p t) es there is same = absurd cc
 
--- ---- what a reader has told
+-- ---- what a reader has given
 
 told_of_cells : (system : System) (tick now : ℕ) (cells : List Cell) (waits : Option Waiting) (told : List FirmEvent)
     → WaitsFor waits system tick cells told → AreToldOfCells system tick cells now told (until_of now waits)
@@ -65,7 +65,7 @@ told_of_cells system tick now cells (Some w) told one =
       first_tick system tick cells one.place Backward w.word [] one.word,
     )
 
--- what is told of a stretch by its end
+-- what is given of a stretch by its end
 abbrev TellsOpen : System → List ℕ → Stretch → List Stretch → List FirmEvent → ℕ → Type 0
 TellsOpen system l s ss told until =
     (ss ≡ []) × AreToldOfCells system (begin_of l s) s.cells (sum l) told until
@@ -91,7 +91,7 @@ all_broken system l (s ∷ ss) all =
     behind_broken system l s ss (flat_map (firm_events_of_stretch system l) ss) (sum l) s.broken_at refl
     (All-head IsBroken s ss all) (all_broken system l ss (All-tail IsBroken s ss all))
 
--- where others follow a stretch it is broken
+-- if others follow a stretch it is broken
 pub followed : (profile : Profile) (l : List ℕ) (ss : List Stretch) (o : Option ℕ) → (ss ≡ [] → ⊥)
     → MatchOption o (ss ≡ []) (λ place. AreStretchesFrom profile l place ss)
     → (place : ℕ) × (o ≡ Some place) × AreStretchesFrom profile l place ss
@@ -223,7 +223,7 @@ one_told one laws system profile l es fs m n (ss, stretches, are) (ts, others, t
 
 -- ---- each list has one
 
--- a window behind which fewer than 16 cells stand is a word that waits, or needs no witness
+-- a window that fewer than 16 cells follow is a word that waits, or needs no witness
 of_event : (system : System) (tick : ℕ) (cells : List Cell) (k : ℕ) (e : Event) → k + 80 ≤ length cells
     → length cells < k + 96 → candidate_at system tick cells k Backward ≡ e ∷ []
     → IsWaiting system tick cells k ⊎ NeedsNone system tick cells k

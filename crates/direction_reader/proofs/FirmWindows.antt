@@ -1,5 +1,5 @@
 -- One cell more makes one window more, and decides of one window alone whether it has its witness: the one that ended
--- sixteen cells before. So what was told stays.
+-- sixteen cells before. So what was given stays.
 use Rattle.std.proofs.Common.{◌≡◌, ◌<◌, ◌≤◌, ℕ, zero, suc, ◌+◌, ◌-◌, Bool, true, false, List, [], ◌∷◌, ◌++◌, length}
 use Rattle.std.proofs.Common.{take, drop, map}
 use Rattle.std.proofs.Common.{ap, ap₂, sym, ◌∙◌, arith, refl, subst, append_assoc, append-nil, length-append, inl, inr}
@@ -19,7 +19,7 @@ use Rattle.direction_reader.specs.Firm.{is_firm, judged, candidate_at, firm_cand
 use Rattle.direction_reader.specs.FirmStandsFor.{spans, NeedsNone}
 use Rattle.direction_reader.specs.ListEvents.{bits_in, duration}
 
--- ---- so many windows from a place on
+-- ---- some windows from a place on
 
 pub spans_join : (system : System) (tick : ℕ) (cells : List Cell) (a n m : ℕ)
     → spans system tick cells a (n + m) ≡ spans system tick cells a n ++ spans system tick cells (a + n) m
@@ -96,7 +96,7 @@ forward_stays system tick cells more k within =
     ap₂ (λ (b : Bool) (es : List Event). map (judged b) es) (forward_firm_stays cells more k within)
     (candidate_stays system tick cells more k Forward within)
 
--- the 16 cells behind it, where they are there already, and where they are not there yet
+-- the 16 cells behind it, if they are there already, and if they are not there yet
 pub behind_stays : (cells more : List Cell) (k : ℕ) → k + 96 ≤ length cells
     → is_firm Backward (cells ++ more) k ≡ is_firm Backward cells k
 behind_stays cells more k within =

@@ -141,7 +141,7 @@ broken_same exact system l more s t es fs inside same are too =
 
 -- ---- all stretches
 
--- what follows a stretch, where the events of the stretches behind it come first
+-- what follows a stretch, if the events of the stretches behind it come first
 behind : IsExact → (profile : Profile) (system : System) (l more : List ℕ) (s t : Stretch) (ss ts : List Stretch)
     (place : Option ℕ)
     (own own' rest rest' all : List Event) → s.broken_at ≡ place

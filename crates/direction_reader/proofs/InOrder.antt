@@ -82,7 +82,7 @@ first_end profile l s is =
     let long = duration_of (Zero x) (take 79 more) in
     omega (arith, zero_ends, front, long)
 
--- what stands behind a stretch that is open, or behind its break
+-- what comes behind a stretch that is open, or behind its break
 record Ends (system : System) (l : List ℕ) (s : Stretch) (from : ℕ) (b : ℕ) : Type 0 where
   events : DoNotFall from (map tick_of (events_of_stretch system l s)) b
   within : b ≤ sum l

@@ -43,7 +43,7 @@ quiet_found system (latest.Full n) boundaries end quiet = record {
 }
 quiet_found system (latest.Filling f) boundaries end quiet = refl
 
--- what is told of a cell that brings no candidate
+-- what is given of a cell that brings no candidate
 pub quiet_cell : (b : LatestBits) (brought : Brought) → CellBrings b brought → (brought ≡ Nothing) ⊎ (brought ≡ Break)
     → EndsInCandidate b → ⊥
 quiet_cell b Nothing brings either = brings

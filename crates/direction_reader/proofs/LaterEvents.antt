@@ -1,5 +1,5 @@
 -- What follows the events of the first intervals of a list comes behind these. Their open stretch has the longest chain
--- that stands in them, so each further window of it ends behind them. It breaks at their end at the earliest. And a
+-- that is in them, so each further window of it ends behind them. It breaks at their end at the earliest. And a
 -- further stretch locks at the last of them at the earliest, so its windows and its break come when they have ended.
 use Rattle.std.proofs.Common.{◌≡◌, ◌<◌, ◌≤◌, ℕ, ◌+◌, ◌-◌, zero, suc, List, [], ◌∷◌, ◌++◌, length, take, drop, map, sum}
 use Rattle.std.proofs.Common.{get_or, Option, Some, None, MatchOption}
@@ -49,7 +49,7 @@ use Rattle.ltc_word.specs.SyncLemmas.{in_sync_or_not}
 use Rattle.direction_reader.proofs.OneListOfEvents.{of_windows}
 use Rattle.direction_reader.proofs.WindowsFromCells.{duration_of}
 
--- a word, good or refused, has a later tick than this one, and a break stands at the place n or later
+-- a word, good or refused, has a later tick than this one, and a break is at the place n or later
 abbrev pub IsFrom : ℕ → ℕ → Event → Type 0
 IsFrom n tick (Word direction word end length) = tick < end
 IsFrom n tick (Refused direction fault end) = tick < end
@@ -230,7 +230,7 @@ sum_above l xs behind lock n same is some less = elim (cases_lt n lock) [
 some_flat : (cells : List Cell) → 0 < length cells → 0 < length (flat cells)
 some_flat cells some = omega (arith, fewer_cells cells)
 
--- the windows of a stretch from the k-th on, where each of them ends behind the place n
+-- the windows of a stretch from the k-th on, if each of them ends behind the place n
 late_windows : (profile : Profile) (l : List ℕ) (t : Stretch) (n k : ℕ) → IsChainFrom profile l t.lock t.cells
     → ((j : ℕ) → k ≤ j → j + 80 ≤ length t.cells → n < t.lock + length (flat (take (j + 80) t.cells)))
     → All (EndsFrom (sum (take n l))) (drop k (windows (begin_of l t) t.cells))
@@ -294,7 +294,7 @@ late_stretch profile system l n t es is late (own, are, join) =
     (All-append (IsFrom n from) own (break_events l t.broken_at) words
     (break_from l n t.broken_at (late_break profile l n t is (omega (arith, end, late)))))
 
--- a lock stands at its first pair or behind it
+-- a lock is at its first pair or behind it
 pub lock_behind : (profile : Profile) (l : List ℕ) (start lock : ℕ) (is : IsLock profile l start lock) → is.pair ≤ lock
 lock_behind profile l start lock is = elim (cases_order (get_or l is.pair 0) (get_or l (is.pair + 1) 0)) [
   | inl same ↦ absurd (unequal_differ profile _ _ is.unequal.1 same)
@@ -302,13 +302,13 @@ lock_behind profile l start lock is = elim (cases_order (get_or l is.pair 0) (ge
   | inr (inr falls) ↦ omega (arith, is.falling falls)
 ]
 
--- a lock from a place stands there or behind it
+-- a lock from a place is there or behind it
 lock_from : (profile : Profile) (l : List ℕ) (n place lock : ℕ) → n ≤ place + 1 → IsLock profile l place lock
     → n ≤ lock + 1
 lock_from profile l n place lock late is =
     let behind = lock_behind profile l place lock is in let within = is.within in omega (arith, behind, within, late)
 
--- the events of what stands behind a stretch
+-- the events of what comes behind a stretch
 late_behind : (profile : Profile) (system : System) (l : List ℕ) (n : ℕ) (place : Option ℕ) (ts : List Stretch)
     (es : List Event)
     → ((p : ℕ) → place ≡ Some p → n ≤ p)
@@ -360,7 +360,7 @@ late_lock profile l more start lock none is =
 
 -- ---- the open stretch goes on
 
--- a front that stands in a list, where more follows it, stands in the list
+-- a front that is in a list, if more follows it, is in the list
 stands_in : (xs more ys rest : List ℕ) → xs ++ more ≡ ys ++ rest → length ys ≤ length xs → Begins ys xs
 stands_in xs more ys rest same fits =
     let front : take (length ys) xs ≡ ys =
@@ -391,7 +391,7 @@ ends_behind profile l more s others is chain longer =
           absurd (omega (arith, is.longest others here, longer)))
     ]
 
--- behind an open stretch stands a waiting half at most
+-- behind an open stretch comes a waiting half at most
 waits : (profile : Profile) (c : Latest) (after : ℕ) (rest : List ℕ) → IsBreak profile c after rest None
     → length rest ≤ 1
 waits profile c after [] is = omega arith
@@ -451,7 +451,7 @@ open_later exact profile system l more s t es fs is goes open_yet go end (own, a
       late = All-append (IsFrom n tick) both.two last words breaks;
     }
 
--- behind a first half no break stands before the interval after it
+-- behind a first half no break comes before the interval after it
 at_half : (profile : Profile) (c : Latest) (after x : ℕ) (more : List ℕ) (place : Option ℕ) (p : ℕ)
     → IsFirstHalf profile c x
     → IsBreak profile c after (x ∷ more) place → place ≡ Some p → p ≡ after + 1
@@ -610,7 +610,7 @@ all_behind front es is k d within = comes_behind front (get_or es k d) (is k d w
 pub all_later : (n tick : ℕ) (es : List Event) → All (IsFrom n tick) es → All (λ event. tick ≤ tick_of event) es
 all_later n tick es is k d within = comes_later n tick (get_or es k d) (is k d within)
 
--- where no event is a break, all have later ticks
+-- if no event is a break, all have later ticks
 later_than : (tick : ℕ) (e : Event) → ((m : ℕ) → IsFrom m tick e) → tick < tick_of e
 later_than tick (Word d w t n) is = is 0
 later_than tick (Refused d f t) is = is 0

@@ -270,7 +270,7 @@ AreTheSame = (profile : Profile) (intervals : List ℕ) (cells others : List Cel
     → BeginMirrored (cells_from cells cut intervals first) (cells_from others place (reverse intervals) last) first last
     (length intervals)
 
--- the windows of cells that do not stand in a front of them end behind it
+-- the windows of cells that do not come in a front of them end behind it
 behind_front : (tick : ℕ) (middle more : List Cell) → Positive (flat (middle ++ more))
     → All (EndsFrom (tick + duration middle)) (drop (length middle - 79) (windows tick (middle ++ more)))
 behind_front tick middle more lasts i d within =

@@ -47,7 +47,7 @@ one_some exact system direction bits end length (Some e) None is too = absurd to
 one_some exact system direction bits end length (Some e) (Some f) is too =
     ap (λ event. Some event) (one_event exact system direction bits end length e f is too)
 
--- events are the same where the first and the second are
+-- events are the same if the first and the second are
 same_events : (e f : Events) → e.first ≡ f.first → e.second ≡ f.second → e ≡ f
 same_events e f first second =
     let both : Option Event → Option Event → Events = λ a b. record { first = a; second = b } in ap₂ both first second

@@ -166,7 +166,7 @@ cell_ended r n x l es own s cell takes is_bits is_boundaries are long waits stan
 
 -- ---- a stretch begins
 
--- where no stretch is open there are no events of one
+-- if no stretch is open there are no events of one
 none_open : (r : ReaderState) (l : List ℕ) (es : List Event) (stands : StandsFor r l es) → stands.open_yet ≡ None
     → es ≡ stands.past
 none_open r l es stands closed =
@@ -307,7 +307,7 @@ broken r n x l es takes stands (s, breaks, tracker) =
           ∙ sym (append-nil (stands.past ++ (stands.latest ++ lost)));
     }
 
--- ---- what is told
+-- ---- what is given
 
 -- a window that is no candidate has no events
 quiet_window : (system : System) (b : LatestBits) (boundaries : List ℕ) (end : ℕ) (own : Events) → ¬ EndsInCandidate b
@@ -322,7 +322,7 @@ quiet_window system (latest.Full n) boundaries end own quiet none = rw none (rec
 })
 quiet_window system (latest.Filling f) boundaries end own quiet none = none
 
--- what is told of a cell is what its window brings
+-- what is given of a cell is what its window brings
 told_of_cell : (n : ReaderState) (brought : Brought) (own : Events) → CellBrings n.cells.bits brought
     → Tells n brought own
     → AreWindowEvents n.system n.cells.bits n.cells.boundaries n.tick own
@@ -343,7 +343,7 @@ cell_told r n x l es own bit brought takes is_bits is_boundaries brings stands
     cell_ended r n x l es own s cell takes bits_too is_boundaries
     (told_of_cell n brought own brings told) long waits stands open_yet tracker
 
--- where nothing is told there is nothing new
+-- if nothing is given there is nothing new
 pub quiet : (n : ReaderState) (l : List ℕ) (es : List Event) (own : Events) → StandsFor n l es → own ≡ no_events
     → StandsFor n l (es ++ event_list own)
 quiet n l es own stands none = rw none (subst (λ e. StandsFor n l e) (sym (append-nil es)) stands)

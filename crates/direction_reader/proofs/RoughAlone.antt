@@ -60,7 +60,7 @@ kinds_fit [] = true
 kinds_fit (cell ∷ []) = inner cell
 kinds_fit (cell ∷ next ∷ cells) = inner cell && (meet cell next && kinds_fit (next ∷ cells))
 
--- ---- what they tell
+-- ---- what they give
 
 is_length_told : (sum length : ℕ) → is_length sum length ≡ true → (3 * sum ≤ 16 * length) × (16 * length ≤ 5 * sum)
 is_length_told sum length holds = let parts = and_parts _ _ holds in (leb-true _ _ parts.0, leb-true _ _ parts.1)

@@ -1,4 +1,4 @@
--- In words that are played one after another, in any directions, twelve ones in a row stand only in their sync words.
+-- In words that are played one after another, in any directions, twelve ones in a row are only in their sync words.
 use Rattle.direction_reader.specs.Windows.{number_of}
 use Rattle.std.proofs.Common.{◌≡◌, ℕ, zero, suc, ◌+◌, ◌-◌, ◌*◌, ◌/◌, ◌%◌, ◌^◌, ◌<◌, ◌≤◌, Bool, true, false, List, []}
 use Rattle.std.proofs.Common.{◌∷◌, ◌++◌, length, get_or, take}

@@ -1,4 +1,4 @@
--- Two sync words in one direction stand at least sixteen cells apart: laid over each other at any less, a one of the
+-- Two sync words in one direction are at least sixteen cells apart: laid over each other at any less, a one of the
 -- one
 -- falls on a zero of the other. So behind a word that is played backward at most one window is a candidate in each
 -- direction, until its witness is there.

@@ -1,4 +1,4 @@
--- One cell more ends one window more, where there are 80 cells, and leaves the windows before it as they were.
+-- One cell more ends one window more, if there are 80 cells, and leaves the windows before it as they were.
 use Rattle.std.proofs.Common.{◌≡◌, ◌<◌, ◌≤◌, ℕ, ◌+◌, ◌-◌, List, [], ◌∷◌, ◌++◌, length, take, drop, map, sum, ap, ap₂}
 use Rattle.std.proofs.Common.{◌∙◌, arith, refl}
 use Rattle.std.proofs.Common.{length-append, zero, suc}
@@ -43,7 +43,7 @@ windows_stay tick cells more =
 pub few : (tick : ℕ) (cells : List Cell) → length cells < 80 → windows tick cells ≡ []
 few tick cells less = let none : length cells - 79 ≡ 0 = omega arith in rw none refl
 
--- the window of the last 80 cells, where some stand before them
+-- the window of the last 80 cells, if some come before them
 pub last_window : (tick : ℕ) (older latest : List Cell) → length latest ≡ 80
     → window_at tick (older ++ latest) (length older)
     ≡ record { bits = number_of (bits latest); end = tick + duration (older ++ latest); length = duration latest }

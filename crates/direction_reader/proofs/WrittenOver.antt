@@ -46,7 +46,7 @@ overwritten xs k v e p = elim (eq-or-lt_of_le (let h : k + 1 ≤ 256 = omega ari
   | inl last ↦ (let first : (k + 1) % 256 ≡ 0 = omega arith in rw first (written_at_the_end xs k v (omega arith)))
 ]
 
--- a list with its oldest entry gone and one more at the end has so many latest entries
+-- a list with its oldest entry gone and one more at the end, without its first n entries
 latest-with_tick : (n : ℕ) (ticks : List ℕ) (v : ℕ) → n < length ticks
     → drop n (with_tick ticks v) ≡ with_tick (drop n ticks) v
 latest-with_tick n ticks v p =
@@ -56,7 +56,7 @@ latest-with_tick n ticks v p =
     ∙ sym (drop-drop 1 n ticks) in
     drop-append-le n (drop 1 ticks) (v ∷ []) some ∙ ap (λ ys. ys ++ v ∷ []) same
 
--- so many entries has a ring, wherever it begins
+-- a ring has as many entries, wherever it begins
 turned_length : (xs : List ℕ) (k : ℕ) → k ≤ length xs → length (drop k xs ++ take k xs) ≡ length xs
 turned_length xs k p = grind (arith, common_steps)
 
@@ -73,7 +73,7 @@ latest_written xs k v e p =
     let long = turned_length xs k (omega arith) in
     ap (drop 175) (overwritten xs k v e p) ∙ latest-with_tick 175 (drop k xs ++ take k xs) v (omega arith)
 
--- the oldest of the latest entries stands 175 places behind the next one, round the ring
+-- the oldest of the latest entries is 175 places behind the next one, round the ring
 pub latest_oldest : (xs : List ℕ) (k : ℕ) → length xs ≡ 256 → k < 256
     → slice_index (latest_of xs k) 0 ≡ slice_index xs ((k + 175) % 256)
 latest_oldest xs k e p =

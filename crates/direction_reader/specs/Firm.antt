@@ -1,6 +1,6 @@
--- The events of a list of intervals where each word is asked for a witness, by a reader that is told to be firm. A word
--- of linear time code has no check but its address, but it does not stand alone: words follow one another, so on the
--- side of a word away from its own sync word stands another one's. The rule is this project's own.
+-- The events of a list of intervals if each word needs a witness, by a reader that is set to be firm. A word
+-- of linear time code has no check but its address, but it does not come alone: words follow one another, so on the
+-- side of a word away from its own sync word is another one's. The rule is this project's own.
 use Rattle.std.specs.Prelude.{◌≡◌, ℕ, ◌+◌, ◌-◌, ◌≤◌, ◌==◌, List, [], ◌∷◌, ◌++◌, length, take, drop, sum, map, Bool}
 use Rattle.std.specs.Prelude.{◌||◌}
 use Rattle.std.specs.Prelude.{nat_lt, if◌then◌else◌}

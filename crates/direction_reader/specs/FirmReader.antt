@@ -1,5 +1,5 @@
--- Which lists of intervals a reader stands for that asks each word for a witness, and what it has told of them. What it
--- has told and what `finish` tells are together the events of the list.
+-- Which lists of intervals a reader that needs a witness for each word stands for, and what it has given of them. What
+-- it has given and what `finish` gives are together the events of the list.
 use Rattle.std.specs.Prelude.{◌≡◌, ℕ, ◌+◌, ◌*◌, ◌≤◌, List, [], ◌++◌, length, sum, Option, Some, None, IfSome}
 use Rattle.std.specs.List.{flat_map}
 use Rattle.limits.specs.declared.recording.TheConstants.{MAX_INTERVAL}

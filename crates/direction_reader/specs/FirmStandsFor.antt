@@ -1,4 +1,4 @@
--- Which cells a reader stands for that asks each word for a witness. What it has told and what still waits are together
+-- Which cells a reader that needs a witness for each word stands for. What it has given and what waits are together
 -- the events of the cells so far.
 use Rattle.std.specs.Prelude.{◌≡◌, ℕ, ◌+◌, ◌<◌, ◌≤◌, List, [], ◌∷◌, ◌++◌, length, map, Option, Some, None, Bool, true}
 use Rattle.std.specs.List.{flat_map, range_with_len}

@@ -1,4 +1,4 @@
--- What a reading that asks each word for a witness says of the tape, beside one that asks for none.
+-- What a reading that needs a witness for each word says of the tape, beside one that needs none.
 use Rattle.std.specs.Prelude.{◌≡◌, ◌⊎◌, ℕ, ◌+◌, ◌≤◌, All, List, [], ◌∷◌, length, take, sum, map, Bool, true}
 use Rattle.biphase.specs.declared.cell.Cell.{Cell}
 use Rattle.biphase.specs.declared.profile.Profile.{Profile}

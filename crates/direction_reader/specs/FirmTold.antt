@@ -1,4 +1,4 @@
--- What is told of a list of intervals while more may follow, and up to which tick: all but a word that is played
+-- What is given of a list of intervals while more may follow, and up to which tick: all but a word that is played
 -- backward and waits for its witness, and what comes behind it.
 use Rattle.std.specs.Prelude.{◌≡◌, ℕ, ◌+◌, ◌<◌, ◌≤◌, ◌⊎◌, List, [], ◌∷◌, ◌++◌, length, All, sum, take, true}
 use Rattle.std.specs.Prelude.{MatchOption}

@@ -1,4 +1,4 @@
--- Where the tracker stands: its state, with what the tolerance keeps of the cells so far.
+-- Where the tracker is: its state, with what the tolerance keeps of the cells so far.
 use Rattle.std.specs.Prelude.{◌≡◌, ◌≤◌, None}
 use Rattle.limits.specs.declared.recording.TheConstants.{MAX_INTERVAL}
 use Rattle.biphase.specs.declared.profile.Profile.{Profile}

@@ -1,4 +1,4 @@
-//! What stands beside a window: the latest 96 bits of a stretch. Read next: `firm_cells`.
+//! What is beside a window: the latest 96 bits of a stretch. Read next: `firm_cells`.
 ghost use Rattle.std.specs.Prelude.{◌≡◌};
 ghost use Rattle.direction_reader.specs.Beside.{none_beside, beside_with, is_firm_before, is_sync_behind};
 
@@ -48,7 +48,7 @@ impl Beside {
         self.count = (self.count + 1).min(BESIDE_BITS);
     }
 
-    /// Whether before the latest 80 bits stands the sync word of a word that is played forward, or
+    /// Whether the latest 80 bits come after the sync word of a word that is played forward, or
     /// the stretch does not reach that far.
     pub fn is_firm_before(&self) -> bool
         ensures { result ≡ is_firm_before self.now }

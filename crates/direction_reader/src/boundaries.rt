@@ -4,11 +4,11 @@ ghost use Rattle.direction_reader.specs.Boundaries.{with_tick};
 
 use std::marker::Model;
 
-/// A window has so many boundaries: one before each of its 80 cells, and the one at its end.
+/// The boundaries of a window: one before each of its 80 cells, and the one at its end.
 pub const BOUNDARIES: usize = 81;
 
 /// The latest 81 ticks that it was given, the oldest first, with zeros for those before the first. They
-/// stand in a ring of 256 places, so that a byte which wraps is its next place, and nothing tests for its end.
+/// are in a ring of 256 places, so that a byte which wraps is its next place, and nothing tests for its end.
 #[derive(Drop)]
 pub struct Boundaries {
     ring: [u64; 256],

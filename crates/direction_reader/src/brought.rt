@@ -1,7 +1,7 @@
-//! Whether an interval brought an event. Read next: `candidates`, where a window is one.
+//! Whether an interval brought an event. Read next: `candidates`, if a window is one.
 
-/// What an interval brought, told at once: nearly every interval brings nothing. The events
-/// themselves are worked out where there may be some.
+/// What an interval brought, known at once: nearly every interval brings nothing. The events
+/// themselves are worked out only if there may be some.
 #[derive(Clone, Copy, PartialEq, Eq)]
 pub enum Brought {
     /// No event.

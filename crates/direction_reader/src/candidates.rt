@@ -11,7 +11,7 @@ use ltc_word::{WordFault, begins_in_reversed_sync, decode, ends_in_sync, reverse
 use tc_address::{Direction, System};
 
 /// The events of one window, whose bit 0 is the oldest. That of the word read forward comes first,
-/// where the window ends in the sync word, and then that of the word read backward, where the
+/// if the window ends in the sync word, and then that of the word read backward, if the
 /// window begins with the sync word in reverse. The tick is that of the window's end, and the length
 /// that of its 80 cells.
 pub fn window_events(system: System, bits: u128, tick: u64, length: u64) -> Events

@@ -16,7 +16,7 @@ pub enum Event {
         /// The sum of the intervals of its 80 cells, in ticks.
         length: u64,
     },
-    /// A candidate whose fields are at fault.
+    /// A candidate with a fault in its fields.
     Refused {
         direction: Direction,
         fault: FieldFault,

@@ -1,4 +1,4 @@
-//! The cells of the stretch that is open, where each word is asked for a witness. Read next: `beside`, and with
+//! The cells of the stretch that is open, when each word needs a witness. Read next: `beside`, and with
 //! a word that is read backward `waiting`.
 ghost use Rattle.std.specs.Prelude.{◌≡◌, ◌≤◌, ℕ, ◌+◌, List, [], ◌∷◌, ◌++◌, map};
 ghost use Rattle.biphase.specs.declared.cell.Cell.{Cell};
@@ -85,7 +85,7 @@ impl FirmCells {
         heard.told
     }
 
-    /// Up to which tick all is told, where the latest interval ended at this one.
+    /// Up to which tick all events are given, if the latest interval ended at this one.
     pub fn told_until(&self, now: u64) -> u64
         ensures { result ≡ until_of now self.now.waits }
     {
@@ -95,7 +95,7 @@ impl FirmCells {
         }
     }
 
-    /// What is told where the stretch ends: a word that waits stands at its edge.
+    /// The events that are given when the stretch ends: a word that waits is at its edge.
     pub fn end(&self) -> FirmEvents
         ensures value { result ≡ ended self.now.waits }
         ensures within { (tick : ℕ) → WaitsWithin tick self.now.waits → TellsWithin tick result }

@@ -1,14 +1,14 @@
-//! What a reader answers that asks each word for a witness.
+//! What a reader that needs a witness for each word answers.
 ghost use Rattle.std.specs.Prelude.{◌≡◌};
 
 use crate::event::Event;
 use tc_address::Direction;
 
-/// What an interval brought to a reader that asks each word for a witness.
+/// What an interval brought to a reader that needs a witness for each word.
 #[derive(Clone, Copy, Debug, PartialEq, Eq)]
 pub enum FirmEvent {
-    /// What is read without a witness too: a word that has one, or that stands at the edge of its
-    /// stretch; a candidate whose fields are at fault; a break.
+    /// What is read without a witness too: a word that has one, or that is at the edge of its
+    /// stretch; a candidate with a fault in its fields; a break.
     Told(Event),
     /// A word without a witness. It is refused: nobody may have recorded it.
     Alone { direction: Direction, tick: u64 },

@@ -50,7 +50,7 @@ pub fn a_list_has_one_list_of_firm_events()
     a_list_has_one_list_of_stretches();
 }
 
-/// A reading that asks for witnesses has an event for each event of one that asks for none, in the same
+/// A reading that needs witnesses has an event for each event of one that needs none, in the same
 /// order: a word without a witness is alone, and all else is the same. So what is true of the one, of
 /// damage and of the mirror, is true of the other, but for words that are refused.
 pub fn a_witness_changes_words_alone()
@@ -61,8 +61,8 @@ pub fn a_witness_changes_words_alone()
     a_list_has_one_list_of_stretches();
 }
 
-/// Each word that is told of the cells of a stretch has its witness, or stands at the edge; and so has each
-/// word that is told of a list of intervals.
+/// Each `Told` word among the events of a stretch's cells has its witness, or is at the edge; and so has each
+/// `Told` word among those of a list of intervals.
 pub fn each_word_that_is_told_has_its_witness()
     ensures cells { (system : System) (tick : ℕ) (cells : List Cell)
         → All (HasWitness tick cells) (firm_events_of_cells system tick cells) }
@@ -70,9 +70,9 @@ pub fn each_word_that_is_told_has_its_witness()
         → AreFirmEvents system profile intervals events → AreWitnessed system profile intervals events }
 {}
 
-/// A candidate that stands beside another word's sync word, or at the edge of its stretch, is told as it
-/// is read without witnesses. A word that is played forward stands at the edge where fewer than 16
-/// cells come before it, and one that is played backward where fewer than 16 come behind it.
+/// A candidate that comes beside another word's sync word, or at the edge of its stretch, is `Told`, as it
+/// is read without witnesses. A word that is played forward is at the edge if fewer than 16
+/// cells come before it, and one that is played backward if fewer than 16 come behind it.
 pub fn a_word_beside_another_is_told()
     ensures told { (system : System) (tick k : ℕ) (cells : List Cell) (direction : Direction)
         → is_firm direction cells k ≡ true
@@ -82,8 +82,8 @@ pub fn a_word_beside_another_is_told()
     ensures last { (cells : List Cell) (k : ℕ) → length cells < k + 96 → is_firm Backward cells k ≡ true }
 {}
 
-/// Where a chain begins with the bits 0 and 1, and then has the bits of words that are played one after
-/// another in one direction, a witness changes nothing: each of the words is told, and nothing else.
+/// If a chain begins with the bits 0 and 1, and then has the bits of words that are played one after
+/// another in one direction, a witness changes nothing: each of the words is `Told`, and nothing else comes.
 /// (Where the tape turns, the word at the turn has another word's data beside it, and is alone.)
 pub fn words_that_are_played_one_way_are_told()
     ensures { (system : System) (profile : Profile) (direction : Direction) (cells : List Cell)
@@ -109,14 +109,14 @@ pub fn firm_events_tell_the_tape()
     a_recording_within_the_tolerance_is_one_stretch();
 }
 
-/// What a reader has told is what is told of its list while more may follow.
+/// What a reader has given is what its list gives while more may follow.
 pub fn a_reader_has_told_what_no_further_interval_changes()
     ensures { (reader : FirmState) (intervals : List ℕ) (told : List FirmEvent)
         → FirmStandsFor reader intervals told
         → AreTold reader.system (profile_of reader.tracker) intervals told (told_until reader) }
 {}
 
-/// A list of intervals has one list of events that are told while more may follow, up to one tick: at most
+/// A list of intervals has one list of events that are given while more may follow, up to one tick: at most
 /// one word waits.
 pub fn a_list_has_one_list_of_told_events()
     ensures some { (system : System) (profile : Profile) (intervals : List ℕ)
@@ -130,8 +130,8 @@ pub fn a_list_has_one_list_of_told_events()
     twelve_ones_are_the_sync_word();
 }
 
-/// Where more intervals follow, what was told comes first, and all else ends at the tick up to which it was
-/// told, or later.
+/// If more intervals follow, what was given comes first, and all else ends at the tick up to which it was
+/// given, or later.
 pub fn told_events_come_first()
     ensures all { (system : System) (profile : Profile) (front more : List ℕ) (told events : List FirmEvent)
         (until : ℕ) → AreTold system profile front told until → AreFirmEvents system profile (front ++ more) events
@@ -159,7 +159,7 @@ pub fn some_words_are_alone()
         ≡ Alone Backward 1920 ∷ Alone Forward 2304 ∷ [] }
 {}
 
-/// The same word is told behind 15 zeros, and behind a sync word; and played backward, before 15 zeros
+/// The same word is `Told` behind 15 zeros, and behind a sync word; and played backward, before 15 zeros
 /// and before a sync word in its direction. `IsTold` says it of cells that have one event.
 pub fn other_words_are_told()
     ensures first { IsTold F25 (cells_of 95 (0xbffc0800000000000000 * 2 ^ 15)) }

@@ -1,4 +1,4 @@
-//! From intervals to events, where each word is asked for a witness. Read next: `tracker`, and with a cell
+//! From intervals to events, when each word needs a witness. Read next: `tracker`, and with a cell
 //! `firm_cells`.
 ghost use Rattle.std.specs.Prelude.{◌≡◌, ℕ, ◌<◌, ◌≤◌, ◌+◌, ◌*◌, List, [], ◌∷◌, ◌++◌, map};
 ghost use Rattle.limits.specs.declared.recording.TheConstants.{MAX_INTERVAL, MAX_INTERVALS};
@@ -20,8 +20,8 @@ use limits::MAX_INTERVAL;
 use std::marker::Model;
 use tc_address::System;
 
-/// Reads the words of a recording, in either direction, one interval at a time, and asks each of them
-/// for a witness: another word's sync word beside it.
+/// Reads the words of a recording, in either direction, one interval at a time. Each of them needs
+/// a witness: another word's sync word beside it.
 #[derive(Drop)]
 pub struct FirmReader {
     system: System,
@@ -90,7 +90,7 @@ impl FirmReader {
         self.tick
     }
 
-    /// Up to which tick all is told: the sum of the intervals, or the tick at the end of a word that waits
+    /// Up to which tick all events are given: the sum of the intervals, or the tick at the end of a word that waits
     /// for its witness.
     pub fn told_until(&self) -> u64
         ensures value { result ≡ told_until self.now }
@@ -100,9 +100,9 @@ impl FirmReader {
         self.cells.told_until(self.tick)
     }
 
-    /// Takes the next interval, of `x` ticks, and answers what is told with it. A word that is read
-    /// backward is told 16 cells after its end, or when its stretch ends, and a candidate that comes in
-    /// the meantime is told behind it.
+    /// Takes the next interval, of `x` ticks, and gives the events that it completes. A word that is read
+    /// backward is given 16 cells after its end, or when its stretch ends, and a candidate that comes in
+    /// the meantime is given after it.
     pub fn feed(&mut self, x: u32) -> FirmEvents
         requires least { 1 ≤ x }
         requires most { x ≤ MAX_INTERVAL }
@@ -143,7 +143,7 @@ impl FirmReader {
         }
     }
 
-    /// What is told at the end of the input, where no interval follows: a word that waits stands at the
+    /// The events at the end of the input, if no interval follows: a word that waits is at the
     /// edge of its stretch.
     pub fn finish(&self) -> FirmEvents
         ensures within { self.now.tick ≤ self.now.intervals * MAX_INTERVAL }

@@ -12,7 +12,7 @@ pub enum LatestBits {
 }
 
 impl LatestBits {
-    /// Adds a bit at the end, and tells whether the bits are a window with a candidate.
+    /// Adds a bit at the end, and returns whether the bits are a window with a candidate.
     #[inline(always)]
     pub fn add(&mut self, bit: bool) -> bool
         ensures bits { self.new ≡ after_bit self.old bit }

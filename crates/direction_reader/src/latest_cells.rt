@@ -56,7 +56,7 @@ impl LatestCells {
         self.boundaries.push(tick);
     }
 
-    /// Adds a cell of this bit, which ends at this tick, and tells what it brings: a candidate, where
+    /// Adds a cell of this bit, which ends at this tick, and returns what it brings: a candidate, if
     /// it ends a window with one.
     #[inline(always)]
     pub fn add(&mut self, tick: u64, bit: bool) -> Brought

@@ -76,7 +76,7 @@ pub fn each_window_has_events()
 }
 
 /// The events that are gathered, each word one that its bits spell, are those of the list, in which each
-/// word is the one that stands in its bits.
+/// word is the one that is in its bits.
 pub fn events_are_those_that_are_spelled()
     ensures cells { (system : System) (tick : ℕ) (cells : List Cell) (events : List Event)
         → AreEventsOfWindows system (windows tick cells) events → events ≡ events_of_cells system tick cells }
@@ -107,8 +107,8 @@ pub fn a_list_has_one_list_of_events()
     a_list_has_one_list_of_stretches();
 }
 
-/// Where more intervals follow, the events that were there come first. Those that follow come behind the
-/// first intervals: words end after them, and breaks stand behind the last of them.
+/// If more intervals follow, the events that were there come first. Those that follow come behind the
+/// first intervals: words end after them, and breaks come behind the last of them.
 pub fn events_of_a_front_come_first()
     ensures first { (system : System) (profile : Profile) (front more : List ℕ)
         (events all : List Event) → AreEvents system profile front events
@@ -154,7 +154,7 @@ pub fn events_tell_the_tape()
     a_recording_within_the_tolerance_is_one_stretch();
 }
 
-/// Resynchronisation, where a cell is compared with the one before it alone: whatever stands before
+/// Resynchronisation, if a cell is compared with the one before it alone: whatever comes before
 /// and behind a part of a recording that keeps the tolerance, from the greater interval of its second
 /// unequal pair to its end the events are those of the tape's own windows.
 pub fn events_find_the_tape_again()
@@ -168,7 +168,7 @@ pub fn events_find_the_tape_again()
     events_of_a_front_come_first();
 }
 
-/// Resynchronisation under the rough tolerance: whatever stands before and behind a part of a recording
+/// Resynchronisation under the rough tolerance: whatever comes before and behind a part of a recording
 /// within it that has even ones between two zeros, as a sync word has, from the next unequal pair behind
 /// them to its end the events are those of the tape's own windows.
 pub fn events_find_the_tape_behind_even_ones()
@@ -240,7 +240,7 @@ pub fn small_recordings_have_these_events()
     words_of_round_labels();
 }
 
-/// Where a chain begins with the bits 0 and 1, and then has the bits of words that are played one after
+/// If a chain begins with the bits 0 and 1, and then has the bits of words that are played one after
 /// another, in any directions, each of the words is read, and nothing else: no word is refused, and no
 /// code is lost.
 pub fn played_words_are_read()
@@ -255,7 +255,7 @@ pub fn played_words_are_read()
 }
 
 /// The same of cells that follow one another from a lock at the first of them. That a reader could lock at
-/// other places of the chain too is not asked.
+/// other places of the chain too is not required.
 pub fn words_behind_a_lock_are_read()
     ensures { (system : System) (profile : Profile) (cells : List Cell) (words : List Played)
         → FollowOn profile cells → IsLock profile (flat cells) 0 0

@@ -1,9 +1,9 @@
 //! The words of a recording, read in either direction.
 //!
-//! A stretch of cells, as `cell_tracker` finds it, is a row of bits. Each 80 of them that stand
-//! together are a window, and a window that ends in the sync word of SMPTE 12M, as read forward or as
+//! A stretch of cells, as `cell_tracker` finds it, is a row of bits. Each 80 neighbours among them
+//! are a window, and a window that ends in the sync word of SMPTE 12M, as read forward or as
 //! read backward, is a candidate for a word of linear time code. The reader takes one interval at a
-//! time and answers what it brought: a word, a candidate whose fields are at fault, or the end of a
+//! time and answers what it brought: a word, a candidate with a fault in its fields, or the end of a
 //! stretch. It keeps the latest 80 bits and the ticks of the latest 81 boundaries of cells, so all
 //! that it keeps is of a fixed size.
 //!
@@ -15,13 +15,13 @@
 //!   (`specs/StandsFor.antt`). `feed`, and `step` with `events` after it, give exactly those that are
 //!   new, under each tolerance (clause `stands`). Nearly every interval brings nothing, and then
 //!   `step` is enough.
-//! - The events tell a tape within the tolerance (`specs/Tape.antt`). Where the tolerance looks at the
+//! - The events tell a tape within the tolerance (`specs/Tape.antt`). If the tolerance looks at the
 //!   last cell alone, they find it again between damage (`specs/Tape.antt`), and mirror it in reverse
 //!   order (`specs/Mirror.antt`): clauses `truth`, `damage` and `mirror` of `feed`.
-//! - `FirmReader` asks each word for a witness beside it: another word's sync word on the side away from its
+//! - `FirmReader` needs a witness beside each word: another word's sync word on the side away from its
 //!   own, or the edge of its stretch (`specs/Firm.antt`, `AreFirmEvents`). It stands for the intervals
-//!   that it was fed and for what it has told of them (`specs/FirmReader.antt`, and of the list alone
-//!   `specs/FirmTold.antt`, `AreTold`), and `finish` tells what still waits (clause `all`). At most one
+//!   that it was fed and for the events that it has given (`specs/FirmReader.antt`, and of the list alone
+//!   `specs/FirmTold.antt`, `AreTold`), and `finish` gives what still waits (clause `all`). At most one
 //!   word waits, and one candidate behind it. What a witness changes and what not is in `firm_laws`.
 //! - A window holds the latest of the bits that it was given (`specs/HoldsBits.antt`).
 //! - `window_events` gives the candidates of one window, the forward one first
@@ -30,7 +30,7 @@
 //!
 //! Read `reader`, `tracker`, `state`, `latest_cells`, `latest_bits`, `window`, `boundaries`, `brought`,
 //! `candidates` and `event`, in this order: the way of an interval. Then `firm_reader`, `firm_cells`,
-//! `beside`, `waiting` and `firm_event`, the way of one that is asked for witnesses, over the same tracker
+//! `beside`, `waiting` and `firm_event`, the way of a word that needs a witness, over the same tracker
 //! and cells. `specs/Invariants.antt` is what the code keeps. `report_text` prints the events. Nothing
 //! here allocates.
 #![tactic(auto)]

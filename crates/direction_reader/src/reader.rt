@@ -125,7 +125,7 @@ impl DirectionReader {
         }
     }
 
-    /// Takes the next interval, of `x` ticks, and tells whether it brought an event. `events` then
+    /// Takes the next interval, of `x` ticks, and returns whether it brought an event. `events` then
     /// gives what it brought.
     #[inline(always)]
     pub fn step(&mut self, x: u32) -> Brought
@@ -164,7 +164,7 @@ impl DirectionReader {
         }
     }
 
-    /// The events of the latest interval, where `brought` is what `step` told of it.
+    /// The events of the latest interval, for which `step` returned `brought`.
     #[cold]
     #[inline(never)]
     pub fn events(&self, brought: Brought) -> Events

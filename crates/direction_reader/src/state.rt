@@ -10,8 +10,8 @@ use cell_tracker::{AtCell, FromAtCell, FromHunting, FromMidCell, Hunting, MidCel
 use limits::MAX_INTERVAL;
 
 /// A state of the tracker, in numbers, so that no profile is written with each cell. Most intervals find
-/// it at the end of a cell, and the compiler asks for the first variant first, where another one's arm
-/// stands first in a `match`.
+/// it at the end of a cell, and the compiler tests the first variant first if another one's arm
+/// comes first in a `match`.
 #[derive(Clone, Copy)]
 pub enum State {
     /// With the number that the profile compares with.

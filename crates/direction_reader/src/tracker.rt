@@ -1,4 +1,4 @@
-//! Where the tracker stands, and what an interval does to it. Read next: `state`.
+//! Where the tracker is, and what an interval does to it. Read next: `state`.
 ghost use Rattle.std.specs.Prelude.{◌≡◌, ◌≤◌, ◌↔◌, [], None, IsTrue};
 ghost use Rattle.limits.specs.declared.recording.TheConstants.{MAX_INTERVAL};
 ghost use Rattle.direction_reader.specs.KeptStep.{IsStepped};
@@ -12,7 +12,7 @@ use limits::MAX_INTERVAL;
 use std::marker::Model;
 
 /// The tracker: a state, and beside it the profile and the lengths of the latest four cells of its
-/// stretch. They stand in one place, so that no state carries them.
+/// stretch. They are kept in one place, so that no state carries them.
 #[derive(Drop)]
 pub struct Tracker {
     profile: Profile,

@@ -7,11 +7,11 @@ ghost use Rattle.direction_reader.specs.FirmStep.{began, ended, heard, or_else};
 use crate::event::Event;
 use crate::firm_event::{FirmEvent, FirmEvents};
 
-/// The cells in which a witness stands.
+/// The number of cells in which a witness lies.
 const WITNESS_CELLS: u32 = 16;
 
 /// A word that is read backward: its witness comes behind it. At most one waits, since sync words
-/// in one direction stand at least 16 cells apart; and so there is at most one forward candidate in
+/// in one direction are at least 16 cells apart; and so there is at most one forward candidate in
 /// the meantime, which waits behind it.
 #[derive(Clone, Copy)]
 pub struct Waiting {
@@ -21,7 +21,7 @@ pub struct Waiting {
     pub behind: Option<FirmEvent>,
 }
 
-/// What waits and what is told after a cell.
+/// What waits and what is given after a cell.
 #[derive(Clone, Copy)]
 pub struct Heard {
     pub waiting: Option<Waiting>,
@@ -77,7 +77,7 @@ pub fn hear(
     }
 }
 
-/// A word that is read backward waits, and all else is told.
+/// A word that is read backward waits, and all else is given.
 fn begin(first: Option<FirmEvent>, second: Option<FirmEvent>, backward: Option<Event>) -> Heard
     ensures { result ≡ began first second backward }
 {
@@ -105,7 +105,7 @@ fn begin(first: Option<FirmEvent>, second: Option<FirmEvent>, backward: Option<E
     }
 }
 
-/// What is told of a word that waits where its stretch ends.
+/// What is given of a word that waits when its stretch ends.
 pub fn end(waiting: Option<Waiting>) -> FirmEvents
     ensures { result ≡ ended waiting }
 {

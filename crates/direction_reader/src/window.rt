@@ -1,4 +1,4 @@
-//! A window: 80 bits of a stretch that stand together. Read next: `brought`.
+//! A window: 80 neighbouring bits of a stretch. Read next: `brought`.
 ghost use Rattle.std.specs.Prelude.{◌≡◌, ◌<◌, ◌^◌, ◌↔◌, List, [], ◌∷◌, ◌++◌, Bool, IsTrue};
 ghost use Rattle.direction_reader.specs.Candidate.{IsCandidate};
 ghost use Rattle.direction_reader.specs.HoldsBits.{HoldsAll, HoldsLatest, Holds};
@@ -93,7 +93,7 @@ impl Full {
         }
     }
 
-    /// Adds a bit at the end, drops the oldest, and tells whether the window is a candidate. The sync
+    /// Adds a bit at the end, drops the oldest, and returns whether the window is a candidate. The sync
     /// word ends in a one, so behind a zero one test is enough.
     #[inline(always)]
     pub(crate) fn push(&mut self, bit: bool) -> bool

@@ -17,7 +17,7 @@ enum Answer {
     Nothing,
     /// One byte.
     One,
-    /// All that was asked for.
+    /// All bytes that there was room for.
     All,
     /// The error of the operating system with this number.
     Fault(i32),
@@ -25,7 +25,7 @@ enum Answer {
     Kind(ErrorKind),
 }
 
-/// A reader or a writer that answers as it is told, one answer a call, and from the fourth call on
+/// A reader or a writer with given answers, one a call, and from the fourth call on
 /// with no byte. A byte that is read is the number of the call, from 1.
 #[derive(Drop)]
 struct Told {
@@ -71,8 +71,8 @@ impl Write for Told {
     }
 }
 
-/// A sink that takes so many bytes of a piece at most, of which one push fails, and which notes what
-/// it was asked.
+/// A sink that takes at most `most` bytes of a piece, of which one push fails, and which notes
+/// how it was called.
 #[derive(Drop)]
 struct Noting {
     pushes: u64,
@@ -189,7 +189,7 @@ fn memory_is_had_for_a_long_input(rt: HostRuntime) -> Result<(), Fail> {
     Ok(())
 }
 
-/// The first of the bytes, so many, are pulled from each source and pushed to a sink, for which memory is had.
+/// The first `len` bytes are pulled from each source and pushed to a sink, for which there is memory.
 fn goes_through(alloc: Global, bytes: &[u8], len: usize) -> Result<bool, Fail> {
     let Some(piece) = bytes.get(..len) else {
         return Ok(false);
@@ -307,7 +307,7 @@ fn a_push_is_one_write(rt: HostRuntime) {
     }
 }
 
-/// Pushes a piece in parts of at most so many bytes, of which one push fails: no push comes behind it,
+/// Pushes a piece in parts of at most `most` bytes, of which one push fails: no push comes after it,
 /// and none that was not needed.
 fn push_in_parts(rt: &impl Abort, piece: &[u8], most: usize, failing: u64)
     requires part { 1 ≤ most }

@@ -93,7 +93,7 @@ marked-steps limit word since (suc n) rest h marked = (
       (subst (λ k. AreMarked limit (Some k) rest) (omega arith) marked),
 )
 
--- the end comes only where all steps up to the limit are due
+-- the end comes only if all steps up to the limit are due
 marked-gone : (limit : ℕ) (word : HeardWord) (tick n : ℕ) (gone : Bool) (rest : List Frame) → Due limit word tick n
     → is_gone limit word tick ≡ gone →
     ((since : Option ℕ) → AreMarked limit since rest)

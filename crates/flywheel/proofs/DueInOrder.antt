@@ -21,7 +21,7 @@ pub is_due-later : (word : HeardWord) (k tick later : ℕ) → tick ≤ later �
     → is_due word k later ≡ true
 is_due-later word k tick later h due = grind (arith, nat_tests)
 
--- where a step is not due, no later one is
+-- if a step is not due, no later one is
 pub not_due-after : (word : HeardWord) (j k tick : ℕ) → j ≤ k → is_due word j tick ≡ false → is_due word k tick ≡ false
 not_due-after word j k tick h due =
     let grows = mul-le (2 * j + 1) word.length (2 * k + 1) word.length (omega arith) (omega arith) in

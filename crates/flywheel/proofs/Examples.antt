@@ -1,4 +1,4 @@
--- The frames of a word that is heard once: so many invented ones, and the end where the next one should have been
+-- The frames of a word that is heard once: the invented ones, and the end where the next one should have been
 -- heard.
 use Rattle.std.proofs.Common.{◌≡◌, [], ◌∷◌, false, refl}
 use Rattle.tc_address.specs.declared.count.Count.TheVariants.{C25}

@@ -63,7 +63,7 @@ go_on-steps sum word n (suc m) rest on =
           later,
     )
 
--- what follows the frames between, where more is due than the limit, and where not
+-- what follows the frames between, if more is due than the limit, and if not
 go_on-end : (word : HeardWord) (tick n : ℕ) (gone : Bool) (rest : List Frame) → (gone ≡ true → GoOn None rest) →
     (gone ≡ false → GoOn (Some (place_since word n)) rest)
     → GoOn (Some (place_since word n)) (cond gone (Gone tick ∷ []) [] ++ rest)

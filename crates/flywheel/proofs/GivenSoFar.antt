@@ -48,7 +48,7 @@ given_up limit words before tick given has h =
     rw has.told last in
     told ∙ ap (λ more. frames limit words has.word.tick ++ more) between ∙ sym has.given_are
 
--- a later tick changes nothing where nothing more is due
+-- a later tick changes nothing if nothing more is due
 pub waits : (limit : ℕ) (reference : Option HeardWord) (n : ℕ) (words : List HeardWord) (before tick : ℕ)
     (given : List Frame) →
     HasGiven limit reference n words before given → before ≤ tick → is_next_due reference n tick ≡ false →
@@ -107,7 +107,7 @@ gives_up limit word n words before tick given has due over =
       due = rw (← all) due;
     }
 
--- the word comes where nothing more is due: it joins exactly where it is the next after the steps in between
+-- the word comes when nothing more is due: it joins exactly if it is the next after the steps in between
 joined-first : (limit : ℕ) (before : HeardWord) (n : ℕ) (word : HeardWord) → n ≤ limit
     → ((k : ℕ) → 1 ≤ k → k ≤ n → is_due before k word.tick ≡ true) →
     is_due before (n + 1) word.tick ≡ false → is_joined limit before word ≡ is_next before (n + 1) word
@@ -129,7 +129,7 @@ hears_next limit earlier words before word joined given told h given_are joins =
     rw told next in
     rw (all, given_are, joins, frames_between-own limit word h) (simp append_assoc)
 
--- a word that is heard where nothing more is due comes after all frames up to its tick
+-- a word that is heard when nothing more is due comes after all frames up to its tick
 hears_given : (limit : ℕ) (reference : Option HeardWord) (n : ℕ) (words : List HeardWord) (before : ℕ)
     (given : List Frame) (word : HeardWord) →
     HasGiven limit reference n words before given → before ≤ word.tick → 1 ≤ word.length

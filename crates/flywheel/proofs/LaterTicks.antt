@@ -1,5 +1,5 @@
 -- What is due stays due, so the frames up to a tick come first among those up to a later one, and frames of later
--- words stand behind them.
+-- words come behind them.
 use Rattle.std.proofs.Common.{◌≡◌, ℕ, ◌+◌, ◌≤◌, Bool, true, false, List, [], ◌∷◌, ◌++◌, length, map, refl, sym, ◌∙◌, ap}
 use Rattle.std.proofs.Common.{append_assoc, append-nil}
 use Rattle.std.proofs.Common.{arith}
@@ -22,14 +22,14 @@ due_steps-within limit word tick =
     let steps = range_with_len 1 limit in
     omega (arith, length-filter test steps, count_by-le-length test steps, length-range_with_len 1 limit)
 
--- where no more is due than the limit, the frames that follow a word are the first invented ones
+-- if no more is due than the limit, the frames that follow a word are the first invented ones
 frames_between-within : (limit : ℕ) (word : HeardWord) (tick : ℕ) → is_gone limit word tick ≡ false →
     frames_between limit word tick ≡ first_invented word (length (due_steps limit word tick))
 frames_between-within limit word tick within =
     rw within (append-nil (map (invented_after word) (due_steps limit word tick)))
     ∙ ap (map (invented_after word)) (due_steps-range limit word tick)
 
--- where no other word is heard, the frames up to a tick come first at a later one
+-- if no other word is heard, the frames up to a tick come first at a later one
 between_later : (limit : ℕ) (word : HeardWord) (tick later : ℕ) (gone : Bool) → is_gone limit word tick ≡ gone
     → tick ≤ later →
     Begins (frames_between limit word tick) (frames_between limit word later)
@@ -46,12 +46,12 @@ between_later limit word tick later false is h =
     let first = after_word limit word n later (due_steps-within limit word tick) due in
     (first.0, rw (frames_between-within limit word tick is) first.1)
 
--- what stands first still does where more is put behind
+-- what comes first still does if more is put behind
 begins-more : (front whole more : List Frame) → Begins front whole → Begins front (whole ++ more)
 begins-more front whole more first =
     (first.0 ++ more, ap (λ (l : List Frame). l ++ more) first.1 ∙ append_assoc front first.0 more)
 
--- and where the same is put before both
+-- and if the same is put before both
 begins-behind : (before front whole : List Frame) → Begins front whole → Begins (before ++ front) (before ++ whole)
 begins-behind before front whole first =
     (first.0, ap (λ (l : List Frame). before ++ l) first.1 ∙ sym (append_assoc before front first.0))

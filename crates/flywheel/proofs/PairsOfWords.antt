@@ -4,7 +4,7 @@ use Rattle.flywheel.specs.declared.heard.HeardWord.{HeardWord}
 use Rattle.flywheel.specs.Frames.{frames_between, is_joined, heard_as, frames_after, frames}
 use Rattle.flywheel.proofs.DueInOrder.{frames_between-own}
 
--- the frames after a word up to a tick, where `last` is the last of the words after it: those up to the tick of
+-- the frames after a word up to a tick, if `last` is the last of the words after it: those up to the tick of
 -- `last`, and what follows `last`
 frames_after-last : (limit : ℕ) (word : HeardWord) (more : List HeardWord) (last : HeardWord) (tick : ℕ)
     → 1 ≤ last.length →

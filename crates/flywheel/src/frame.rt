@@ -9,11 +9,11 @@ pub enum Frame {
     Heard {
         label: Label,
         direction: Direction,
-        /// Whether it goes on where the word before leads, after the frames invented in between.
+        /// Whether it goes on from the word before, after the frames invented in between.
         joined: bool,
         tick: u64,
     },
-    /// No word was heard where one was due, and its label was taken from the word before.
+    /// No word was heard when one was due, and its label was taken from the word before.
     Invented {
         label: Label,
         direction: Direction,

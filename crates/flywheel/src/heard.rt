@@ -19,7 +19,7 @@ pub struct HeardWord {
 }
 
 impl HeardWord {
-    /// The label so many steps further in the word's direction.
+    /// The label `steps` steps further in the word's direction.
     pub(crate) fn label_after(&self, steps: u32) -> Label
         ensures { result ≡ label_after self.now steps }
     {
@@ -49,7 +49,7 @@ impl HeardWord {
         self.tick_after(steps) + self.length.div_ceil(2)
     }
 
-    /// Whether another word goes on where this one leads after so many steps.
+    /// Whether another word is the one to which this one leads after `steps` steps.
     pub(crate) fn leads_to(&self, steps: u32, next: &HeardWord) -> bool
         ensures { result ≡ is_next self.now steps next.now }
     {

@@ -12,7 +12,7 @@ ghost use Rattle.flywheel.specs.Marked.{AreMarked, words_in, word_of};
 
 use tc_address::laws::steps_add_up;
 
-/// Between two heard frames, and after the last, stand at most `limit` invented ones, with the steps
+/// Between two heard frames, and after the last, there are at most `limit` invented ones, with the steps
 /// 1, 2 and so on, and the heard frames are exactly the words.
 pub fn invention_is_bounded_and_marked()
     ensures marked { (limit last : ℕ) (words : List HeardWord) → AreMarked limit None (frames limit words last) }
@@ -36,7 +36,7 @@ pub fn steps_are_due_in_order()
         → (k ≤ length (due_steps limit word tick)) ↔ (is_due word k tick ≡ true) }
 {}
 
-/// A word is the next exactly where direction, count and label fit.
+/// A word is the next exactly if direction, count and label fit.
 pub fn the_next_word_fits()
     ensures { (before word : HeardWord) (k : ℕ) → (is_next before k word ≡ true)
         ↔ ((word.direction ≡ before.direction) × (word.label ≡ label_after before k)) }
@@ -51,7 +51,7 @@ pub fn frames_come_in_order()
         → (rest : List Frame) × (frames limit (words ++ word ∷ []) word.tick ≡ frames limit words word.tick ++ rest) }
 {}
 
-/// Where the words of some ticks are followed by words that are heard at the tick or later, the frames
+/// If the words of some ticks are followed by words that are heard at the tick or later, the frames
 /// up to that tick come first.
 pub fn frames_of_a_front_come_first()
     ensures { (limit tick last : ℕ) (words more : List HeardWord) → tick ≤ last → All (λ word. tick ≤ word.tick) more

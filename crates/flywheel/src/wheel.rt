@@ -17,11 +17,11 @@ pub struct Flywheel {
     limit: u8,
     reference: Option<HeardWord>,
     invented: u32,
-    /// The first tick at which a frame is due, so that most ticks want one comparison.
+    /// The first tick at which a frame is due, so that most ticks need one comparison.
     due_from: u64,
 }
 
-/// Past each tick that may be told.
+/// Past each tick that may occur.
 const NEVER: u64 = u64::MAX;
 
 impl Model for Flywheel {
@@ -48,7 +48,7 @@ impl Flywheel {
         }
     }
 
-    /// A flywheel that has invented so many frames since a word.
+    /// A flywheel that has invented `invented` frames since a word.
     fn since(limit: u8, word: HeardWord, invented: u32) -> Flywheel
         requires range { IsInRange word }
         requires within { invented ≤ limit }
@@ -68,7 +68,7 @@ impl Flywheel {
         requires not_before { IfSome self.now.reference (λ word. word.tick ≤ tick) }
         ensures value { result ≡ has_frame_due self.now tick }
 
-        // Where nothing is due, all frames of the words so far were given.
+        // If nothing is due, all frames of the words so far were given.
         ensures stands { (words : List HeardWord) (earlier : ℕ) (given : List Frame)
             → StandsFor self.now words earlier given → earlier ≤ tick
             → result ≡ false → HasGivenAll self.now words tick given }
@@ -82,7 +82,7 @@ impl Flywheel {
         requires below { tick < 2 ^ 60 }
         requires not_before { IfSome self.old.reference (λ word. word.tick ≤ tick) }
 
-        // None where nothing is due, and then nothing changes.
+        // None if nothing is due, and then nothing changes.
         ensures none { has_frame_due self.old tick ≡ false → (result ≡ None) × (self.new ≡ self.old) }
 
         // A frame that is due is invented within the limit, and else it is the end.
@@ -127,7 +127,7 @@ impl Flywheel {
         }
     }
 
-    /// Whether the word goes on where the reference and the frames invented since lead.
+    /// Whether the word goes on from the reference and the frames invented since.
     fn goes_on_with(&self, word: &HeardWord) -> bool
         ensures { result ≡ goes_on_with self.now word.now }
     {

@@ -1,4 +1,4 @@
--- What stands at the front of bytes behind a file is what they bring to it: no whole interval, an interval in its one
+-- What is at the front of bytes behind a file is what they bring to it: no whole interval, an interval in its one
 -- spelling, or one out of range.
 use Rattle.std.proofs.Common.{Fits, w8, suc, ◌≡◌, ◌⊎◌, inl, inr, ℕ, ◌<◌, ◌≤◌, List, [], ◌∷◌, length, get_or, take, refl}
 use Rattle.std.proofs.Common.{sym, ap, subst, arith}

@@ -1,5 +1,5 @@
--- What stands behind a header and intervals, one interval at a time: bytes that end inside one, one out of range, or
--- one in range and what stands behind it.
+-- What comes behind a header and intervals, one interval at a time: bytes that end inside one, one out of range, or
+-- one in range and what comes behind it.
 use Rattle.std.proofs.Common.{◌≡◌, ◌⊎◌, inl, inr, ℕ, zero, suc, ◌+◌, ◌<◌, ◌≤◌, List, [], ◌∷◌, ◌++◌, length, take, drop}
 use Rattle.std.proofs.Common.{fold, Ok, Err, refl, sym, ◌∙◌}
 use Rattle.std.proofs.Common.{ap, subst, arith, false, append_assoc, append-nil, length-append}

@@ -38,7 +38,7 @@ so_far_nothing : recording_of (0x4c ∷ 0x54 ∷ 0x43 ∷ 0x49 ∷ 1 ∷ 25 ∷ 
 unfolding recording_of
 so_far_nothing = refl
 
--- another system is refused at its byte, whatever stands behind it
+-- another system is refused at its byte, whatever comes behind it
 another_system : contents_of (0x4c ∷ 0x54 ∷ 0x43 ∷ 0x49 ∷ 1 ∷ 29 ∷ 7 ∷ []) ≡ no_header (fault.System 5)
 another_system = refl
 
@@ -66,7 +66,7 @@ end_of_the_cut : end_fault_of (first_header ++ 0 ∷ 0 ∷ 0 ∷ 12 ∷ 0 ∷ 0 
 unfolding end_fault_of
 end_of_the_cut = refl
 
--- version 2: an interval of two bytes, one of six, and one that may not stand in six
+-- version 2: an interval of two bytes, one of six, and one that may not come in six
 abbrev second_header : List ℕ
 second_header = 0x4c ∷ 0x54 ∷ 0x43 ∷ 0x49 ∷ 2 ∷ 30 ∷ 0 ∷ 0 ∷ 0 ∷ 0 ∷ 0xbb ∷ 0x80 ∷ []
 

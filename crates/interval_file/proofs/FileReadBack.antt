@@ -127,7 +127,7 @@ one_taken header intervals x = by_order (cases_order (length intervals) MAX_INTE
         ∙ ap (λ (l : List ℕ). plain header l past_limit) (sym kept)
         ∙ sym (past header (intervals ++ x ∷ []) (length (intervals ++ x ∷ [])) good (omega (arith, many, long)))
 
--- a decoder between two intervals, of so many bytes that are good
+-- a decoder between two intervals, of good bytes, with their number
 pub record IsGood (d : Decoding) (header : IntervalHeader) (intervals : List ℕ) (bytes : ℕ) : Type 0 where
   pub between : IsBetween d.progress
   pub version : d.progress.version ≡ header.version

@@ -1,4 +1,4 @@
--- What stands at the front of bytes is what a decoder makes of them.
+-- What is at the front of bytes is what a decoder makes of them.
 use Rattle.std.proofs.Common.{◌≡◌, ℕ, ◌≤◌, List, length, take, fold, Ok, Err, refl, subst, arith, Bool, true, false}
 use Rattle.std.specs.Prelude.{nat_le, ◌&&◌, ◌==◌, if◌then◌else◌}
 use Rattle.std.proofs.lemmas.Bool.{leb-true, leb-false, and_parts}

@@ -1,5 +1,5 @@
 -- What is read from the front of bytes: the fault of their first eight or of the tick rate, or a header, and what
--- stands behind it. And the bytes of an interval in range are those that a recorder writes for it.
+-- comes behind it. And the bytes of an interval in range are those that a recorder writes for it.
 use Rattle.std.proofs.Common.{◌≡◌, ◌⊎◌, inl, inr, ℕ, zero, suc, ◌+◌, ◌/◌, ◌%◌, ◌<◌, ◌≤◌, List, [], ◌∷◌, ◌++◌, length}
 use Rattle.std.proofs.Common.{take, drop, slice_index, Some, None, refl}
 use Rattle.std.proofs.Common.{sym, ◌∙◌, ap, ap₂, subst, arith, Bool, true, false}
@@ -33,7 +33,7 @@ use Rattle.interval_file.proofs.InTheHeader.{fault_is, place_fault}
 
 -- ---- the first eight bytes
 
--- all may stand, or one is the first that may not, and its fault is read
+-- all may come, or one is the first that may not, and its fault is read
 abbrev StandOrNot : ℕ → List ℕ → Type 0
 StandOrNot place list =
     (MayStand place list × (first_wrong place list ≡ None))
@@ -163,7 +163,7 @@ system_says byte says = by_row (cases_eq byte 24) (cases_eq byte 25) (cases_eq b
         (ne_eqb byte 24 not_film, ne_eqb byte 25 not_tv, ne_eqb byte 30 not_video) refl in
         absurd (false≢true (sym none ∙ says))
 
--- eight bytes that may stand
+-- eight bytes that may come
 abbrev pub head_of : FileVersion → System → List ℕ
 head_of version system = MAGIC ++ version_byte version ∷ rate_of system ∷ 0 ∷ 0 ∷ []
 
@@ -323,7 +323,7 @@ rate_or_not rate = by_order (cases_lt rate 1) (cases_lt MAX_TICK_RATE rate)
     by_order (inr low) (inl high) = inr (rw (le-leb 1 rate low, lt-leb rate MAX_TICK_RATE high) refl)
     by_order (inr low) (inr high) = inl (low, high)
 
--- a fault and no header, or a header and what stands behind it
+-- a fault and no header, or a header and what comes behind it
 abbrev pub IsReadAs : List ℕ → Type 0
 IsReadAs bytes = ((first : IntervalFileFault) × (contents_of bytes ≡ no_header first) × IsHeaderFault first bytes)
     ⊎ ((header : IntervalHeader) × (contents_of bytes ≡ contents_behind (length bytes) header [] 12 (drop 12 bytes))

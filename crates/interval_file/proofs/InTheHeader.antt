@@ -1,4 +1,4 @@
--- A decoder within the header: each of the first eight bytes that may stand leaves it without a fault, the first one
+-- A decoder within the header: each of the first eight bytes that may come leaves it without a fault, the first one
 -- that may not is its fault for good, and so is a tick rate out of range.
 use Rattle.std.proofs.Common.{◌≡◌, ◌⊎◌, inl, inr, ℕ, ◌+◌, ◌-◌, ◌<◌, ◌≤◌, List, [], ◌∷◌, length, take, drop, fold}
 use Rattle.std.proofs.Common.{slice_index, Some, None, refl, sym}
@@ -128,7 +128,7 @@ faulty_row false false true magic version false zero place = refl
 faulty_row false false false magic version system true place = refl
 faulty_row false false false magic version system false place = refl
 
--- a byte that may not stand has the fault of its place
+-- a byte that may not come has the fault of its place
 pub fault_is : (place byte : ℕ) → fault_at place byte ≡
     (if may_stand place byte then None else Some (place_fault place))
 fault_is place byte =
@@ -166,7 +166,7 @@ by_test place byte version system may low e =
     takes place byte version system (tested_as may place) low (tested place byte
     ∙ ap (λ (b : Bool). tested_as b place) e)
 
--- bytes that may stand
+-- bytes that may come
 walks : (front : List ℕ) (place : ℕ) (version : FileVersion) (system : Option System) → MayStand place front
     → place + length front ≤ 8
     → (v : FileVersion) × (s : Option System) × (fold with_byte (head_at place version system) front
@@ -182,7 +182,7 @@ walks (byte ∷ more) place version system may short =
       ap (λ (d : Decoding). fold with_byte d more) first ∙ rest.2 ∙ ap (λ (k : ℕ). head_at k rest.0 rest.1) n,
     )
 
--- the decoder behind the first bytes, where they may stand
+-- the decoder behind the first bytes, if they may come
 reaches : (bytes : List ℕ) (place : ℕ) → MayStand 0 (take place bytes) → place ≤ length bytes → place ≤ 8
     → (v : FileVersion) × (s : Option System) × (fold with_byte no_decoding (take place bytes) ≡ head_at place v s)
 reaches bytes place may there low =
@@ -206,7 +206,7 @@ IsRead bytes verdict first = (decoded bytes ≡ nothing_with verdict) × (decode
 abbrev ending : Decoding → Option IntervalFileFault
 ending d = fault_at_end (end d.progress)
 
--- the first byte that may not stand is the fault
+-- the first byte that may not come is the fault
 wrong_byte : (bytes : List ℕ) (place : ℕ) → place < 8 → IsFirstWrong place bytes
     → IsRead bytes (refused (place_fault place)) (place_fault place)
 wrong_byte bytes place low is =
@@ -284,7 +284,7 @@ rate_open version system (a ∷ b ∷ []) short = refl
 rate_open version system (a ∷ b ∷ c ∷ []) short = refl
 rate_open version system (a ∷ b ∷ c ∷ e ∷ more) short = absurd (omega (arith, short))
 
--- where bytes end within the header, so does the decoder, and they are cut off
+-- if bytes end within the header, so does the decoder, and they are cut off
 pub record InHeader (bytes : List ℕ) : Type 0 where
   pub version : FileVersion
   pub system : Option System

@@ -1,4 +1,4 @@
--- Where the verdict is good and the input may end, the bytes are a file within the limit.
+-- If the verdict is good and the input may end, the bytes are a file within the limit.
 use Rattle.std.proofs.Common.{◌≡◌, ℕ, ◌≤◌, List, length, None, refl, Bool, true, false}
 use Rattle.std.specs.Prelude.{nat_le, if◌then◌else◌}
 use Rattle.std.proofs.lemmas.Bool.{leb-true}

@@ -198,7 +198,7 @@ behind_fault bytes byte before now first says is =
 
 -- ---- inside an interval
 
--- where an interval gains a byte, this is what the text says
+-- if an interval gains a byte, this is what the text says
 bytes_too : (bytes : List ℕ) (byte : ℕ) → AreBytes bytes → byte < 256 → AreBytes (bytes ++ byte ∷ [])
 bytes_too [] byte are small = (small, tt)
 bytes_too (x ∷ more) byte are small = (are.0, bytes_too more byte are.1 small)
@@ -422,7 +422,7 @@ headless bytes (faulty header intervals first) says short =
     let all = ap length says.are ∙ length-append says.front says.rest in
     absurd (omega (arith, long, all, short))
 
--- and where these are all its bytes, it has no intervals
+-- and if these are all its bytes, it has no intervals
 header_alone : (bytes : List ℕ) (now : Contents) → Says now bytes → length bytes ≡ 12 → piece_fault_in now ≡ None
     → intervals_in now ≡ []
 header_alone bytes (file header []) says twelve none = refl

@@ -1,4 +1,4 @@
--- A list of bytes says one thing: the decoder reads one header and one fault from it, and where two lists of intervals
+-- A list of bytes says one thing: the decoder reads one header and one fault from it, and if two lists of intervals
 -- are spelled in it up to a place that no whole interval in range begins at, they are the same, interval after
 -- interval.
 use Rattle.std.proofs.Common.{◌≡◌, ℕ, suc, ◌<◌, ◌≤◌, List, [], ◌∷◌, ◌++◌, length, Some, refl, sym, ◌∙◌, ap, ap₂, subst}
@@ -38,7 +38,7 @@ reads bytes (faulty header intervals first) says = rest_fault_read bytes header 
 
 -- ---- one list of intervals
 
--- a whole interval in range stands first, and this is it
+-- a whole interval in range comes first, and this is it
 abbrev BeginsWith : FileVersion → List ℕ → ℕ → Type 0
 BeginsWith version bytes x = (piece_width version bytes ≤ length bytes) × InRange version bytes
     × (ticks_in version bytes ≡ x)
@@ -79,7 +79,7 @@ is_stuck version place rest (fault.TickRate n) fails = absurd fails
 end_is_stuck : (version : FileVersion) → IsStuck version []
 end_is_stuck version = λ whole. let wide = widths version [] in let two = wide.0 in absurd (omega (arith, whole, two))
 
--- where no interval begins, none is spelled
+-- if no interval begins, none is spelled
 none_begins : (version : FileVersion) (bytes : List ℕ) (x : ℕ) (more : List ℕ) → IsStuck version bytes → 1 ≤ x
     → x ≤ MAX_INTERVAL
     → bytes ≡ spelling version x ++ more → ⊥

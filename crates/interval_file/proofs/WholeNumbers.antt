@@ -21,7 +21,7 @@ use Rattle.interval_file.specs.Decoding.{Decoding, IsBetween, with_byte, with_nu
 use Rattle.interval_file.specs.Recording.{Recording}
 use Rattle.tc_io.specs.Verdict.{Verdict, good, refused, past_limit}
 
--- so many bytes without a fault, with this part of an interval
+-- `taken` bytes without a fault, with this part of an interval
 abbrev pub at : ℕ → FileVersion → Option System → List ℕ → Recording → Decoding
 at taken version system part r =
     record {
@@ -29,7 +29,7 @@ at taken version system part r =
       recording = r;
     }
 
--- where nothing is completed, what the bytes say stays
+-- if nothing is completed, what the bytes say stays
 pub nothing_more : (r : Recording) → with_taken r Nothing ≡ r
 nothing_more r = whatever r.verdict
   where
@@ -172,7 +172,7 @@ six t system r a b c e f g late long =
 
 -- ---- the bytes of the next interval, among more
 
--- what so many bytes of an interval do
+-- what the first `width` bytes of an interval do
 abbrev IsNextWith : ℕ → FileVersion → Option System → Recording → List ℕ → ℕ → Result ℕ IntervalFileFault → Type 0
 IsNextWith t version system r bytes width result =
     fold with_byte (at t version system [] r) (take width bytes) ≡ with_number (at t version system [] r) width result

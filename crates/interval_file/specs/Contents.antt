@@ -1,5 +1,5 @@
 -- What a list of bytes says, read from its front: the first eight bytes one by one, the tick rate, and one interval
--- after another, up to the first of them that may not stand. The grammar says the same of it (`Grammar.antt`, `Says`).
+-- after another, up to the first of them that may not come. The grammar says the same of it (`Grammar.antt`, `Says`).
 use Rattle.std.specs.Prelude.{ℕ, zero, suc, ◌+◌, List, [], ◌∷◌, ◌++◌, length, take, drop, slice_index, nat_lt, nat_le}
 use Rattle.std.specs.Prelude.{◌==◌, ◌&&◌, if◌then◌else◌, Option, Some, None, Ok, Err}
 use Rattle.std.specs.Option.{option_or}

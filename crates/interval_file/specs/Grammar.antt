@@ -1,6 +1,6 @@
 -- The interval file as a whole text: a header, and then the bytes of each interval, one after another. And what any
 -- list of bytes says: it is a file, or it has a first fault. Its pieces are the first eight bytes one by one, the tick
--- rate, and each interval. The first whole piece that may not stand is the fault; where there is none, and the bytes
+-- rate, and each interval. The first whole piece that may not come is the fault; if there is none, and the bytes
 -- end before byte 12 or inside an interval, the text is truncated.
 use Rattle.std.specs.Prelude.{◌≡◌, ⊤, ◌≤◌, ◌<◌, ℕ, ◌+◌, List, [], ◌∷◌, ◌++◌, length, take, drop, slice_index, Bool}
 use Rattle.std.specs.Prelude.{true, false, Option, Some, None}

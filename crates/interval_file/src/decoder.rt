@@ -53,7 +53,7 @@ pub enum Taken {
 }
 
 impl Taken {
-    /// The fault, where it is one.
+    /// The fault, if it is one.
     fn fault(self) -> Option<IntervalFileFault>
         ensures { result ≡ fault_in self }
     {
@@ -91,7 +91,7 @@ impl Model for IntervalDecoder {
 }
 
 impl IntervalDecoder {
-    /// A decoder that stands before the first byte.
+    /// A decoder before the first byte.
     pub fn new() -> IntervalDecoder
         ensures { result ≡ no_progress }
     {
@@ -111,8 +111,8 @@ impl IntervalDecoder {
         ensures answers { result ≡ answer self.old byte }
         ensures next { self.new ≡ after self.old byte }
 
-        // Where no fault was met before, a header, an interval, a fault or nothing is completed only
-        // where the version lets it stand, and the intervals account for the bytes.
+        // If no fault was met before, a header, an interval, a fault or nothing is completed only
+        // where the version allows it, and the intervals account for the bytes.
         ensures completes { IfNone self.old.fault (CompletesAt self.old.version result (self.old.taken + 1)) }
         ensures fits { (count : ℕ) → FitsBytes self.old count → FitsBytes self.new (count + interval_count result) }
         ensures part { length self.new.part < 6 }
@@ -165,7 +165,7 @@ impl IntervalDecoder {
         taken
     }
 
-    /// Passes over so many bytes of whole intervals, all of them in range.
+    /// Passes over `count` bytes of whole intervals, all of them in range.
     pub fn pass_over(&mut self, count: usize)
         requires between { IsBetween self.old }
         requires whole { MayBeWhole self.old.version count }
@@ -197,7 +197,7 @@ impl IntervalDecoder {
         self.fault.is_none() && HEADER_LENGTH <= self.taken && self.part.is_empty()
     }
 
-    /// The end of the input: the earlier fault where there was one, and else whether the input may
+    /// The end of the input: the earlier fault if there was one, and else whether the input may
     /// end here.
     pub fn finish(&self) -> Result<(), IntervalFileFault>
         ensures answers { result ≡ end self.now }
@@ -282,7 +282,7 @@ fn add_to_piece(
     taken
 }
 
-/// Whether the piece is whole whose last byte stands at this place.
+/// Whether the piece whose last byte is at this place is whole.
 fn is_whole(place: u64, version: FileVersion, piece: &[u8]) -> bool
     ensures { result ≡ is_whole place version piece.now }
 {
@@ -311,7 +311,7 @@ fn piece_taken(place: u64, version: FileVersion, system: Option<System>, piece: 
     }
 }
 
-/// What a whole interval says that ends with so many bytes.
+/// What the whole interval `piece` says, which ends `taken` bytes into the file.
 fn whole_interval(version: FileVersion, taken: u64, piece: &[u8]) -> Taken
     requires begins { IsWholeAt version taken piece.now }
     requires below { taken < 2 ^ 63 }
@@ -325,7 +325,7 @@ fn whole_interval(version: FileVersion, taken: u64, piece: &[u8]) -> Taken
     }
 }
 
-/// The header, where the tick rate is in range.
+/// The header, if the tick rate is in range.
 fn whole_header(version: FileVersion, system: Option<System>, tick_rate: u32) -> Taken
     ensures exact { result ≡ header_answer version system tick_rate }
     ensures completes { CompletesAt version result HEADER_LENGTH }

@@ -22,7 +22,7 @@ pub const HEAD_LENGTH: u64 = 8;
 /// The bytes of a header.
 pub const HEADER_LENGTH: u64 = 12;
 
-/// How a file spells its intervals: each with four bytes, or with two where it fits in two.
+/// How a file spells its intervals: each with four bytes, or with two if it fits in two.
 #[derive(Clone, Copy, Debug, PartialEq, Eq)]
 pub enum FileVersion {
     /// Four bytes an interval.
@@ -42,7 +42,7 @@ pub struct IntervalHeader {
     pub tick_rate: u32,
 }
 
-/// The header as it stands in a file.
+/// The header as bytes of a file.
 pub fn interval_header(header: &IntervalHeader) -> [u8; 12]
     requires { IsTickRate header.now.tick_rate }
     ensures bytes { result ≡ header_bytes header.now }
@@ -67,7 +67,7 @@ fn version_byte(version: FileVersion) -> u8
     }
 }
 
-/// The version that stands as a number in a header.
+/// The version whose number in a header this is.
 pub(crate) fn version_of_byte(byte: u8) -> Option<FileVersion>
     ensures { result ≡ version_at byte }
 {
@@ -78,7 +78,7 @@ pub(crate) fn version_of_byte(byte: u8) -> Option<FileVersion>
     }
 }
 
-/// The system that stands as a number in a header.
+/// The system whose number in a header this is.
 pub(crate) fn system_of_byte(byte: u8) -> Option<System>
     ensures { result ≡ system_at byte }
 {

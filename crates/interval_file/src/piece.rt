@@ -19,12 +19,12 @@ use limits::MAX_INTERVAL;
 /// The least interval that version 2 spells with six bytes, in ticks.
 pub const LEAST_LONG: u32 = 65_536;
 
-/// What stands at the front of bytes that begin between two intervals.
+/// What bytes that begin between two intervals begin with.
 #[derive(Clone, Copy)]
 pub enum Next {
     /// No whole interval.
     Short,
-    /// An interval, in ticks, of so many bytes.
+    /// An interval, in ticks, and the number of its bytes.
     Interval { ticks: u32, width: usize },
     /// An interval out of range.
     Fault(IntervalFileFault),
@@ -41,8 +41,8 @@ pub fn most_width(version: FileVersion) -> usize
     }
 }
 
-/// The next interval of bytes, the first of which stands at this place between two intervals. It is
-/// what a decoder that stands there makes of the bytes of the interval, taken one by one.
+/// The next interval of bytes, the first of which is at this place between two intervals. It is
+/// what a decoder at that place makes of the bytes of the interval, taken one by one.
 #[inline(always)]
 pub fn next_interval(version: FileVersion, place: u64, bytes: &[u8]) -> Next
     ensures exact { result ≡ next_of version place bytes.now }
@@ -54,7 +54,7 @@ pub fn next_interval(version: FileVersion, place: u64, bytes: &[u8]) -> Next
     front_interval(version, place, bytes)
 }
 
-/// The same, as it stands.
+/// The same, by the definition alone.
 #[inline(always)]
 fn front_interval(version: FileVersion, place: u64, bytes: &[u8]) -> Next
     ensures { result ≡ next_of version place bytes.now }
@@ -68,7 +68,7 @@ fn front_interval(version: FileVersion, place: u64, bytes: &[u8]) -> Next
     }
 }
 
-/// How many bytes the interval has that stands first, where it is whole.
+/// How many bytes the first interval has, if it is whole.
 #[inline(always)]
 pub(crate) fn whole_width(version: FileVersion, bytes: &[u8]) -> Option<usize>
     ensures { result ≡ (if nat_le (piece_width version bytes.now) (length bytes.now)
@@ -87,7 +87,7 @@ pub(crate) fn whole_width(version: FileVersion, bytes: &[u8]) -> Option<usize>
     }
 }
 
-/// The interval that stands first, at this byte place.
+/// The first interval, at this byte place.
 #[inline(always)]
 pub(crate) fn interval_in(
     version: FileVersion,
@@ -109,7 +109,7 @@ pub(crate) fn interval_in(
     }
 }
 
-/// An interval of so many ticks, which begins at this byte place, where it has at least the least and is in
+/// An interval of `ticks` ticks, which begins at this byte place, if it is at least `least` and in
 /// range.
 #[inline(always)]
 fn in_range(place: u64, least: u32, ticks: u32) -> Result<u32, IntervalFileFault>

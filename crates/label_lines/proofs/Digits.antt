@@ -1,4 +1,4 @@
--- What so many digits write at most.
+-- What some digits write at most.
 use Rattle.std.proofs.Common.{◌≡◌, ℕ, zero, suc, ◌<◌, ◌≤◌, ◌+◌, ◌-◌, ◌*◌, ◌^◌, true, List, [], ◌∷◌, length, take}
 use Rattle.std.proofs.Common.{get_or, arith}
 use Rattle.std.specs.Char.{is_ascii_digit}
@@ -12,11 +12,11 @@ use Rattle.std.proofs.lemmas.Str.Parse.{digits_value-take-le}
 use Rattle.std.proofs.lemmas.Bool.{and_parts}
 use Rattle.lemmas.specs.Digits.{digit_in_range, all_digits}
 
--- digits write less than the power of ten of so many
+-- digits write less than the power of ten of their number
 pub value_below : (ds : List ℕ) → list_all is_ascii_digit ds ≡ true → digits_value 10 ds < 10 ^ length ds
 value_below ds all = digits_value-lt 10 ds (all_digits ds all)
 
--- so many digits at most write less than the power of ten of so many
+-- at most `most` digits write less than that power of ten
 pub few_below : (ds : List ℕ) (most : ℕ) → digits_value 10 ds < 10 ^ length ds → length ds ≤ most
     → digits_value 10 ds < 10 ^ most
 few_below ds most below few =

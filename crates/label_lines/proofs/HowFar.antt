@@ -1,4 +1,4 @@
--- How far a line fits a form: a byte more where the next one may stand, and no further where it may not or none is
+-- How far a line fits a form: a byte more if the next one may come, and no further if it may not or none is
 -- left.
 use Rattle.std.proofs.Common.{◌≡◌, ℕ, ◌+◌, ◌<◌, true, false, List, [], ◌∷◌, length, drop, get_or, refl, arith}
 use Rattle.std.proofs.lemmas.List.{drop_more}
@@ -11,7 +11,7 @@ pub fits_one_more : (form line : List ℕ) (i : ℕ) → i < length form → i <
 unfolding fitting
 fits_one_more form line i within there stands = rw (drop_more form i 0 within, drop_more line i 0 there, stands) refl
 
--- a byte that may not stand
+-- a byte that may not come
 pub fits_no_more : (form line : List ℕ) (i : ℕ) → i < length form → i < length line
     → may_stand (get_or form i 0) (get_or line i 0) ≡ false → fitting (drop i form) (drop i line) ≡ 0
 unfolding fitting

@@ -21,7 +21,7 @@ use Rattle.label_lines.proofs.Choices.{label_is_asked}
 use Rattle.label_lines.proofs.WrittenDigits.{written_digits, written_value}
 use Rattle.label_lines.proofs.WrittenSeconds.{seconds_are_read}
 
--- what is asked is read
+-- what is asked for is read
 pub asked_is_read : (base : Timebase) (line : List ℕ) (a : Address) → asked base line ≡ Some a
     → read_line base line ≡ Ok a
 unfolding read_line
@@ -50,7 +50,7 @@ number_is_read base a n few is =
     asked_is_read base (decimal n) a (number_is_asked base (decimal n) number
     ∙ ap (slice_get (labels (count_of base))) (written_value n fits) ∙ is)
 
--- seconds, where the frame is the one that begins nearest to them
+-- seconds, if the frame is the one that begins nearest to them
 seconds_are_asked : (base : Timebase) (line : List ℕ) → is_number line ≡ false → is_seconds line ≡ true
     → asked base line ≡ slice_get (labels (count_of base)) (frame_at (rate_of base) (milliseconds_in line))
 seconds_are_asked base line number seconds = rw (number, seconds) refl
@@ -73,7 +73,7 @@ within_five_digits F30 n below = omega arith
 within_five_digits PulledDown30 n below = omega arith
 within_five_digits Drop30 n below = omega arith
 
--- a day has fewer labels than seven digits tell
+-- a day has fewer labels than seven digits say
 pub seven_digits : (count : Count) (n : ℕ) → n < day_length count → n < 10_000_000
 seven_digits counts.C24 n below = omega arith
 seven_digits counts.C25 n below = omega arith

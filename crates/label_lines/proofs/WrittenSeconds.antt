@@ -36,11 +36,11 @@ point_is_no_digit whole rest =
 abbrev pointed : List ℕ → ℕ → ℕ → ℕ → List ℕ
 pointed whole a b c = whole ++ 46 ∷ a ∷ b ∷ c ∷ []
 
--- so many bytes more than the whole part
+-- four bytes more than the whole part
 long : (whole : List ℕ) (a b c : ℕ) → length (pointed whole a b c) ≡ length whole + 4
 long whole a b c = length-append whole (46 ∷ a ∷ b ∷ c ∷ [])
 
--- what stands in front of the last four bytes, the first of these, and the last three
+-- what comes in front of the last four bytes, the first of these, and the last three
 front_part : (whole : List ℕ) (a b c : ℕ)
     → take (length (pointed whole a b c) - 4) (pointed whole a b c) ≡ whole
 front_part whole a b c =

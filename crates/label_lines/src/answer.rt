@@ -91,7 +91,7 @@ fn push_shown(line: &mut Text, rate: FrameRate, frame: u32, other: Timebase)
     push_any_number(line, shown.thousandths);
 }
 
-/// The label so many frames after midnight, around the day.
+/// The label `frames` frames after midnight, around the day.
 fn label_from_midnight(count: Count, frames: u64) -> Label
     requires few { frames < 2 ^ 62 }
     ensures { result ≡ label_from_midnight count frames }

@@ -4,7 +4,7 @@ ghost use Rattle.label_lines.specs.Forms.{fitting, fitting_one, forms, label_for
 
 use tc_address::Count;
 
-/// The form of a label. A 0 stands for each digit.
+/// The form of a label. A 0 is any digit.
 pub const LABEL_FORM: &str = "00:00:00:00";
 
 /// The form of a label of drop-frame counting.
@@ -30,7 +30,7 @@ pub(crate) fn label_form(count: Count) -> &'static str
     }
 }
 
-/// Whether a byte may stand where this one stands in a form.
+/// Whether a byte may come at this place of a form.
 fn may_stand(place: u8, byte: u8) -> bool
     ensures { result ≡ may_stand place byte }
 {

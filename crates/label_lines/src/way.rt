@@ -12,9 +12,9 @@ pub enum Way {
     Number,
     /// Its text.
     Label,
-    /// The label so many further on, around the day.
+    /// The label this number of labels later, around the day.
     Plus(u32),
-    /// The label so many before it, around the day.
+    /// The label this number of labels earlier, around the day.
     Minus(u32),
     /// The shortest way to it from this label, with its sign, and how far it lies ahead of this label.
     Since(Label),
@@ -25,7 +25,7 @@ pub enum Way {
 }
 
 impl Way {
-    /// Whether the label from which ways are told, where there is one, is of the count.
+    /// Whether the label from which ways are counted, if there is one, is of the count.
     pub fn is_of(&self, count: Count) -> bool
         ensures { IsTrue result ↔ IsWayOf count self.now }
     {

@@ -6,7 +6,7 @@ ghost use Rattle.label_text.specs.declared.fault.LineFault.{LineFault};
 ghost use Rattle.label_text.specs.declared.reader.TheConstants.{MAX_LINE, MAX_LINES};
 ghost use Rattle.label_text.specs.LabelText.{reading_from, reading_of, with_labels};
 
-/// Bytes are read in their order: where some are good, the labels of more follow theirs; a fault and the limit stay,
+/// Bytes are read in their order: if some are good, the labels of more follow theirs; a fault and the limit stay,
 /// and nothing is read behind them.
 pub fn bytes_are_read_in_order()
     ensures good { (base : Timebase) (front more : List ℕ) → (reading_of base front).verdict ≡ good

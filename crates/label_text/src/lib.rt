@@ -1,9 +1,9 @@
 //! A text of lines that say labels, byte by byte, in fixed room.
 //!
-//! A newline ends a line. A line has 64 bytes at most, and a text so many lines; behind the last newline a line may
-//! stand that the end of the text ends.
+//! A newline ends a line. A line has 64 bytes at most, and a text `MAX_LINES` lines; after the last newline there may
+//! be a line that the end of the text ends.
 //!
-//! What this crate promises: `LabelReader` tells of each byte what it completes: nothing, the label of a line, the
+//! What this crate promises: `LabelReader` says of each byte what it completes: nothing, the label of a line, the
 //! first fault by its line and column, or that there is one line too many (`specs/LabelText.antt`, `said_by`); and what
 //! the end of the text says of the line before it (`at_end`). Bytes are read in their order (`laws`).
 //!

@@ -11,10 +11,10 @@ use label_lines::{Timebase, read_line, wrong_column};
 use std::marker::Model;
 use tc_address::Label;
 
-/// A line has so many bytes, at most, without its newline.
+/// The most bytes of a line, without its newline.
 pub const MAX_LINE: usize = 64;
 
-/// So many lines are read, at most.
+/// The most lines that are read.
 pub const MAX_LINES: u64 = 1_000_000_000;
 
 /// What a byte completes, or the end of a text.
@@ -96,7 +96,7 @@ impl LabelReader {
         }
     }
 
-    /// Goes on to the next line, where this one says a label.
+    /// Goes on to the next line, if this one says a label.
     fn end_line(&mut self) -> LineRead
         requires { self.old.number ≤ MAX_LINES }
         ensures said { result ≡ line_said self.old }
@@ -112,7 +112,7 @@ impl LabelReader {
         said
     }
 
-    /// What the line says, as it stands.
+    /// What the line says, without going on to the next.
     fn line_said(&self) -> LineRead
         ensures said { result ≡ line_said self.now }
         ensures count { (label : Address) → result ≡ LineRead.Label label → label.count ≡ count_of self.now.base }

@@ -1,4 +1,4 @@
--- A search over some numbers finds nothing exactly where each of them fails the test, and two tests that agree on each
+-- A search over some numbers finds nothing exactly if each of them fails the test, and two tests that agree on each
 -- of them find the same.
 use Rattle.std.proofs.Common.{◌≡◌, ℕ, zero, suc, ◌+◌, ◌<◌, Bool, true, false, cond, Option, Some, None, refl, arith}
 use Rattle.std.specs.List.{find, range_with_len}

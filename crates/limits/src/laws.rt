@@ -1,5 +1,5 @@
-//! The values of the limits, spelled a second time: where code and definition read one constant, no contract of
-//! theirs would tell another value.
+//! The values of the limits, spelled a second time: if code and definition read one constant, no contract of
+//! theirs would notice another value.
 ghost use Rattle.std.specs.Prelude.{◌≡◌, ◌-◌, ◌^◌};
 ghost use Rattle.limits.specs.declared.recording.TheConstants.{MAX_INTERVAL, MAX_INTERVALS, MAX_TICK_RATE};
 ghost use Rattle.limits.specs.declared.sound_file.TheConstants.{MAX_TRACKS};

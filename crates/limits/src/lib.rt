@@ -1,11 +1,11 @@
 //! The limits that more than one crate keeps.
 //!
-//! What tells a limit to a user, what reads a file within it and what a definition says of it read the same
-//! number here. A limit that one crate alone keeps stands in that crate.
+//! What shows a limit to a user, what reads a file within it and what a definition says of it read the same
+//! number here. A limit that one crate alone keeps is in that crate.
 //!
 //! What this crate promises: each limit has the value that `laws` spells.
 //!
-//! Read `recording` and `sound_file`, then `laws`. The crates of intervals, sound and words stand on it. Nothing
+//! Read `recording` and `sound_file`, then `laws`. The crates of intervals, sound and words use it. Nothing
 //! here is computed.
 #![tactic(auto)]
 

@@ -1,4 +1,4 @@
--- The whole fields of bytes stay where bytes follow, and the later ones stand behind them; so do their answers, since
+-- The whole fields of bytes stay if bytes follow, and the later ones come behind them; so do their answers, since
 -- a field has one.
 use Rattle.std.proofs.Common.{◌≡◌, ℕ, zero, suc, ◌+◌, List, [], ◌∷◌, ◌++◌, drop, refl, sym, ap, ap₂, ◌∙◌, subst, arith}
 use Rattle.std.proofs.lemmas.List.{drop-append-le}
@@ -22,7 +22,7 @@ ComeFirst front all = (rest : List (List (List ℕ))) × (all.fields ≡ front.f
 abbrev after_field : ℕ → ℕ → List ℕ → List (List ℕ) → Fields
 after_field left place bytes lines = fields_at left (place + field_width lines) (drop (field_width lines) bytes)
 
--- a whole field is whole with more bytes too, and where the first is not whole the front has none
+-- a whole field is whole with more bytes too, and if the first is not whole the front has none
 stay_by : (left place : ℕ) (bytes more : List ℕ) (v : Front (List (List ℕ))) → field_at place bytes ≡ v
     → ((w : ℕ) → ComeFirst (fields_at left (place + w) (drop w bytes))
     (fields_at left (place + w) (drop w bytes ++ more)))
@@ -66,7 +66,7 @@ answers_first law header (f ∷ fields) rest (a ∷ answers) (b ∷ all) valid x
           (law header.system header.length f b a valid y.0 x.0) others.1,
     )
 
--- where no header is whole there is no answer yet
+-- if no header is whole there is no answer yet
 stay_behind : OneAnswer → (bytes more : List ℕ) (v : Front LineHeader) (answers all : List FieldAnswer)
     → header_at bytes ≡ v
     → AreAnswersOf (behind_header v bytes) answers → AreAnswersOf (reading_of (bytes ++ more)) all

@@ -162,7 +162,7 @@ header_taken header place count part front chunk piece answers bytes s read own 
       answered = rw s.answered.1 tt;
     }
 
--- ---- what is told
+-- ---- what is answered
 
 -- a piece of the bytes fails its test
 abbrev pub IsBad : Option LineHeader → ℕ → ℕ → List ℕ → LineFileFault → Type 0

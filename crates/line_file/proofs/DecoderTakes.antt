@@ -1,4 +1,4 @@
--- What a decoder takes of the bytes that were pulled, by what stands at the front of those that it kept and these.
+-- What a decoder takes of the bytes that were pulled, by what is at the front of those that it kept and these.
 use Rattle.std.proofs.Common.{true, false, ◌≡◌, ℕ, suc, ◌+◌, ◌-◌, ◌<◌, ◌≤◌, Bool, List, [], ◌∷◌, ◌++◌, Some, None}
 use Rattle.std.proofs.Common.{length, take, drop, refl, ap}
 use Rattle.std.proofs.Common.{◌∙◌, arith, subst}
@@ -27,7 +27,7 @@ use Rattle.line_file.proofs.FieldByField.{fields_by}
 use Rattle.line_file.proofs.HeaderBytes.{header_valid, short_header, whole_header}
 use Rattle.line_file.proofs.OwnBytes.{own_field, short_field}
 
--- ---- what stands there
+-- ---- what is there
 
 pub record AtHeader (o : Option LineHeader) (place : ℕ) (part bytes : List ℕ) (header : LineHeader) : Type 0 where
   pub none : o ≡ None

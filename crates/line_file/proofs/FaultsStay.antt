@@ -1,4 +1,4 @@
--- A piece that fails its test fails it whatever follows, and all that stands before it is whole.
+-- A piece that fails its test fails it whatever follows, and all that comes before it is whole.
 use Rattle.std.proofs.Common.{◌≡◌, ℕ, zero, suc, ◌+◌, Bool, true, false, List, [], ◌∷◌, ◌++◌, drop, refl}
 use Rattle.std.specs.Prelude.{◌==◌, nat_le, if◌then◌else◌}
 use Rattle.std.proofs.lemmas.List.{drop-append-le}

@@ -1,4 +1,4 @@
--- What stands at the front of some bytes stands there whatever bytes follow, unless they are less than a piece.
+-- What is at the front of some bytes is there whatever bytes follow, unless they are less than a piece.
 use Rattle.std.proofs.Common.{ℕ, List, ◌++◌, Option, Some, None, refl}
 use Rattle.std.specs.Prelude.{◌≢◌}
 use Rattle.line_file.specs.declared.decoder.Piece.{Piece}

@@ -151,7 +151,7 @@ pub record OwnLines (count place : ℕ) (bytes : List ℕ) (lines : List (List �
 abbrev pub after_line : ℕ → ℕ → List ℕ → List ℕ → Front (List (List ℕ))
 after_line count place bytes runs = lines_at count (place + line_width runs) (drop (line_width runs) bytes)
 
--- what stands behind the bytes of a line
+-- what comes behind the bytes of a line
 behind_line : (bytes more runs : List ℕ) → line_width runs ≤ length bytes
     → drop (line_width runs) (take (line_width runs) bytes ++ more) ≡ more
 behind_line bytes more runs within = drop_at (take (line_width runs) bytes) more (line_width runs)

@@ -255,7 +255,7 @@ lines_bad header count place bytes done width reader f s lt line =
 
 -- ---- a line again
 
--- where the bytes of a slice begin with those of another
+-- if the bytes of a slice begin with those of another
 pub stands_behind : (bytes : List ℕ) (at last : ℕ) (r : Bool) → at ≤ length bytes → last ≤ at
     → r ≡ starts_with eqb (take (length bytes - at) (drop at bytes)) (take (at - (at - last)) (drop (at - last) bytes))
     → r ≡ true
@@ -301,7 +301,7 @@ line_anywhere place other (count ∷ rest) runs e = by_test (is_run_count count)
     by_test true h = runs_anywhere count (place + 1) (other + 1) rest runs h
     by_test false h = absurd cc
 
--- the line before, of so many bytes, is the last that was read
+-- the line before, of `width` bytes, is the last that was read
 pub record LastLine (bytes : List ℕ) (width last : ℕ) (lines : List (List ℕ)) : Type 0 where
   pub before : List (List ℕ)
   pub runs : List ℕ
@@ -369,7 +369,7 @@ pub field_is : (place d : ℕ) (bytes : List ℕ) → 1 ≤ length bytes
 field_is place d [] some = absurd (omega (arith, some))
 field_is place d (count ∷ more) some = refl
 
--- ---- where the loops stand
+-- ---- where the loops are
 
 pub some_bytes : (bytes : List ℕ) (e : Bool) → e ≡ (length bytes == 0) → e ≡ false → 1 ≤ length bytes
 some_bytes [] e is not_empty = absurd cc

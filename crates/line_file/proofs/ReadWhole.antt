@@ -1,5 +1,5 @@
 -- Bytes that are read whole are the file of their header and their fields: each piece that was read is spelled so, and
--- the rest stands behind it.
+-- the rest comes behind it.
 use Rattle.std.proofs.Common.{◌≡◌, ◌⊎◌, inl, inr, ℕ, zero, suc, ◌+◌, ◌*◌, ◌/◌, ◌%◌, ◌<◌, ◌≤◌, Bool, true, false, List}
 use Rattle.std.proofs.Common.{[]}
 use Rattle.std.proofs.Common.{◌∷◌, ◌++◌, Some, None, length, drop, refl, sym, ap, ap₂, subst, ◌∙◌, arith, append_assoc}
@@ -207,7 +207,7 @@ field_from place (count ∷ more) lines are e = a_field place count more lines (
 
 -- ---- fields
 
--- where they are good and whole, they are those that are spelled
+-- if they are good and whole, they are those that are spelled
 abbrev AreSpelled : ℕ → List ℕ → Fields → Type 0
 AreSpelled left bytes f = f.verdict ≡ good → f.is_whole ≡ true
     → (bytes ≡ flat_map field_bytes f.fields) × AreFields f.fields × (length f.fields ≤ left)
@@ -240,7 +240,7 @@ fields_from (suc left) place (byte ∷ more) are =
 
 -- ---- the header
 
--- a byte of the head is the one that its place asks for
+-- a byte of the head is the one that belongs to its place
 right_byte : (count place byte : ℕ) (more : List ℕ) (u : Unit {0}) → head_at (suc count) place (byte ∷ more) ≡ whole u
     → (is_wrong place byte ≡ false) × (head_at count (place + 1) more ≡ whole u)
 right_byte count place byte more u e = by_test (is_wrong place byte) refl e
@@ -293,7 +293,7 @@ header_said (Some system) n header e = by_length (is_line_length n) e
         (ap (λ (h : LineHeader). Some h.system) same, ap (λ (h : LineHeader). h.length) same)
     by_length false e = absurd cc
 
--- the byte that a place of the head asks for
+-- the byte that belongs to a place of the head
 right : (byte wanted : ℕ) → not (byte == wanted) ≡ false → byte ≡ wanted
 right byte wanted e = eqb-true byte wanted (not-false (byte == wanted) e)
 

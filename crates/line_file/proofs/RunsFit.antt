@@ -5,7 +5,7 @@ use Rattle.std.proofs.lemmas.Nat.{mul-le}
 use Rattle.vitc_reader.specs.Runs.{AreCells, IsLineLength, StandFor, total}
 use Rattle.line_file.specs.Grammar.{AreRuns}
 
--- so many cells of n ticks last n ticks or more, and not more than 90 n
+-- k cells of n ticks, 90 at most, last n ticks or more, and not more than 90 n
 cells_last : (n k : ℕ) → 1 ≤ k → k ≤ 90 → (n ≤ k * n) × (k * n ≤ 90 * n)
 cells_last n k least most =
     let one : 1 * n ≤ k * n = mul-le 1 n k n least (omega arith) in

@@ -1,4 +1,4 @@
--- The runs of a line as they stand in its bytes.
+-- The runs of a line as they are in its bytes.
 use Rattle.std.proofs.Common.{◌≡◌, ℕ, zero, suc, ◌+◌, ◌*◌, ◌%◌, ◌≤◌, Bool, true, false, List, [], ◌∷◌, ◌++◌, length}
 use Rattle.std.proofs.Common.{take, drop, get_or, refl, sym}
 use Rattle.std.proofs.Common.{ap, ◌∙◌, arith}
@@ -40,7 +40,7 @@ more_run (suc n) (high ∷ low ∷ rest) le =
     let e : 2 * (suc n + 1) ≡ suc (suc (2 * (n + 1))) = omega arith in
     rw (e, one_more n) (ap (λ (xs : List ℕ). (high * 256 + low) ∷ xs) (more_run n rest (omega (arith, le))))
 
--- runs of a tick or more are read as they stand
+-- runs of a tick or more are read as they are
 pub whole_runs : (count place : ℕ) (bytes : List ℕ) → 2 * count ≤ length bytes
     → AreRuns (runs_of_bytes (take (2 * count) bytes))
     → runs_at count place bytes ≡ whole (runs_of_bytes (take (2 * count) bytes))

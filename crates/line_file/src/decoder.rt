@@ -17,7 +17,7 @@ use std::marker::Model;
 use tc_io::put_bytes;
 use vitc_reader::FieldAnswer;
 
-/// So many fields are read, at most.
+/// How many fields are read, at most.
 pub const MAX_FIELDS: u32 = 100_000_000;
 
 /// The most bytes of a field: 20 lines of 89 runs.
@@ -32,9 +32,9 @@ type Part = ArrayVec<u8, FIELD_ROOM>;
 /// What bytes complete.
 #[derive(Clone, Copy)]
 pub enum Taken {
-    /// So many bytes, and no field.
+    /// The number of bytes taken; no field ends with them.
     Nothing(usize),
-    /// So many bytes, and with the last of them a field, which has this answer.
+    /// The number of bytes taken, and the answer of the field that ends with the last of them.
     Field { count: usize, answer: FieldAnswer },
     /// The first fault of the bytes so far.
     Fault(LineFileFault),
@@ -42,12 +42,12 @@ pub enum Taken {
     Limit,
 }
 
-/// What stands at the front of bytes.
+/// What bytes begin with.
 #[derive(Clone, Copy)]
 pub(crate) enum Piece {
     /// The header.
     Header(LineHeader),
-    /// A field of so many bytes, with its answer.
+    /// A field, with its answer and the number of its bytes.
     Field { answer: FieldAnswer, width: usize },
     /// The first bytes of either.
     Short,
@@ -77,7 +77,7 @@ impl Model for LineDecoder {
 }
 
 impl LineDecoder {
-    /// A decoder that stands before the first byte.
+    /// A decoder before the first byte.
     pub fn new() -> LineDecoder
         ensures value { result ≡ no_decoding }
         ensures stands { StandsFor result [] [] }
@@ -135,7 +135,7 @@ impl LineDecoder {
         }
     }
 
-    /// The end of the input: the fault where it may not end here.
+    /// The end of the input: the fault if it may not end here.
     pub fn finish(&self) -> Result<(), LineFileFault>
         ensures ok { OnOk result ((bytes : List ℕ) (answers : List FieldAnswer) → StandsFor self.now bytes answers
             → end_fault_of bytes ≡ None) }
@@ -151,8 +151,8 @@ impl LineDecoder {
     }
 }
 
-/// What stands at the front of the bytes that are kept and of these, behind so many fields. They are kept too where
-/// that is less than a whole piece. Where nothing is kept, no byte of a whole piece is copied.
+/// What the bytes that are kept and these begin with, after `fields` fields. They are kept too if
+/// that is less than a whole piece. If nothing is kept, no byte of a whole piece is copied.
 fn take_piece(
     header: Option<LineHeader>,
     place: u64,
@@ -189,7 +189,7 @@ fn take_piece(
     piece
 }
 
-/// What stands at the front of the bytes that are kept and of these. They are kept too where that is less than a
+/// What the bytes that are kept and these begin with. They are kept too if that is less than a
 /// whole piece.
 fn piece_behind(
     header: Option<LineHeader>,
@@ -216,7 +216,7 @@ fn piece_behind(
     piece
 }
 
-/// What stands at the front of bytes behind so many fields.
+/// What bytes begin with after `fields` fields.
 fn piece_in(header: Option<LineHeader>, place: u64, fields: u32, bytes: &[u8]) -> Piece
     requires header { IfSome header IsHeader }
     requires place { place < 2 ^ 62 }

@@ -21,10 +21,10 @@ pub const MAX_LINES: u8 = 20;
 /// The most runs of a line.
 pub const MAX_RUNS: u8 = 89;
 
-/// What stands at the front of bytes behind the header.
+/// What bytes behind the header begin with.
 #[derive(Clone, Copy)]
 pub(crate) enum FoundField {
-    /// A field of so many bytes, with the answer of its lines.
+    /// A field, with the answer of its lines and the number of its bytes.
     Whole { answer: FieldAnswer, width: usize },
     /// The first bytes of one.
     Short,
@@ -32,7 +32,7 @@ pub(crate) enum FoundField {
     Fault(LineFileFault),
 }
 
-/// The field with which bytes begin, the first of which stands at this place of the file.
+/// The field with which bytes begin, the first of which is at this place of the file.
 pub(crate) fn field_in(header: &LineHeader, place: u64, bytes: &[u8]) -> FoundField
     requires header { IsHeader header.now }
     requires place { place < 2 ^ 62 }
@@ -70,7 +70,7 @@ pub(crate) fn field_in(header: &LineHeader, place: u64, bytes: &[u8]) -> FoundFi
     }
 }
 
-/// Whether the last bytes before this place, so many of them, stand again behind it.
+/// Whether the `last` bytes before this place come again behind it.
 fn stands_again(bytes: &[u8], at: usize, last: usize) -> bool
     requires at { at ≤ length bytes.now }
     requires last { last ≤ at }
@@ -81,7 +81,7 @@ fn stands_again(bytes: &[u8], at: usize, last: usize) -> bool
     last > 0 && bytes[at..].starts_with(&bytes[at - last..at])
 }
 
-/// The line with which bytes begin. Where it is whole the reader takes it.
+/// The line with which bytes begin. If it is whole the reader takes it.
 fn line_in(place: u64, bytes: &[u8], reader: &mut FieldReader) -> Found
     requires place { place < 2 ^ 63 }
     ensures front { front_of result (line_of bytes.now) ≡ line_at place bytes.now }
@@ -108,7 +108,7 @@ fn line_in(place: u64, bytes: &[u8], reader: &mut FieldReader) -> Found
     tried_runs(place, count, bytes)
 }
 
-/// Whether so many runs, each of a tick or more, stand behind the first byte.
+/// Whether `count` runs, each of a tick or more, follow the first byte.
 fn tried_runs(place: u64, count: u8, bytes: &[u8]) -> Found
     requires place { place < 2 ^ 63 }
     requires some { 0 < length bytes.now }
@@ -128,14 +128,14 @@ fn tried_runs(place: u64, count: u8, bytes: &[u8]) -> Found
     Found::Whole
 }
 
-/// How many bytes a line of so many runs has.
+/// How many bytes a line of `count` runs has.
 fn line_width(count: u8) -> usize
     ensures { result ≡ 1 + 2 * count }
 {
     1 + 2 * count as usize
 }
 
-/// Whether a line may have so many runs.
+/// Whether a line may have `count` runs.
 fn is_run_count(count: u8) -> bool
     ensures { result ≡ is_run_count count }
 {

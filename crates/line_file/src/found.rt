@@ -1,7 +1,7 @@
-//! What stands at the front of bytes. Read next: `header`.
+//! What bytes begin with. Read next: `header`.
 use crate::fault::LineFileFault;
 
-/// What stands at the front of bytes.
+/// What bytes begin with.
 #[derive(Clone, Copy)]
 pub(crate) enum Found {
     /// A whole thing.

@@ -33,7 +33,7 @@ pub struct LineHeader {
     pub length: u32,
 }
 
-/// What stands at the front of a file.
+/// What a file begins with.
 #[derive(Clone, Copy)]
 pub(crate) enum FoundHeader {
     /// A header.
@@ -44,7 +44,7 @@ pub(crate) enum FoundHeader {
     Fault(LineFileFault),
 }
 
-/// The header as it stands in a file.
+/// The header as bytes of a file.
 pub fn line_header(header: &LineHeader) -> [u8; 12]
     requires { IsHeader header.now }
     ensures bytes { result ≡ header_bytes header.now }
@@ -87,7 +87,7 @@ fn head_in(bytes: &[u8]) -> Found
     Found::Whole
 }
 
-/// Whether a byte is not the one that its place in the head asks for.
+/// Whether a byte is not the one that its place in the head needs.
 fn is_wrong(place: usize, byte: u8) -> bool
     ensures { result ≡ is_wrong place byte }
 {
@@ -122,14 +122,14 @@ fn header_with(system: Option<System>, length: u32) -> FoundHeader
     }
 }
 
-/// Whether a line may last so many ticks.
+/// Whether a line may last `length` ticks.
 fn is_line_length(length: u32) -> bool
     ensures { result ≡ is_line_length length }
 {
     MIN_LINE_LENGTH <= length && length <= MAX_LINE_LENGTH
 }
 
-/// The system that stands as a number in a header.
+/// The system whose number in a header this is.
 fn system_of_byte(byte: u8) -> Option<System>
     ensures { result ≡ system_at byte }
 {

@@ -5,12 +5,12 @@
 //! directions.
 //!
 //! What this crate promises:
-//! - Each `push_` appends exactly the text of what it is given, and leaves what stands before it
+//! - Each `push_` appends exactly the text of what it is given, and leaves what comes before it
 //!   (`specs/Line.antt`; the clauses `items`).
 //! - A number takes no more digits than its bound says: `push_count` 13, `push_ticks` 19,
 //!   `push_any_number` 20, `push_signed` 11 (the clauses `len`). So a line of many numbers is known to fit
 //!   from its words alone.
-//! - What is read as it is written: `direction_named` and `are_digits` tell the direction and the digits of a
+//! - What is read as it is written: `direction_named` and `are_digits` recognise the direction and the digits of a
 //!   word exactly.
 //!
 //! Read `line`, then `numbers` and `named`, with `specs/Line.antt` beside them. `report_text`, `line_file`,

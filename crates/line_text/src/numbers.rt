@@ -122,7 +122,7 @@ pub fn push_any_number(text: &mut Text, number: u64)
     push_number(text, number);
 }
 
-/// Appends a number in decimal digits, behind a `-` where it is below 0: 11 bytes at most.
+/// Appends a number in decimal digits, behind a `-` if it is below 0: 11 bytes at most.
 pub fn push_signed(text: &mut Text, number: i32)
     requires { array_vec_len text.old + 11 ≤ 128 }
     ensures items { text.new.items ≡ text.old.items ++ signed_decimal number }

@@ -30,7 +30,7 @@ of_frames cell (frame ∷ more) =
     ∙ flat_steady cell (bits_of_words (words_of frame)) (bits_of_words (words_of_frames more))
     ∙ ap (λ (l : List ℕ). intervals_of_frame cell frame ++ l) (of_frames cell more)
 
--- and what stands first before them
+-- and what comes first before them
 pub frame_by_frame : (cell : ℕ) (frames : List Frame)
     → flat (clean_cells cell frames) ≡ intervals_of_lead cell ++ flat_map (intervals_of_frame cell) frames
 frame_by_frame cell frames =

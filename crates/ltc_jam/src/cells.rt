@@ -13,7 +13,7 @@ use flywheel::Frame;
 /// How many intervals 80 cells have at most: two for each one.
 const MOST: usize = 160;
 
-/// The intervals that stand first, in cells of so many ticks: a zero and a one, by which a reader locks.
+/// The intervals that come first, in cells of `cell` ticks: a zero and a one, by which a reader locks.
 pub fn lead(cell: u32) -> ArrayVec<u32, 160>
     requires { IsShaped cell }
     ensures { result.items ≡ intervals_of_lead cell }
@@ -24,7 +24,7 @@ pub fn lead(cell: u32) -> ArrayVec<u32, 160>
     intervals
 }
 
-/// The intervals of a frame, in cells of so many ticks: none where the time code is gone.
+/// The intervals of a frame, in cells of `cell` ticks: none if the time code is gone.
 pub fn frame_cells(cell: u32, frame: &Frame) -> ArrayVec<u32, 160>
     requires { IsShaped cell }
     ensures { result.items ≡ intervals_of_frame cell frame.now }

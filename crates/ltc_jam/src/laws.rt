@@ -32,7 +32,7 @@ pub fn cells_of_one_length_are_shaped()
     ensures { (cell : ℕ) (bits : List Bool) → steady_cells cell bits ≡ shaped (shape_with cell cell 0) bits }
 {}
 
-/// A clean recording is the intervals that stand first, and then those of one frame after another.
+/// A clean recording is the intervals that come first, and then those of one frame after another.
 pub fn a_clean_recording_is_written_frame_by_frame()
     ensures { (cell : ℕ) (frames : List Frame)
         → flat (clean_cells cell frames) ≡ intervals_of_lead cell ++ flat_map (intervals_of_frame cell) frames }
@@ -47,7 +47,7 @@ pub fn words_of_labels_are_spelled()
 }
 
 /// The words that are written for labels of nothing but zeros and for one hour in drop-frame, as 80 bits: no user bit
-/// is set, no flag except that of drop-frame, and the polarity correction where the word wants it to be balanced.
+/// is set, no flag except that of drop-frame, and the polarity correction if the word needs it to be balanced.
 pub fn words_of_round_labels_are_written_so()
     ensures zero_at_30 { time_bits Forward (address C30 0 0 0 0) ≡ 0xbffc0000000008000000 }
     ensures zero_at_25 { time_bits Forward (address C25 0 0 0 0) ≡ 0xbffc0800000000000000 }
@@ -79,8 +79,8 @@ pub fn what_is_read_has_labels_of_its_system()
 }
 
 /// From a clean recording each frame that was heard or invented is read, in order: its word, in its
-/// direction, in its place. No word is refused, and no code is lost, also where the direction changes,
-/// and where frames were gone.
+/// direction, in its place. No word is refused, and no code is lost, even if the direction changes
+/// or frames were gone.
 pub fn clean_recordings_are_read()
     ensures { (system : System) (cell : ℕ) (frames : List Frame) → IsShaped cell → AreFramesOf system frames
         → AreEvents system Normal (flat (clean_cells cell frames)) (clean_events cell frames) }

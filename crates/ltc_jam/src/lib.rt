@@ -2,7 +2,7 @@
 //!
 //! A recording that was damaged is read through a flywheel, which invents the frames that are missing
 //! up to a limit. Here each frame that was heard or invented becomes the 80 cells of a word of its
-//! label, in the direction in which it was played (SMPTE 12M, linear time code). A zero and a one stand
+//! label, in the direction in which it was played (SMPTE 12M, linear time code). A zero and a one come
 //! before all of them, by which a reader locks. User bits are 0, and so are the flags except that of
 //! drop-frame: what the input had in them is not kept.
 //!

@@ -14,7 +14,7 @@ turned k n = reverse_bits_onto k n 0
 spread : (a b p : ℕ) → (a * 2 + b) * p ≡ a * (p * 2) + (0 * 2 + b) * p
 spread a b p = grind arith
 
--- what stood before moves up by k bits
+-- what came before moves up by k bits
 pub onto_split : (k n a : ℕ) → reverse_bits_onto k n a ≡ a * 2 ^ k + turned k n
 unfolding reverse_bits_onto
 onto_split zero n a = omega arith
@@ -28,7 +28,7 @@ onto_split (suc k) n a =
     rw (whole, low, pow-suc 2 k, spread a (n % 2) (2 ^ k)) (omega arith) in
     sum
 
--- the first bit comes to stand above the others
+-- the first bit comes to be above the others
 pub turned-suc : (k n : ℕ) → turned (suc k) n ≡ n % 2 * 2 ^ k + turned k (n / 2)
 unfolding reverse_bits_onto
 turned-suc k n =
@@ -61,11 +61,11 @@ onto_more (suc j) k n a =
     let e : suc j + k ≡ suc (j + k) = omega arith in
     rw (e, ← halved n j) (onto_more j k (n / 2) (a * 2 + n % 2))
 
--- the first j bits come to stand above the others
+-- the first j bits come to be above the others
 pub turned_parts : (j k n : ℕ) → turned (j + k) n ≡ turned j n * 2 ^ k + turned k (n / 2 ^ j)
 turned_parts j k n = onto_more j k n 0 ∙ onto_split k (n / 2 ^ j) (turned j n)
 
--- the first j bits are what stands above
+-- the first j bits are what is above
 pub turned_high : (j k n : ℕ) → turned (j + k) n / 2 ^ k ≡ turned j n
 turned_high j k n = rw (turned_parts j k n)
     (shr_high (turned j n) k (turned k (n / 2 ^ j)) (turned_below k (n / 2 ^ j)))
@@ -95,11 +95,11 @@ turned_twice k n = same_from_bits_below k (turned k (turned k n)) (n % 2 ^ k) (t
 pub turned_moved : (j k n whole : ℕ) → whole ≡ turned (j + k) n → whole / 2 ^ k ≡ turned j n
 turned_moved j k n whole e = rw e (turned_high j k n)
 
--- what stands at the top of 80 bits turned is what stood in the first 16, turned
+-- what is at the top of 80 bits turned is what was in the first 16, turned
 pub top_of_turned : (n : ℕ) → turned 80 n / 2 ^ 64 % 2 ^ 16 ≡ turned 16 n
 top_of_turned n = rw (turned_high 16 64 n) (mod-eq_of_lt (turned_below 16 n))
 
--- the first 16 bits turned are a pattern exactly where they are the pattern turned
+-- the first 16 bits turned are a pattern exactly if they are the pattern turned
 pub turned_is : (n pattern back : ℕ) → back ≡ turned 16 pattern → n % 2 ^ 16 ≡ pattern → turned 16 n ≡ back
 turned_is n pattern back e h =
     sym (mod-eq_of_lt (turned_below 16 n)) ∙ sym (turned_twice 16 (turned 16 n))
@@ -113,7 +113,7 @@ sync_back : turned 16 49148 ≡ 16381
 unfolding reverse_bits_onto
 sync_back = refl
 
--- the bits, turned, end in the sync word where they begin with the sync word turned
+-- the bits, turned, end in the sync word if they begin with the sync word turned
 pub ends_turned : (n : ℕ) → n % 2 ^ 16 ≡ 16381 → turned 80 n / 2 ^ 64 % 2 ^ 16 ≡ 49148
 ends_turned n h = top_of_turned n ∙ turned_is n 16381 49148 (sym sync_turned) h
 

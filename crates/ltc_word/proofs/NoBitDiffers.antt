@@ -1,4 +1,4 @@
--- The sync word is right exactly where none of its bits differs from the pattern's.
+-- The sync word is right exactly if none of its bits differs from the pattern's.
 use Rattle.std.proofs.Common.{◌≡◌, ℕ, zero, suc, ◌+◌, ◌-◌, ◌/◌, ◌%◌, ◌^◌, ◌<◌, Bool, true, false, cond, not}
 use Rattle.std.proofs.Common.{Option, Some, None, refl, sym, ap, ◌∙◌, lit<, arith}
 use Rattle.std.specs.List.{find, range_with_len}

@@ -47,7 +47,7 @@ ones_of_set n place clear =
     let one : count_ones (high + 1) ≡ count_ones high + 1 = rw even at (ones_of_even half) in
     omega arith
 
--- 80 bits with one bit more are balanced where they were not
+-- 80 bits with one bit more are balanced if they were not
 pub balance_turns : (n place : ℕ) → n + 2 ^ place < 2 ^ 80 → n / 2 ^ place % 2 ≡ 0
     → (IsBalanced n → IsBalanced (n + 2 ^ place) → ⊥) × ((IsBalanced n → ⊥) → IsBalanced (n + 2 ^ place))
 balance_turns n place width clear =

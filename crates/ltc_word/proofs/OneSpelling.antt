@@ -45,7 +45,7 @@ says exact system word bits s =
     exact.says system (table_of system) word.fields bits s.valid s.count
     (record { address = s.address; flags = s.flags; user = s.user })
 
--- a truth value that tells a fact is the only one
+-- a truth value that decides a fact is the only one
 pub same_truth : (P : Type 0) (a b : Bool) → (IsTrue a ↔ P) → (IsTrue b ↔ P) → a ≡ b
 same_truth P true true p q = refl
 same_truth P true false p q = sym (q.1 (p.0 refl))

@@ -41,7 +41,7 @@ stands law exact word polarity valid low =
     law 80 (row_with (system_with word.fields.label.count) word.fields polarity)
     (row_is exact (system_with word.fields.label.count) word.fields polarity valid.label low)
 
--- so it spells the word where the balance is right
+-- so it spells the word if the balance is right
 pub spells_with : SumHolds → AreExact → (word : LtcWord) (polarity bits : ℕ) → IsFields word.fields
     → word.fields.user < 2 ^ 32 → polarity < 2
     → bits ≡ bits_with word polarity → (IsTrue word.balanced ↔ IsBalanced bits)

@@ -1,4 +1,4 @@
--- No digit of an address is all ones, and a digit stands in each twelve bits before the sync word, so
+-- No digit of an address is all ones, and a digit is in each twelve bits before the sync word, so
 -- twelve ones in a row are the sync word.
 use Rattle.std.proofs.Common.{◌≡◌, ℕ, ◌+◌, ◌-◌, ◌*◌, ◌/◌, ◌%◌, ◌^◌, ◌<◌, ◌≤◌, inl, inr, arith}
 use Rattle.std.specs.Int.{bit_at}
@@ -16,7 +16,7 @@ use Rattle.ltc_word.specs.Spelling.{Spells}
 use Rattle.ltc_word.specs.Reversal.{HasTwelveOnes}
 use Rattle.tc_address.specs.LabelLemmas.{rate_within}
 
--- a bit that stands in the twelve is set
+-- a bit that is in the twelve is set
 set_at : (bits i p : ℕ) → HasTwelveOnes bits i → i ≤ p → p < i + 12 → bit_at bits p ≡ 1
 set_at bits i p ones le lt = let e : i + (p - i) ≡ p = omega arith in rw e at (ones (p - i) (omega arith))
 
@@ -32,7 +32,7 @@ pub record Stops (bits : ℕ) : Type 0 where
   pub hour_tens : bits / 2 ^ 56 % 2 ^ 2 < 3
   pub sync : bits / 2 ^ 64 % 2 ^ 16 ≡ 49148
 
--- the digits stand in the same places in each system
+-- the digits are in the same places in each system
 same_digits : (system : System) (a : Address) (bits : ℕ) → SpellsAddress (table_of system) a bits
     → SpellsAddress places.TABLE a bits
 same_digits F24 a bits s = s

@@ -1,4 +1,4 @@
--- The word that stands in bits is the one that they spell.
+-- The word that is in bits is the one that they spell.
 use Rattle.std.proofs.Common.{◌≡◌, ℕ, ◌%◌, ◌^◌, ◌<◌, refl, Option, Some, None}
 use Rattle.std.specs.Prelude.{◌↔◌, ◌==◌, IsTrue}
 use Rattle.std.proofs.lemmas.Bool.{eqb-true, eq-eqb}
@@ -53,7 +53,7 @@ the_word_there exact say none one system word bits s =
     one_word exact one system word (word_in system bits) bits s
     (stands exact say system bits s.width s.sync (no_fault_there exact none system word bits s))
 
--- the first fault, where it is not the sync word's, is that of the fields
+-- the first fault, if it is not the sync word's, is that of the fields
 behind_sync : (place : Option ℕ) (found : Option FieldFault) (fault : FieldFault)
     → sync_first place found ≡ Some (Field fault) → found ≡ Some fault
 behind_sync (Some place) found fault is = absurd cc

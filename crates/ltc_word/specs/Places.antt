@@ -1,4 +1,4 @@
--- Where the fields stand that have another place in each system (SMPTE 12M, the table of the
+-- Where the fields are that have another place in each system (SMPTE 12M, the table of the
 -- linear time code word), and all places of a system.
 use Rattle.std.specs.Prelude.{ℕ, Bool, List, ◌∷◌}
 use Rattle.tc_address.specs.declared.system.System.{System}

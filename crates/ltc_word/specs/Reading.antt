@@ -1,4 +1,4 @@
--- What stands in 80 bits that end in the sync word: a word, or the first fault of its fields (SMPTE 12M, the table of
+-- What is in 80 bits that end in the sync word: a word, or the first fault of its fields (SMPTE 12M, the table of
 -- the linear time code word).
 use Rattle.std.specs.Prelude.{ℕ, ◌%◌, ◌==◌, Option}
 use Rattle.tc_address.specs.declared.system.System.{System}

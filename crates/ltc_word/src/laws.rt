@@ -21,7 +21,7 @@ ghost use Rattle.ltc_word.specs.Reversal.{EndsInSync, reversed_bits, HasTwelveOn
 
 use tc_bits::laws::{a_row_is_its_sum, digits_are_exact, fields_are_exact};
 
-/// Where each field stands in a word: its first bit, as the table of the standard has it, and the sync word.
+/// Where each field is in a word: its first bit, as the table of the standard has it, and the sync word.
 pub fn the_places_are_these()
     ensures table { places.TABLE ≡ record {
       frame_units = 0;
@@ -94,8 +94,8 @@ pub fn bits_in_sync_spell_a_word_or_have_a_fault()
     fields_are_exact();
 }
 
-/// The word that stands in bits is the one that they spell, and their first fault is that of the fields
-/// that stand there.
+/// The word that is in bits is the one that they spell, and their first fault is that of the fields
+/// in them.
 pub fn what_stands_in_bits_is_what_they_spell()
     ensures word { (system : System) (word : LtcWord) (bits : ℕ) → Spells system word bits
         → (fault_in system bits ≡ None) × (word ≡ word_in system bits) }
@@ -110,8 +110,8 @@ pub fn what_stands_in_bits_is_what_they_spell()
     fields_are_exact();
 }
 
-/// Twelve ones in a row stand in a word only in its sync word, at the bits 66 to 77. In two words
-/// that follow each other they stand only in the two sync words.
+/// Twelve ones in a row occur in a word only in its sync word, at the bits 66 to 77. In two words
+/// that follow each other they occur only in the two sync words.
 pub fn twelve_ones_are_the_sync_word()
     ensures one { (system : System) (word : LtcWord) (bits i : ℕ) → Spells system word bits → i ≤ 68
         → HasTwelveOnes bits i → i ≡ 66 }

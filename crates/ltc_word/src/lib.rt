@@ -1,7 +1,7 @@
 //! The 80-bit word of linear time code.
 //!
 //! A word is 80 bits, bit 0 first in time: a frame address in decimal digits, eight user groups, five
-//! flags, a bit that corrects the balance, and at the end the sync word, which tells a reader where a
+//! flags, a bit that corrects the balance, and at the end the sync word, which shows a reader where a
 //! word ends and which way the tape runs (SMPTE 12M, the table of the linear time code word). Here the
 //! bits are a number below 2 to the 80th, bit 0 least significant.
 //!
@@ -11,7 +11,7 @@
 //!   (`specs/Spelling.antt`, `Spells`). So each is the other's inverse.
 //! - Other bits are refused with their first fault: the least bit of the sync word that differs, else
 //!   the first fault of the fields (`specs/Fault.antt`, `first_fault`).
-//! - The word that stands in bits, place by place, is the one that they spell (`specs/Reading.antt`,
+//! - The word that is in bits, place by place, is the one that they spell (`specs/Reading.antt`,
 //!   `word_in`; the law `what_stands_in_bits_is_what_they_spell`).
 //! - `ends_in_sync` and `begins_in_reversed_sync` find the end of a word of either direction, each by
 //!   one comparison, and `reversed` takes the bits in reverse order

@@ -1,4 +1,4 @@
-//! Where each field stands in the 80 bits of a word (SMPTE 12M, the table of the linear time code word).
+//! Where each field is in the 80 bits of a word (SMPTE 12M, the table of the linear time code word).
 //! Bit 0 is the first in time, and each field has its least significant bit first. Read next: `reading`.
 
 ghost use Rattle.std.specs.Prelude.{◌≡◌, ◌^◌, ◌<◌};

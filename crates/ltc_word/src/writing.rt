@@ -13,12 +13,12 @@ use tc_address::system_of;
 use tc_bits::field_bits;
 use tc_bits::laws::{a_row_is_its_sum, fields_are_exact};
 
-/// The 80 bits of a word, of which bit 0 comes first in time. The polarity correction is set where
-/// the balance of the word asks for it.
+/// The 80 bits of a word, of which bit 0 comes first in time. The polarity correction is set if
+/// the balance of the word needs it.
 pub fn encode(word: &LtcWord) -> u128
     ensures { Spells (system_with word.now.fields.label.count) word.now result }
 {
-    // The numbers share out the bits, so each of them stands in its place of their sum.
+    // The numbers share out the bits, so each of them is in its place of their sum.
     a_row_is_its_sum();
     fields_are_exact();
     let system = system_of(word.fields.label().count());

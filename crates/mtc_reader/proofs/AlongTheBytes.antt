@@ -1,4 +1,4 @@
--- The events of a list of bytes, told along the list: each byte goes on the message and the row that stand before it.
+-- The events of a list of bytes, defined along the list: each byte goes on the message and the row that come before it.
 use Rattle.std.proofs.Common.{◌≡◌, ℕ, ◌+◌, Bool, true, false, List, [], ◌∷◌, ◌++◌, length, cond, refl, sym, ◌∙◌, ap}
 use Rattle.std.proofs.Common.{append-nil, append_assoc, length-append}
 use Rattle.std.specs.Prelude.{reverse}
@@ -34,7 +34,7 @@ step : (sounds : Bool) (before : List ℕ) (byte : ℕ) (more : List ℕ) → is
 step true before byte more is = rw (reverse_more before byte, length-last before byte, is, length-reverse before) refl
 step false before byte more is = rw (reverse_more before byte, length-last before byte, is) refl
 
--- bytes to come change no event that was told
+-- bytes to come change no event that was given
 pub along : (before more : List ℕ) → events_in (before ++ more) ≡ events_in before ++ events_after before more
 along before [] = ap events_in (append-nil before) ∙ sym (append-nil (events_in before))
 along before (byte ∷ more) =

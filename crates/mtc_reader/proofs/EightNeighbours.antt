@@ -24,7 +24,7 @@ abbrev AreQuarterFrames : List PlacedMessage → Type 0
 AreQuarterFrames [] = Unit {0}
 AreQuarterFrames (one ∷ row) = IsQuarterFrame one.message × AreQuarterFrames row
 
--- what eight carry whose first one stands in a row and whose last one stands behind it
+-- what eight carry whose first one is in a row and whose last one comes behind it
 abbrev begun_at : List PlacedMessage → List PlacedMessage → List MtcEvent
 begun_at row behind = cond (nat_lt (length row) 8) (events_of (eight_event (take 8 (row ++ behind)))) []
 
@@ -47,7 +47,7 @@ short_event : (eight : List PlacedMessage) → length (row_of eight) < 8 → eve
 short_event eight short =
     ap events_of (no_window (row_of eight) (last_place eight) (λ is. absurd (omega (arith, short, is))))
 
--- whose last one would stand behind a full message
+-- whose last one would come behind a full message
 full_stops : (n : ℕ) (row : List PlacedMessage) (full : PlacedMessage) (more : List PlacedMessage)
     → ((numbers : List ℕ) → row_with full.message numbers ≡ [])
     → length (row_of (take n (row ++ full ∷ more))) ≤ length row

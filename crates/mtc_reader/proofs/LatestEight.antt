@@ -109,7 +109,7 @@ no_first xs place is =
 pub padded_full : (row : List ℕ) → length (latest_eight (padded row)) ≡ 8
 padded_full row = omega (arith, length-latest_eight (padded row))
 
--- a row that is long enough hides what stands before it
+-- a row that is long enough hides what comes before it
 latest_eight-padded : (row : List ℕ) → 8 ≤ length row → latest_eight (padded row) ≡ latest_eight row
 latest_eight-padded row long =
     let hidden : length (padded row) - 8 ≡ 8 + (length row - 8) = omega (arith, long) in

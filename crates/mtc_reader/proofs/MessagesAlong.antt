@@ -1,5 +1,5 @@
--- Where bytes hold no message none is complete in them, and a message that is spelled is complete with its last byte,
--- whatever stands before it.
+-- If bytes hold no message none is complete in them, and a message that is spelled is complete with its last byte,
+-- whatever comes before it.
 use Rattle.std.proofs.Common.{◌≡◌, ◌<◌, ◌⊎◌, ℕ, ◌+◌, ◌-◌, Bool, true, false, List, [], ◌∷◌, ◌++◌, length, Some}
 use Rattle.std.proofs.Common.{None}
 use Rattle.std.proofs.Common.{inl, inr, refl, sym, ◌∙◌, ap, subst, arith, append-nil, append_assoc, length-append}
@@ -18,7 +18,7 @@ use Rattle.mtc_reader.specs.StandsFor.{IsPast, events_of}
 use Rattle.mtc_reader.proofs.AlongTheBytes.{events_along}
 use Rattle.mtc_reader.proofs.ReadBack.{after, below, full_step, quarter_step, sounds}
 
--- what messages give, one after another, behind messages, of which the latest stands first
+-- what messages give, one after another, behind messages, of which the latest comes first
 abbrev pub given_by : List Message → List PlacedMessage → List MtcEvent
 given_by messages [] = []
 given_by messages (one ∷ more) =
@@ -34,7 +34,7 @@ data_push : (numbers : List ℕ) (number : ℕ) → AreData numbers → number <
 data_push [] number are below = (below, tt)
 data_push (first ∷ numbers) number are below = (are.0, data_push numbers number are.1 below)
 
--- the bytes of the message so far, its status byte first; where there are none, no byte completes it any more
+-- the bytes of the message so far, its status byte first; if there are none, no byte completes it any more
 abbrev IsIn : List ℕ → Current → Type 0
 IsIn [] current = IsPast current
 IsIn (status ∷ numbers) current =

@@ -15,7 +15,7 @@ use Rattle.mtc_reader.proofs.ReadBack.{below}
 
 -- ---- whether a message begins
 
--- a message and what stands behind it
+-- a message and what comes behind it
 record IsBegun (bytes : List ℕ) : Type 0 where
   spelled : List ℕ
   message : Message

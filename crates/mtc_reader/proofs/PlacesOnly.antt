@@ -1,4 +1,4 @@
--- But for its place an event is told by the bytes that are no system real-time bytes.
+-- But for its place an event is fixed by the bytes that are no system real-time bytes.
 use Rattle.std.proofs.Common.{◌≡◌, ℕ, Bool, true, false, List, [], ◌∷◌, ◌++◌, map, length, cond, if◌then◌else◌, Option}
 use Rattle.std.proofs.Common.{Some, None}
 use Rattle.std.proofs.Common.{refl, sym, ◌∙◌, ap, ap₂, arith, append-nil}

@@ -60,7 +60,7 @@ quarter_is piece quarter bits p b is =
 abbrev pub on : ℕ → ℕ
 on place = place + 1 + 1
 
--- what stands after a quarter frame
+-- what comes after a quarter frame
 abbrev pub after : ℕ → Current
 after quarter = record { kind = kinds.Quarter; numbers = quarter ∷ [] }
 

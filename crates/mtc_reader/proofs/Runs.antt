@@ -195,7 +195,7 @@ label_given direction sent is a place l =
     ∙ ap (λ (event : MtcEvent). event ∷ [])
     (cond-true (is_label a) (Quarter direction a place) (RefusedQuarter direction (fault_of a) place) (label_is a l))
 
--- alone, they are told at their last byte
+-- alone, they are given at their last byte
 pub label_back : (direction : Direction) (sent : Address → List ℕ) → IsSent direction sent → (a : Address) → IsLabel a
     → events_in (quarters (sent a)) ≡ Quarter direction a 15 ∷ []
 label_back direction sent is a l =

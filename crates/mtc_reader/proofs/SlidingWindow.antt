@@ -29,7 +29,7 @@ abbrev pub window_behind : List ℕ → List ℕ → List ℕ
 window_behind window [] = window
 window_behind window (number ∷ more) = window_behind (slid window number) more
 
--- where they end, and what stands there
+-- where they end, and what is there
 abbrev pub place_behind : ℕ → List ℕ → ℕ
 place_behind place [] = place
 place_behind place (number ∷ more) = place_behind (on place) more

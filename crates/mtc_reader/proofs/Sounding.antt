@@ -39,7 +39,7 @@ pub gives_silent : (bytes : List ℕ) (byte : ℕ) → 0xf8 ≤ byte → events_
     ++ events_of None
 gives_silent bytes byte real = events_more bytes byte None (rw (le-ltb byte 0xf8 real) refl)
 
--- each other byte, where a message is complete with it or none is
+-- each other byte, if a message is complete with it or none is
 pub stands_sounding : (reader next : MtcReader) (bytes : List ℕ) (byte : ℕ) → byte < 0xf8
     → next.bytes ≡ reader.bytes + 1
     → ((before : List ℕ) → Keeps reader.message before → Keeps next.message (byte ∷ before))

@@ -1,5 +1,5 @@
 -- Eight quarter frames whose pieces rise give one event, whatever row they come after: the first one may end a row that
--- falls, and where it does not, only the last one carries anything.
+-- falls, and if it does not, only the last one carries anything.
 use Rattle.std.proofs.Common.{◌≡◌, ◌≢◌, ◌<◌, ℕ, ◌+◌, ◌-◌, true, None, List, [], ◌∷◌, ◌++◌, length, map, slice_index}
 use Rattle.std.proofs.Common.{refl, sym, ◌∙◌, ap, subst, arith}
 use Rattle.std.proofs.Common.{append-nil, length-append}
@@ -42,7 +42,7 @@ all_behind messages a b c d e f g h =
     ends_behind (a ∷ b ∷ c ∷ d ∷ e ∷ f ∷ g ∷ h ∷ []) messages (window messages) refl
     ∙ replaced (window messages) a b c d e f g h (eights messages)
 
--- what they give where the first one gives nothing
+-- what they give if the first one gives nothing
 window_along : (place : ℕ) (current : Current) (messages : List Message) (a b c d e f g h : ℕ) → IsRow a b c d e f g h
     → EndsNone messages a
     → events_along place current messages (quarters (a ∷ b ∷ c ∷ d ∷ e ∷ f ∷ g ∷ h ∷ []))

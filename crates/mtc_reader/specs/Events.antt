@@ -1,5 +1,5 @@
 -- The labels that the messages of MIDI Time Code carry. Eight quarter frames in a row carry an address: no other
--- quarter frame and no full message stands between them, and their pieces rise from 0 to 7 or fall from 7 to 0. They
+-- quarter frame and no full message comes between them, and their pieces rise from 0 to 7 or fall from 7 to 0. They
 -- may share quarter frames with other eight.
 use Rattle.std.specs.Prelude.{ℕ, ◌+◌, ◌-◌, ◌*◌, ◌/◌, ◌%◌, ◌==◌, if◌then◌else◌, nat_le, cond, Option, Some, None, Result}
 use Rattle.std.specs.Prelude.{Ok, Err}

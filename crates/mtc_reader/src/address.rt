@@ -32,7 +32,7 @@ fn label(count: Count, hours: u8, minutes: u8, seconds: u8, frames: u8) -> Resul
     )
 }
 
-/// What a full message gives. The count stands above the five bits of the hours.
+/// What a full message gives. The count is above the five bits of the hours.
 pub fn full(hours: u8, minutes: u8, seconds: u8, frames: u8, place: u64) -> MtcEvent
     ensures { result ≡ full_event (full_address hours minutes seconds frames) place }
 {

@@ -12,7 +12,7 @@ const END: u8 = 0xf7;
 /// Bytes below this one are data bytes.
 pub(crate) const STATUS: u8 = 0x80;
 
-/// What the message on its way may still become: a quarter frame, which wants its first data byte, a full
+/// What the message on its way may still become: a quarter frame, which needs its first data byte, a full
 /// message, or nothing more. Of the data bytes of a full message nine are kept, one more than it has.
 #[derive(Drop)]
 pub struct CurrentMessage {

@@ -32,7 +32,7 @@ impl EightQuarters {
         }
     }
 
-    /// The quarter frames in front, where these are eight whose pieces rise from 0 to 7.
+    /// The quarter frames in front, if these are eight whose pieces rise from 0 to 7.
     #[inline(always)]
     pub fn rising(bytes: &[u8]) -> Option<EightQuarters>
         ensures long { IfSome result (λ eight. 16 ≤ length bytes.now) }

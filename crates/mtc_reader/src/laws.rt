@@ -45,8 +45,8 @@ pub fn bytes_are_one_list_of_messages()
 {}
 
 /// The events of bytes are what their messages carry: each full message its address, and each eight
-/// neighbouring messages theirs, where they are quarter frames whose pieces rise or fall. Where system
-/// real-time bytes stand among them, so it is of the others, but for the places.
+/// neighbouring messages theirs, if they are quarter frames whose pieces rise or fall. If system
+/// real-time bytes are among them, so it is of the others, but for the places.
 pub fn messages_carry_the_events()
     ensures places { (messages : List SpelledMessage) (bytes : List ℕ) → AreSounding bytes → AreMessages messages bytes
         → events_in bytes ≡ carried_by (placed 0 messages) }
@@ -92,7 +92,7 @@ pub fn a_run_is_read_back()
         ≡ events_in before ++ run_events (length before) Backward first labels }
 {}
 
-/// An address with a first fault is no label, and that fault is told of it.
+/// An address with a first fault is no label, and that fault is given.
 pub fn the_first_fault_is_told()
     ensures { (fault : LabelFault) (a : Address) → IsFirstFault fault a → (is_label a ≡ false) × (fault_of a ≡ fault) }
 {}

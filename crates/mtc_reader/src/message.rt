@@ -2,7 +2,7 @@
 ghost use Rattle.std.specs.Prelude.{◌≡◌};
 ghost use Rattle.mtc_reader.specs.Messages.{kind_with};
 
-/// The kind of a message, as far as MIDI Time Code tells them apart.
+/// The kind of a message, as far as MIDI Time Code distinguishes them.
 #[derive(Clone, Copy)]
 pub enum MessageKind {
     /// A quarter frame.
@@ -18,7 +18,7 @@ pub enum MessageKind {
 pub enum Message {
     /// The data byte of a quarter frame: a piece from 0 to 7 above four bits.
     QuarterFrame(u8),
-    /// The numbers of a full message. The count stands above the five bits of the hours.
+    /// The numbers of a full message. The count is above the five bits of the hours.
     FullMessage {
         hours: u8,
         minutes: u8,

@@ -66,7 +66,7 @@ impl MtcReader {
         }
     }
 
-    /// Takes bytes up to the one with which an event is complete, and all of them where none is: the same as
+    /// Takes bytes up to the one with which an event is complete, and all of them if none is: the same as
     /// one by one, and quicker. It answers how many these are, and the event.
     pub fn take(&mut self, bytes: &[u8]) -> (usize, Option<MtcEvent>)
         requires { self.old.bytes + length bytes.now ≤ 2 ^ 62 }
@@ -97,8 +97,8 @@ impl MtcReader {
         (at, None)
     }
 
-    /// Takes the eight quarter frames in front where their pieces rise, and answers the event that is complete
-    /// with them. Where the first of them may end eight others, it takes nothing.
+    /// Takes the eight quarter frames in front if their pieces rise, and answers the event that is complete
+    /// with them. If the first of them may end eight others, it takes nothing.
     #[inline(always)]
     fn window(&mut self, bytes: &[u8]) -> Option<MtcEvent>
         requires { self.old.bytes + length bytes.now ≤ 2 ^ 62 }
@@ -176,7 +176,7 @@ impl MtcReader {
         at
     }
 
-    /// Takes two bytes where they are a quarter frame and no event is complete with it, and answers whether it
+    /// Takes two bytes if they are a quarter frame and no event is complete with it, and answers whether it
     /// took them.
     #[inline(always)]
     fn pass(&mut self, status: u8, number: u8) -> bool
@@ -191,7 +191,7 @@ impl MtcReader {
         status == QUARTER_FRAME && number < STATUS && self.quarter_frame(number)
     }
 
-    /// Takes both bytes of a quarter frame where no event is complete with it, and answers whether it took
+    /// Takes both bytes of a quarter frame if no event is complete with it, and answers whether it took
     /// them.
     #[inline(always)]
     fn quarter_frame(&mut self, number: u8) -> bool

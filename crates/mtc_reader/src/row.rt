@@ -51,7 +51,7 @@ impl Row {
         }
     }
 
-    /// Takes a quarter frame where no eight can end with it, and answers whether it took it.
+    /// Takes a quarter frame if no eight can end with it, and answers whether it took it.
     #[inline(always)]
     pub fn pass(&mut self, quarter: u8) -> bool
         ensures keeps { result ≡ true → (before : List Message) → KeepsRow self.old before
@@ -68,7 +68,7 @@ impl Row {
         true
     }
 
-    /// Takes eight quarter frames where no eight can end with the first of them, and answers whether it took
+    /// Takes eight quarter frames if no eight can end with the first of them, and answers whether it took
     /// them.
     #[inline(always)]
     pub fn pass_window(&mut self, eight: EightQuarters) -> bool

@@ -30,7 +30,7 @@ abbrev pub DecidedOnce : Type 0
 DecidedOnce = (steps : List Step) (all others : List Placed) → AreDecided steps all → AreDecided steps others
     → all ≡ others
 
--- what is decided later stands in front of what is decided now
+-- what is decided later comes in front of what is decided now
 pub still_decided : DecidedStays → DecidedOnce → (extra steps : List Step) (all now : List Placed)
     → AreDecided (extra ++ steps) all → AreDecided steps now → (new : List Placed) × (all ≡ new ++ now)
 still_decided stays once [] steps all now later is = ([], once steps all now later is)

@@ -161,7 +161,7 @@ judges_next phase cells now gate next cell answer opened gives rest same least f
           };
     }
 
--- there is no cell: where the sound has ended, all have been given
+-- there is no cell: if the sound has ended, all have been given
 cells_closed : (phase : Phase) (cells now : CellsState) (samples : List ℤ) (given : List Placed)
     → is_drain phase ≡ false
     → ((samples : List ℤ) (given : List Placed) → CellsStandFor cells samples given → GivesCell now samples given None)

@@ -29,7 +29,7 @@ pushed state size = record {
   total = state.total + size - get_or state.ring (place_of state) 0;
 }
 
--- the oldest goes where the next one comes
+-- the oldest goes when the next one comes
 oldest : (state : SizesState) → size_ago state 511 ≡ get_or state.ring (place_of state) 0
 oldest state = ap (λ p. get_or state.ring p 0) (omega arith)
 

@@ -131,7 +131,7 @@ eight_ahead cells some =
     let c = length-drop 8 cells in
     omega (arith, a, b, c, some)
 
--- the intervals of cells in front of these and of those behind which enough others stand
+-- the intervals of cells in front of these and of those that enough others follow
 judged_come_first : (ticks least : ℕ) (cells front waiting : List Measured) (all : List Measured)
     → (front ++ take 8 cells) ++ drop 8 cells ≡ all → waiting ≡ reverse (front ++ take 8 cells)
     → intervals_before ticks least (drop 8 cells) waiting ≡ intervals_of_judged ticks least cells
@@ -257,7 +257,7 @@ so_far_in_all stays once within grid ticks least more samples intervals whole ar
           ∙ ap (λ l. l ++ first.0) (sym are.intervals_are),
     )
 
--- ---- a front that is asked until nothing is left has given them
+-- ---- a front that is emptied until nothing is left has given them
 
 waiting_apart : (judged ahead : List Measured) → length ahead ≤ 8 → (0 < length judged → length ahead ≡ 8)
     → (drop 8 (reverse ahead ++ judged) ≡ judged) × (take 8 (reverse ahead ++ judged) ≡ reverse ahead)
@@ -314,7 +314,7 @@ given_so_far state samples given ready stand =
           ∙ judged_now state samples given stand ready.phase;
     }
 
--- and one that is asked now and then has given a front of them
+-- and one that is emptied now and then has given a front of them
 pub given_first_so_far : DecidedStays → DecidedOnce → (state : FrontState) (samples : List ℤ) (given intervals : List ℕ)
     → state.judging.phase ≡ Sound → FrontStandsFor state samples given
     → AreIntervalsSoFar state.judging.cells.steps.grid state.ticks state.judging.cells.steps.hold.least samples

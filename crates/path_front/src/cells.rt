@@ -19,7 +19,7 @@ pub struct Cells {
     steps: Steps,
     latest: Latest,
     decisions: Decisions,
-    /// Where the cell ended that was given last.
+    /// Where the cell that was given last ended.
     ended: u64,
 }
 
@@ -118,7 +118,7 @@ impl Cells {
         true
     }
 
-    /// The next cell, and none where all that the samples bring have been given.
+    /// The next cell, and none if all that the samples bring have been given.
     pub fn next(&mut self) -> Option<Measured>
         ensures gives { (samples : List ℤ) (given : List Placed) → CellsStandFor self.old samples given
             → GivesCell self.new samples given result }

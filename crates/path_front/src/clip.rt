@@ -5,7 +5,7 @@ ghost use Rattle.path_front.specs.KeptSizes.{SizesStandFor};
 
 use crate::sizes::Sizes;
 
-/// A sample is clipped at so many times the mean size.
+/// At how many times the mean size a sample is clipped.
 pub const CLIP: u32 = 3;
 
 /// A sample that is no greater than this, or what is left of it.

@@ -16,7 +16,7 @@ use step_grid::{Grid, MAX_TICKS};
 #[derive(Drop)]
 pub struct Front {
     judging: Judging,
-    /// So many ticks has a step.
+    /// The ticks of a step.
     ticks: u32,
     /// Those intervals of the latest cell that are not given yet.
     tiles: Tiles,
@@ -33,8 +33,8 @@ impl Model for Front {
 }
 
 impl Front {
-    /// Before the first sample. A step has so many ticks, and the threshold of the hold is never below
-    /// the least.
+    /// Before the first sample. A step has `ticks` ticks, and the threshold of the hold is never below
+    /// `least`.
     pub fn new(grid: Grid, ticks: u32, least: u32) -> Front
         requires grid { IsGrid grid }
         requires least_ticks { 2 ≤ ticks }
@@ -96,7 +96,7 @@ impl Front {
     }
 
     /// Takes the intervals of the next cell that is judged, when those of the one before it have been
-    /// given, and tells whether there is one.
+    /// given, and returns whether there is one.
     fn fill(&mut self) -> bool
         requires { self.old.tiles ≡ [] }
         ensures stands { (samples : List ℤ) (given : List ℕ) → FrontStandsFor self.old samples given
@@ -113,7 +113,7 @@ impl Front {
         true
     }
 
-    /// The next interval, and none where all have been given that the samples bring.
+    /// The next interval, and none if all that the samples bring have been given.
     pub fn next(&mut self) -> Option<u32>
         ensures gives { (samples : List ℤ) (given : List ℕ) → FrontStandsFor self.old samples given
             → GivesInterval self.new samples given result }

@@ -15,7 +15,7 @@ use crate::measured::Measured;
 use arrayvec::ArrayVec;
 use std::marker::Model;
 
-/// So many cells before and behind are looked at.
+/// How many cells before and after a cell are looked at.
 pub const NEIGHBOURS: usize = 8;
 
 /// A cell, and whether the stretch of code breaks in front of it.
@@ -175,7 +175,7 @@ impl Gate {
         }
     }
 
-    /// Takes the next cell, and judges the one behind which eight stand now.
+    /// Takes the next cell, and judges the one that eight cells follow now.
     pub fn feed(&mut self, cell: Measured) -> Option<Judged>
         requires cell { IsMeasured cell }
         requires room { length self.old.ahead ≤ 8 }

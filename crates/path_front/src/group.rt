@@ -31,7 +31,7 @@ impl Model for Group {
     ghost invariant = { λ s. AreGrouped (record { many = s.many; clipped = s.clipped; held = s.held }) };
 }
 
-/// A sum of so many samples, divided by their number.
+/// The mean of `many` samples, from their sum.
 fn mean(sum: i64, many: u32) -> i32
     requires some { 0 < many }
     requires most { many ≤ MAX_SUMMED }
@@ -55,7 +55,7 @@ impl Group {
         }
     }
 
-    /// Takes the next sample, and gives the mean of so many where it is the last of them.
+    /// Takes the next sample, and gives the mean of `summed` samples if it is the last of them.
     pub(crate) fn add(&mut self, summed: u32, sounds: Sounds) -> Option<Sounds>
         requires room { self.old.many < summed }
         requires most { summed ≤ MAX_SUMMED }

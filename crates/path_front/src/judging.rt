@@ -33,7 +33,7 @@ impl Phase {
         }
     }
 
-    /// Where no cell is left: of a sound that has ended all have been given.
+    /// After the last cell: of a sound that has ended all have been given.
     fn closed(self) -> Phase
         ensures { result ≡ closed self }
     {
@@ -124,7 +124,7 @@ impl Judging {
         self.phase = Phase::Rest;
     }
 
-    /// Takes one more cell. Where there is none and the sound has ended, all have been given.
+    /// Takes one more cell. If there is none and the sound has ended, all have been given.
     fn take(&mut self) -> Taken
         ensures takes { Takes self.old self.new result }
         ensures same { SameSound self.old.cells self.new.cells }
@@ -143,7 +143,7 @@ impl Judging {
         }
     }
 
-    /// Judges the next cell behind which enough others stand.
+    /// Judges the next cell that enough others follow.
     fn judge(&mut self) -> Option<Judged>
         ensures gives { IfSome result (λ answer. GivesJudged self.old self.new answer) }
         ensures none { IfNone result (GivesNone self.old self.new) }

@@ -4,7 +4,7 @@ ghost use Rattle.path_front.specs.Latest.{part, sound_ago, sum_of, squares_of, L
 
 use std::marker::Model;
 
-/// So many steps of the sound are kept: what is decided began at most some 2,200 steps ago.
+/// How many steps of the sound are kept: what is decided began at most some 2,200 steps ago.
 pub const KEPT: usize = 4_096;
 
 /// The sound of the latest steps, in a ring.
@@ -55,7 +55,7 @@ impl Latest {
         self.count
     }
 
-    /// The sound of the step so long ago.
+    /// The sound of the step `ago` steps before the latest.
     fn ago(&self, ago: usize) -> i64
         requires { ago < 4_096 }
         ensures value { result ≡ sound_ago self.now ago }
@@ -64,7 +64,7 @@ impl Latest {
         i64::from(self.ring[(self.count as usize + KEPT - ago) % KEPT])
     }
 
-    /// The sum of so many steps up to the one so long ago.
+    /// The sum of `many` steps up to the one `ago` steps before the latest.
     pub(crate) fn sum(&self, ago: usize, many: usize) -> i64
         requires many { many ≤ 96 }
         requires within { ago + many ≤ 4_096 }

@@ -19,7 +19,7 @@ use cell_path::laws::{
     the_cells_cover_the_sound, the_cells_decided_so_far_lie_in_the_sound, what_is_decided_stays,
 };
 
-/// Of how many sounds a mean size is, where samples are clipped, how finely levels are counted, and
+/// Of how many sounds a mean size is, at what size samples are clipped, how finely levels are counted, and
 /// at how many neighbours the gate looks.
 pub fn the_numbers_are_these()
     ensures means { MEANS ≡ 512 }

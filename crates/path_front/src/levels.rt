@@ -9,7 +9,7 @@ use crate::measured::Measured;
 /// Levels are counted in 64ths of the unit of the samples.
 pub const FINE: u64 = 64;
 
-/// A number, or nothing where it is below zero.
+/// A number, or 0 if it is below zero.
 pub(crate) fn above(number: i64) -> u64
     ensures value { result ≡ above number }
     ensures most { result ≤ unsigned_abs number }

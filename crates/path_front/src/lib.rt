@@ -1,4 +1,4 @@
-//! What stands before and behind the best path of cells through a sound.
+//! What comes before and after the best path of cells through a sound.
 //!
 //! Before it, the samples of a sound become steps, so that a cell at play speed has 14 to 27 of them: a
 //! sample stands for some steps, or some are summed. Spikes are clipped at three times the mean size of
@@ -12,17 +12,17 @@
 //! - The cells that are given are those that the steps of the samples decide, as the sound goes on and when
 //!   it ends, each measured in the sound of its own steps (`Cells::feed`, `Cells::finish`, `Cells::next`;
 //!   `specs/Cells.antt`, `GivesCell`, `GivesLastCell`; `specs/Measured.antt`, `measured_of`), whatever is
-//!   asked for when.
+//!   fetched when.
 //! - Each cell is judged by its eight neighbours on either side: the stretch of code breaks in front of
-//!   it where it jumps, where the sound from the middle of the cell before it to its own is too faint, or
-//!   where a half does not fit (`Gate::feed`, `Gate::drain`; `specs/Gate.antt`, `breaks`;
+//!   it if it jumps, if the sound from the middle of the cell before it to its own is too faint, or
+//!   if a half does not fit (`Gate::feed`, `Gate::drain`; `specs/Gate.antt`, `breaks`;
 //!   `specs/Levels.antt`, `specs/Fit.antt`). What cells come behind these neighbours changes nothing.
 //! - Samples go in one by one, and the intervals of the best path come out: at the end those of the definition
 //!   over the list of all samples, and before it those of the cells that were judged so far, whenever they are
-//!   asked for (`Front::feed`, `Front::finish`, `Front::next`; `specs/Front.antt`, `AreIntervals`, `FrontStandsFor`).
+//!   fetched (`Front::feed`, `Front::finish`, `Front::next`; `specs/Front.antt`, `AreIntervals`, `FrontStandsFor`).
 //!   A sound has one list of intervals, which last as long as its steps, or less than 25 steps shorter (`laws`).
 //! - All is kept in fixed room, and no number overflows in 2^40 steps: 2^37 samples of eight steps each.
-//! - The intervals of a cell: a zero is one, a one two halves, and a tick is cut off their front where the
+//! - The intervals of a cell: a zero is one, a one two halves, and a tick is cut off their front if the
 //!   stretch breaks (`tiled`; `specs/Tiles.antt`). Joined again they last as long as the cell (`laws`).
 //!
 //! Read `sizes`, `clip`, `hold`, `group` and `steps`, in this order, then `latest`, `measured`,

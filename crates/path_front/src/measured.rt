@@ -20,12 +20,12 @@ pub struct Half {
 /// What the gate and the intervals need of a cell.
 #[derive(Clone, Copy, Debug, PartialEq, Eq)]
 pub struct Measured {
-    /// So many steps it ends behind the one before it, from 2 to 120.
+    /// How many steps it ends after the one before it, from 2 to 120.
     pub span: u32,
     /// In steps, from 4 to 96.
     pub length: u32,
     pub bit: Bit,
-    /// It does not go on where the cell before it ended.
+    /// It does not begin where the cell before it ended.
     pub jumps: bool,
     pub first: Half,
     pub second: Half,
@@ -68,7 +68,7 @@ fn signed(sign: Sign, number: i64) -> i64
     }
 }
 
-/// A half of a cell, from its shorter part and its longer one, which end so long ago.
+/// A half of a cell, from its shorter part and its longer one, which end `shorter_ago` and `longer_ago` steps ago.
 fn measure_half(
     latest: &Latest,
     shorter_ago: usize,
@@ -93,7 +93,7 @@ fn measure_half(
     }
 }
 
-/// Measures a cell that is decided. All steps up to its end have come, and so many in all.
+/// Measures a cell that is decided. All steps up to its end have come, and at most 2,048 more.
 pub(crate) fn measure(latest: &Latest, ended: u64, decided: Decided) -> Measured
     requires place { decided.placed.cell.place < 45 }
     requires come { decided.placed.end ≤ latest.now.count }

@@ -5,7 +5,7 @@ ghost use Rattle.path_front.specs.KeptSizes.{SizesStandFor};
 
 use std::marker::Model;
 
-/// A mean size is that of so many sounds: some twenty cells at play speed.
+/// Of how many sounds a mean size is: some twenty cells at play speed.
 pub const MEANS: usize = 512;
 
 /// The sizes of the latest 512 sounds, in a ring.
@@ -52,7 +52,7 @@ impl Sizes {
         self.ring[place] = size;
     }
 
-    /// So many times the mean size, where there was a sound.
+    /// `times` times the mean size, if there was a sound.
     pub(crate) fn mean_times(&self, times: u32) -> u32
         requires some { 0 < self.now.count }
         requires times { times ≤ 3 }

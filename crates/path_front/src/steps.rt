@@ -28,7 +28,7 @@ pub(crate) struct Steps {
     clip: Sizes,
     hold: Hold,
     group: Group,
-    /// So many steps of the latest sample, or of the latest mean, are not given yet.
+    /// How many steps of the latest sample, or of the latest mean, are not given yet.
     left: u32,
     latest: Sounds,
     levels: Sizes,
@@ -113,7 +113,7 @@ impl Steps {
         }
     }
 
-    /// The next step, and none where all that the samples bring have been given.
+    /// The next step, and none if all that the samples bring have been given.
     pub(crate) fn next(&mut self) -> Option<Heard>
         requires room { self.old.levels.count + self.old.left ≤ 2 ^ 40 }
         ensures gives { (samples : List ℤ) (given : List Sounds) → StepsStandFor self.old samples given

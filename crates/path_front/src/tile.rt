@@ -9,10 +9,10 @@ use arrayvec::ArrayVec;
 use cell_path::Bit;
 use step_grid::MAX_TICKS;
 
-/// The intervals of a cell: one, or two halves, and a tick in front of them where the stretch breaks.
+/// The intervals of a cell: one, or two halves, and a tick in front of them if the stretch breaks.
 pub type Tiles = ArrayVec<u32, 3>;
 
-/// One or two intervals, and a tick cut off their front where the stretch breaks.
+/// One or two intervals, and a tick cut off their front if the stretch breaks.
 fn cut_off(breaks: bool, first: u32, second: Option<u32>) -> Tiles
     requires { 2 ≤ first }
     ensures { result.items ≡ cut breaks (first ∷ option_to_list second) }
@@ -30,7 +30,7 @@ fn cut_off(breaks: bool, first: u32, second: Option<u32>) -> Tiles
     tiles
 }
 
-/// The intervals of a cell, where a step has so many ticks.
+/// The intervals of a cell, if a step has `ticks` ticks.
 pub fn tiled(ticks: u32, judged: &Judged) -> Tiles
     requires least { 2 ≤ ticks }
     requires most { ticks ≤ MAX_TICKS }

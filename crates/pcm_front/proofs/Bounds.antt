@@ -24,7 +24,7 @@ peak-within most peak size within within_too = peak-by (nat_lt peak size) most p
 pub sum-within : (most sum size : ℕ) → sum ≤ 1_024 * most → size ≤ most → sum_after sum size ≤ 1_024 * most
 sum-within most sum size within within_too = omega arith
 
--- the numbers of a level, where sizes are within this
+-- the numbers of a level, if sizes are within this
 abbrev pub IsWithin : ℕ → Level → Type 0
 IsWithin most level = (level.peak ≤ most) × (level.sum ≤ 1_024 * most)
 

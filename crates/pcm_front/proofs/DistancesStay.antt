@@ -1,4 +1,4 @@
--- The moments of some samples stay where samples follow, and the later ones stand behind them; so do their distances.
+-- The moments of some samples stay if samples follow, and the later ones come behind them; so do their distances.
 use Rattle.std.proofs.Common.{◌≡◌, ℕ, ◌-◌, cond, ℤ, List, [], ◌∷◌, ◌++◌, length, refl, ap, sym, ◌∙◌, append_assoc}
 use Rattle.std.proofs.Common.{append-nil}
 use Rattle.pcm_front.specs.DistanceLemmas.{gaps_after-front, gaps-front}
@@ -24,7 +24,7 @@ moments-stay f threshold xs (s ∷ more) =
           ∙ append_assoc (moments f threshold xs) new later.0,
     )
 
--- the distances, where the first one begins there
+-- the distances, if the first one begins there
 pub distances-stay : (start : Start) (f : ℕ) (threshold : Threshold) (xs more : List ℤ) →
     (rest : List ℕ) × (distances_since start f threshold (xs ++ more) ≡ distances_since start f threshold xs ++ rest)
 distances-stay Crossing f threshold xs more =

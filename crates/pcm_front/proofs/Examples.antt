@@ -52,7 +52,7 @@ sum_of_a_thousand = refl
 peak_falls : (level_of (pos 4_000 ∷ replicate 100 (pos 0))).peak ≡ 900
 peak_falls = refl
 
--- sums of three, where zeros stand before the first
+-- sums of three, with zeros before the first
 sums_of_three : sums 3 (pos 1 ∷ pos 10 ∷ pos 100 ∷ pos 1_000 ∷ neg_ℤ (pos 10_000) ∷ [])
     ≡ pos 1 ∷ pos 11 ∷ pos 111 ∷ pos 1_110 ∷ neg_ℤ (pos 8_900) ∷ []
 unfolding total
@@ -64,7 +64,7 @@ summed : distances_by (from_start 16 (Follow 300) 3)
 unfolding total above below
 summed = refl
 
--- where the first distance begins at the first crossing, it is not among them
+-- if the first distance begins at the first crossing, it is not among them
 summed_from_crossing : distances_by (from_crossing 16 (Follow 300) 3)
     (replicate 3 below ++ (replicate 3 above ++ (replicate 3 below ++ above ∷ []))) ≡ 49 ∷ []
 unfolding total above below

@@ -1,5 +1,5 @@
 -- Sound of one size is sliced into its intervals at a threshold that follows its level too. Its peak is at most its
--- size, so that half of what the peak stands above the mean is at most half of the size: a least threshold of that or
+-- size, so that half of the height of the peak above the mean is at most half of the size: a least threshold of that or
 -- more is the threshold at each sample.
 use Rattle.std.proofs.Common.{◌≡◌, ℕ, zero, suc, ◌+◌, ◌-◌, ◌*◌, ◌≤◌, ℤ, pos, List, [], ◌∷◌, length, take}
 use Rattle.std.proofs.Common.{drop, map, filter, replicate, Option}

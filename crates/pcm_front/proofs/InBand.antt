@@ -45,7 +45,7 @@ stays_none o t inside is some below s in_band = rw is (none t inside some below 
 
 -- ---- a bit for each sample that lies outside a band, as vectors compute it
 
--- a lane of all ones where one number is below another
+-- a lane of all ones if one number is below another
 abbrev below : ℕ → ℕ → ℕ
 below a b = cond (int_lt (to_z w16 a) (to_z w16 b)) 65535 0
 

@@ -1,4 +1,4 @@
--- The pieces of a distance make it up again, each of them is in its range, and those that stand before it ends are the
+-- The pieces of a distance make it up again, each of them is in its range, and those written before it ends are the
 -- first of them.
 use Rattle.std.proofs.Common.{◌≡◌, ℕ, zero, suc, ◌+◌, ◌-◌, ◌*◌, ◌/◌, ◌<◌, ◌≤◌, List, [], ◌∷◌, ◌++◌, replicate, sum}
 use Rattle.std.proofs.Common.{refl, sym, ap, ap₂, ◌∙◌, append_assoc, suc-mul, mul_comm, arith}
@@ -17,7 +17,7 @@ rest_within n d some some_too =
     let above : d - 1 < (d - 1) / n * n + n = lt-div-mul-add (omega (arith, some)) in
     (omega (arith, below, some_too), omega (arith, above))
 
--- the same, where the factors are exchanged
+-- the same, if the factors are exchanged
 rest_is : (n d : ℕ) → 1 ≤ n → 1 ≤ d → (n * whole_pieces n d < d) × (d ≤ n * whole_pieces n d + n)
 rest_is n d some some_too = rw (mul_comm n (whole_pieces n d)) (rest_within n d some some_too)
 
@@ -62,7 +62,7 @@ whole-behind n w d some less =
     let some_too : zero < n = omega (arith, some) in
     ap (λ x. x / n) split ∙ mul-add-div_right some_too w (d - w * n - 1)
 
--- so many pieces come first, where the distance is longer than they are
+-- w pieces come first, if the distance is longer than they are
 pub begun_first : (n w d : ℕ) → 1 ≤ n → w * n < d → pieces_in n d ≡ replicate w n ++ pieces_in n (d - w * n)
 begun_first n w d some less =
     let k = whole_pieces n (d - w * n) in

@@ -237,7 +237,7 @@ within_more : (n m : ℕ) (ds : List ℕ) → n ≤ m → AllByRecursion (λ d. 
 within_more n m [] more are = tt
 within_more n m (d ∷ ds) more are = (omega (arith, more, are.0), within_more n m ds more are.1)
 
--- where no distance is longer than a piece, and none has begun that is, nothing changes
+-- if no distance is longer than a piece, and none has begun that is, nothing changes
 pub short_so : (n : ℕ) (s : Settings) (xs : List ℤ) → IsInterval n → 1 ≤ s.fineness
     → AllByRecursion (λ d. d ≤ n) (distances_by s xs)
     → passed_by s xs < n → intervals_at (Passing n) s xs ≡ intervals_by s xs

@@ -1,4 +1,4 @@
--- A crossing that is still to come lies behind all ticks that have passed, so the pieces that stand before a distance
+-- A crossing that is still to come lies behind all ticks that have passed, so the pieces that come before a distance
 -- ends are the first of its pieces.
 use Rattle.std.proofs.Common.{◌≡◌, ℕ, zero, suc, ◌+◌, ◌-◌, ◌*◌, ◌/◌, ◌<◌, ◌≤◌, ℤ, List, [], ◌∷◌, ◌++◌, length}
 use Rattle.std.proofs.Common.{replicate, ◌^◌, IfSome}
@@ -36,7 +36,7 @@ pub passed_is : (finder : FinderState) (sums : List ℤ) → Finds finder sums
     → passed_in finder ≡ passed_since finder.start finder.fineness finder.threshold sums
 passed_is finder sums finds = ap₂ ticks_since finds.latest finds.tick ∙ late-since _ finder.fineness (length sums)
 
--- ---- the pieces that stand
+-- ---- the pieces that are written
 
 pub begun-below : (pace : Pace) (passed d : ℕ) → passed < d → begun_in pace passed * longest pace < d
 begun-below Ended passed d less = omega (arith, less)
@@ -93,7 +93,7 @@ begun_as pace before distance now n first last is distance_is passes n_is first_
 
 -- ---- the intervals of some samples, and of more
 
--- what comes to the intervals, where one distance more comes at most
+-- what comes to the intervals, if one distance more comes at most
 pub grown : (pace : Pace) (ds : List ℕ) (distance : Option ℕ) (rest : List ℕ) (before now : ℕ)
     → begun pace before ++ rest ≡ flat_map (pieces_in (longest pace)) (option_to_list distance) ++ begun pace now
     → flat_map (pieces_in (longest pace)) (ds ++ option_to_list distance) ++ begun pace now
@@ -118,7 +118,7 @@ brought pace s front more distance p before now brings before_is now_is are =
     ∙ grown pace (distances_by s front) distance (intervals_in p) before now are
     ∙ ap (λ n. (flat_map (pieces_in (longest pace)) (distances_by s front) ++ begun pace n) ++ intervals_in p) before_is
 
--- ---- the ticks, as far as they tell how many pieces stand
+-- ---- the ticks, as far as they say how many pieces are written
 
 pub passes_as : (pace : Pace) (before : ℕ) (distance : Option ℕ) (now first last : ℕ) → first ≡ passed_as pace before
     → last ≡ passed_as pace now → IfSome distance (λ d. (1 ≤ d) × (d ≤ 2 ^ 62)) → Passes before distance now

@@ -1,4 +1,4 @@
--- Where the sound stays on its side at the least threshold, it stays at every one, so a run of such samples brings
+-- If the sound stays on its side at the least threshold, it stays at every one, so a run of such samples brings
 -- nothing.
 use Rattle.std.proofs.Common.{◌≡◌, true, false, ℕ, suc, ◌+◌, ◌-◌, ◌*◌, ◌<◌, ◌≤◌, ℤ, pos, List, [], ◌∷◌, ◌++◌, length}
 use Rattle.std.proofs.Common.{take, drop, length-drop, get_or, Bool, cond, Option, Some, None}

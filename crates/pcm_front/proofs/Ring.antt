@@ -1,4 +1,4 @@
--- A ring keeps the latest samples: a sample that is written over the oldest one stands behind the others.
+-- A ring keeps the latest samples: a sample that is written over the oldest one comes behind the others.
 use Rattle.std.proofs.Common.{◌≡◌, ℕ, zero, suc, ◌+◌, ◌-◌, ◌*◌, ◌<◌, ◌≤◌, ◌==◌, Bool, true, false, cond, ℤ, pos, ◌+ℤ◌}
 use Rattle.std.proofs.Common.{◌-ℤ◌, List, [], ◌∷◌, ◌++◌, length}
 use Rattle.std.proofs.Common.{replicate, take, drop, get_or, unsigned_abs, refl, ap, ap₂, subst, sym, ◌∙◌, append-nil}
@@ -15,7 +15,7 @@ use Rattle.pcm_front.specs.State.{ring_of, window_of, IsRing, IsWindow}
 use Rattle.pcm_front.specs.Sums.{total}
 use Rattle.pcm_front.proofs.Windows.{total-push, window-stays, window-within, zeros-fit, zeros-sum}
 
--- the place behind, in a ring of so many but one
+-- the place after this one, in a ring of `smooth - 1` places
 abbrev pub place_after : ℕ → ℕ → ℕ
 place_after smooth oldest = cond (oldest + 2 == smooth) 0 (oldest + 1)
 

@@ -1,4 +1,4 @@
--- Crossings stand in rising places, none of them the first, and their moments rise with them.
+-- Crossings are in rising places, none of them the first, and their moments rise with them.
 use Rattle.std.proofs.Common.{◌≡◌, ℕ, zero, suc, ◌+◌, ◌-◌, ◌*◌, ◌<◌, ◌≤◌, Bool, true, false, cond, ℤ, List, [], ◌∷◌}
 use Rattle.std.proofs.Common.{length, map, Option, Some, None}
 use Rattle.std.proofs.Common.{refl, ap₂, mul-le-mul_left, mul-suc, one-mul, arith}

@@ -13,7 +13,7 @@ use Rattle.pcm_front.specs.declared.side.Side.TheVariants.{High, Low}
 use Rattle.pcm_front.specs.Side.{side_of, upward}
 use Rattle.pcm_front.specs.Crossing.{apart, tick_in_step, tick_to}
 
--- where a lies below the threshold and b does not, the way to the threshold is a part of the step
+-- if a lies below the threshold and b does not, the way to the threshold is a part of the step
 pub part_of_step : (t : ℕ) (a b : ℤ) → int_le (pos t) a ≡ false → pos t ≤ℤ b → (1 ≤ apart (pos t) a)
     × (apart (pos t) a ≤ apart b a)
 part_of_step t a b below above = grind (arith, ints)

@@ -1,4 +1,4 @@
--- A run of samples goes on through a part of a list where the whole part belongs to it, and else ends in the part.
+-- A run of samples goes on through a part of a list if the whole part belongs to it, and else ends in the part.
 use Rattle.std.proofs.Common.{◌≡◌, ℕ, ◌+◌, ◌-◌, ◌<◌, ◌≤◌, ◌≢◌, ℤ, [], ◌∷◌, map, FitsSigned, to_z, of_z, to_z-of_z, ap₂}
 use Rattle.std.proofs.Common.{Bool, true, false, not, cond, eqb, List, drop, length, length-drop, refl, ap, sym, ◌∙◌}
 use Rattle.std.proofs.Common.{arith}

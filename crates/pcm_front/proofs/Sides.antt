@@ -1,4 +1,4 @@
--- A sample that lies on no side is no crossing, and where the sound stays on its side nothing else changes.
+-- A sample that lies on no side is no crossing, and if the sound stays on its side nothing else changes.
 use Rattle.std.specs.Option.{option_or}
 use Rattle.std.proofs.Common.{◌≡◌, true, false, Option, Some, None, refl}
 use Rattle.pcm_front.specs.declared.side.Side.{Side}

@@ -22,7 +22,7 @@ use Rattle.pcm_front.specs.StandsFor.{IsLevelFor, Finds}
 use Rattle.pcm_front.proofs.OneMore.{side_after-front, same_tick, moments-more, last_or-more, gaps-more}
 use Rattle.pcm_front.proofs.OneMore.{gaps_after-more}
 
--- the level goes on, where the threshold follows it
+-- the level goes on, if the threshold follows it
 level-more : (threshold : Threshold) (level : Level) (xs : List ℤ) (s : ℤ) → IsLevelFor threshold level xs →
     IsLevelFor threshold (next_level threshold level s) (xs ++ s ∷ [])
 level-more (Fixed t) level xs s is = tt
@@ -131,7 +131,7 @@ between-late : (o : Option ℕ) (m f : ℕ) → between (option_map (λ moment. 
 between-late None m f = refl
 between-late (Some x) m f = ap (λ d. Some d) (omega arith)
 
--- the distances of moments, where the first one begins there
+-- the distances of moments, if the first one begins there
 abbrev gaps_since : Start → List ℕ → List ℕ
 gaps_since Crossing moments = gaps moments
 gaps_since Tick moments = gaps_after 0 moments

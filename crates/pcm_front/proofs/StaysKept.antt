@@ -1,6 +1,6 @@
--- What is kept stays in its range, where time passes and where the sound goes over to a side; and the ticks of some
+-- What is kept stays in its range, as time passes and when the sound goes over to a side; and the ticks of some
 -- of the samples
--- have room where those of all have.
+-- have room if those of all have.
 use Rattle.std.proofs.Common.{ℕ, ◌+◌, ◌-◌, ◌*◌, ◌≤◌, ℤ, Option, Some, None, mul-le-mul_left, arith}
 use Rattle.std.specs.Prelude.{IfSome}
 use Rattle.pcm_front.specs.declared.level.Level.{Level}

@@ -1,4 +1,4 @@
--- The sums so far stay where samples follow, and one sample more brings the sum of the latest ones.
+-- The sums so far stay if samples follow, and one sample more brings the sum of the latest ones.
 use Rattle.std.proofs.Common.{◌≡◌, ℕ, zero, suc, ◌+◌, ◌-◌, ◌<◌, ℤ, pos, List, [], ◌∷◌, ◌++◌, length, map, replicate}
 use Rattle.std.proofs.Common.{take, drop}
 use Rattle.std.proofs.Common.{refl, ap, ap₂, sym, ◌∙◌, zero-add, append-nil, append_assoc, add-one, arith}

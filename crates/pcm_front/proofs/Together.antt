@@ -133,7 +133,7 @@ take-more (suc at) (x ∷ xs) within =
     let one : suc at + 1 ≡ suc (at + 1) = omega arith in
     ap (λ n. take n (x ∷ xs)) one ∙ ap (λ more. x ∷ more) (take-more at xs (omega arith))
 
--- after so many of them there is room for one more
+-- after `at` of them there is room for one more
 pub room_for_one : (f tick start at : ℕ) (xs : List ℤ) → at < length xs → tick ≡ start + f * length (take at xs)
     → start + f * length xs ≤ 2 ^ 62
     → tick + f ≤ 2 ^ 62
@@ -152,7 +152,7 @@ pub one_taken : (state now : FinderState) (window pushed : WindowState) (s y : �
 one_taken state now window pushed s y distance some is pushed_is now_is distance_is =
     rw (pushed_is, now_is, distance_is) (one_step state window s y some is)
 
--- ---- the same where each sample stands for itself
+-- ---- the same if each sample stands for itself
 
 pub one_sample : (window : WindowState) (s : ℤ) → IsAlone window → s ≡ total (window.kept ++ s ∷ [])
 one_sample window s is = sym (ap (λ kept. total (kept ++ s ∷ [])) is.1 ∙ alone s)

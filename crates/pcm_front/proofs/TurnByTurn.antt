@@ -106,7 +106,7 @@ all_filter p a (suc n) = all_cond p (p a) a (filter p (range_with_len (a + 1) n)
 
 -- ---- from one to the next
 
--- where the sound is on a side and no sample crosses
+-- if the sound is on a side and no sample crosses
 stays_by : (now : Option Side) (side : Side) → differs (Some side) now ≡ false
     → (option_or now (Some side) ≡ Some side) × (now ≢ Some (other_side side))
 stays_by None side is = (refl, λ other. absurd cc)

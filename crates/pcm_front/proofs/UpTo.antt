@@ -15,7 +15,7 @@ ticks_more : (o : Option ℕ) (a b : ℕ) → a ≤ b → ticks_since o a ≤ ti
 ticks_more None a b later = omega arith
 ticks_more (Some moment) a b later = omega (arith, later)
 
--- more have passed where the tick is later
+-- more have passed if the tick is later
 pub passed_more : (before now : FinderState) → now.latest ≡ before.latest → before.tick ≤ now.tick
     → passed_in before ≤ passed_in now
 passed_more before now same later =

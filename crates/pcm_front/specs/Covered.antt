@@ -1,4 +1,4 @@
--- What the intervals of samples tell of their crossings: which these are, and how many ticks the intervals cover.
+-- What the intervals of samples say of their crossings: which these are, and how many ticks the intervals cover.
 use Rattle.std.specs.Prelude.{◌≡◌, ◌<◌, ◌≤◌, ℕ, ◌+◌, ◌-◌, ℤ, neg_ℤ, List, [], ◌∷◌, map, sum}
 use Rattle.std.specs.List.{AllByRecursion}
 use Rattle.pcm_front.specs.declared.pace.Pace.{Pace}
@@ -32,7 +32,7 @@ moments_by s samples = moments s.fineness s.threshold (sums s.smooth samples)
 
 -- each crossing leads from one side to the other, each beyond the threshold of its own sample, and neighbours lie on
 -- opposite sides, with none between them. The intervals add up to the ticks from the first moment, or from tick 0, to
--- the last one; and where pieces pass, they fall short of these and of what has passed behind them, at the latest
+-- the last one; and if pieces pass, they fall short of these and of what has passed behind them, at the latest
 -- sample, by less than a piece. Sound that is turned over, each sample into its negative, has the same intervals
 pub record TellTheCrossings (pace : Pace) (s : Settings) (samples : List ℤ) : Type 0 where
   pub cross : AllByRecursion (Crosses s.threshold (sums s.smooth samples)) (crossings_by s samples)

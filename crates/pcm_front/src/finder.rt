@@ -47,7 +47,7 @@ impl Model for Finder {
     ghost invariant = { λ s. IsKept (state_of s.fineness s.threshold s.start s.tick s.before s.level s.side s.latest) };
 }
 
-/// From a moment to a later one, where both are there.
+/// From a moment to a later one, if both are there.
 fn between(before: Option<u64>, now: Option<u64>) -> Option<u64>
     requires { IfSome before (λ before. IfSome now (λ now. before < now)) }
     ensures value { result ≡ between before now }
@@ -100,7 +100,7 @@ impl Finder {
         }
     }
 
-    /// Takes one more sum into the level, where the threshold follows it.
+    /// Takes one more sum into the level, if the threshold follows it.
     #[inline(always)]
     fn hear(&mut self, sum: i32)
         requires sum { IsSum sum }

@@ -8,11 +8,11 @@ ghost use Rattle.pcm_front.specs.Distance.{pieces_in, IsInterval};
 pub struct Intervals {
     /// The length of a whole piece, in ticks.
     pub length: u32,
-    /// So many whole pieces come first.
+    /// How many whole pieces come first.
     pub whole: u64,
-    /// Then the rest of a distance, where one ended.
+    /// Then the rest of a distance, if one ended.
     pub rest: Option<u32>,
-    /// And so many whole pieces of one that has not ended.
+    /// And the number of whole pieces of one that has not ended.
     pub begun: u64,
 }
 

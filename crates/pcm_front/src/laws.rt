@@ -28,7 +28,7 @@ pub fn sums_and_thresholds_have_these_limits()
     ensures threshold { MAX_THRESHOLD ≡ 16 * 32767 }
 {}
 
-/// Where a sample below the threshold is followed by one that is not, the tick of the crossing is the
+/// If a sample below the threshold is followed by one that is not, the tick of the crossing is the
 /// least that lies at the threshold or above, on a straight line from the one to the other.
 pub fn a_tick_is_rounded_up()
     ensures { (fineness threshold : ℕ) (a b : ℤ)
@@ -53,7 +53,7 @@ pub fn moments_rise()
         → All (λ distance. 1 ≤ distance) (distances fineness threshold samples) }
 {}
 
-/// No distance is 0, also where the first one runs from tick 0: each is at least 1.
+/// No distance is 0, even if the first one runs from tick 0: each is at least 1.
 pub fn distances_are_some()
     ensures { (settings : Settings) (samples : List ℤ) → 1 ≤ settings.fineness
         → All (λ distance. 1 ≤ distance) (distances_by settings samples) }
@@ -131,7 +131,7 @@ pub fn a_sound_is_sliced_into_its_intervals()
 {}
 
 /// The same at a threshold that follows the level, of at least half the size: the level of the sound does
-/// not raise it. And where the first distance runs from the first sample, these stand behind it.
+/// not raise it. And if the first distance runs from the first sample, these come behind it.
 pub fn a_sound_is_sliced_at_a_threshold_that_follows()
     ensures follow { (fineness threshold size : ℕ) (intervals : List ℕ)
         → 1 ≤ threshold → threshold ≤ size → size ≤ 2 * threshold → AllByRecursion IsInterval intervals
@@ -176,7 +176,7 @@ pub fn pieces_add_up_to_their_distance()
         → AllByRecursion (λ piece. (1 ≤ piece) × (piece ≤ length)) (pieces_in length distance) }
 {}
 
-/// The intervals of samples tell their crossings: each leads from one side to the other, neighbours lie on opposite
+/// The intervals of samples give their crossings: each leads from one side to the other, neighbours lie on opposite
 /// sides
 /// with none between them, the ticks from the first, or from tick 0, to the last are covered, and the sign of the
 /// samples
@@ -192,7 +192,7 @@ pub fn bytes_are_those_of_their_samples()
         → bytes_of (samples_of bytes) ≡ bytes }
 {}
 
-/// Without pieces the intervals are those of whole distances. Where each distance is within a piece, and
+/// Without pieces the intervals are those of whole distances. If each distance is within a piece, and
 /// no more has passed behind the last crossing, pieces change nothing.
 pub fn short_distances_are_whole()
     ensures ended { (settings : Settings) (samples : List ℤ)

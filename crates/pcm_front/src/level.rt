@@ -57,7 +57,7 @@ impl Level {
         level
     }
 
-    /// Half of what the peak stands above the mean size.
+    /// Half of the height of the peak above the mean size.
     pub(crate) fn half_height(self) -> u32
         requires { IsInRange self }
         ensures value { result ≡ half_height self }

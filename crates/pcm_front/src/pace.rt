@@ -13,7 +13,7 @@ use limits::MAX_INTERVAL;
 pub enum Pace {
     /// When the distance has ended, each of at most `MAX_INTERVAL`.
     Ended,
-    /// As it passes, in pieces of so many ticks, from 1 to `MAX_INTERVAL`.
+    /// As it passes, in pieces of this number of ticks, from 1 to `MAX_INTERVAL`.
     Passing(u32),
 }
 
@@ -29,7 +29,7 @@ impl Pace {
         }
     }
 
-    /// How many whole pieces stand of a distance that has not ended, where so many ticks have passed.
+    /// How many whole pieces a distance that has not ended has, if `passed` ticks of it have passed.
     #[inline(always)]
     fn begun(self, passed: u64) -> u64
         requires { IsPace self }
@@ -42,8 +42,8 @@ impl Pace {
         }
     }
 
-    /// What comes to the pieces of a distance of which so many ticks had passed, where this is the
-    /// distance if it has ended, and so many ticks have passed of the one that has not.
+    /// What is added to the pieces of a distance of which `before` ticks had passed: `distance` is its
+    /// length if it has ended, and `now` ticks have passed of the one that has not.
     #[inline(always)]
     pub(crate) fn intervals(self, before: u64, distance: Option<u64>, now: u64) -> Intervals
         requires pace { IsPace self }

@@ -10,7 +10,7 @@ use crate::samples::Samples;
 use crate::side::Side;
 use std::simd::prelude::*;
 
-/// So many samples are looked at at once.
+/// How many samples are looked at at once.
 const LANES: usize = 32;
 
 /// The samples from the least to the most.
@@ -87,7 +87,7 @@ fn first_set(bits: u64, count: usize) -> usize
     }
 }
 
-/// The samples in so many places.
+/// The `LANES` samples from a place on.
 fn lanes_at<S: Samples>(samples: &S, at: usize) -> i16x32
     requires within { at + LANES ≤ length (S.list samples.now) }
     requires room { at + LANES < 2 ^ 64 }
@@ -102,7 +102,7 @@ fn lanes_at<S: Samples>(samples: &S, at: usize) -> i16x32
     i16x32::from_array(lanes)
 }
 
-/// A bit for each sample, which is set where it lies outside a band.
+/// A bit for each sample, which is set if it is outside a band.
 fn outside(band: Band, lanes: i16x32) -> u64
     requires long { length lanes ≡ LANES }
     requires fits { AllByRecursion (FitsSigned w16) lanes }
@@ -113,7 +113,7 @@ fn outside(band: Band, lanes: i16x32) -> u64
     (is_below | is_above).to_bitmask()
 }
 
-/// How many of so many samples from a place on lie in a band, before the first one that does not.
+/// How many of the `LANES` samples from a place on are in a band, before the first one that is not.
 fn run_in<S: Samples>(samples: &S, at: usize, band: Band) -> usize
     requires within { at + LANES ≤ length (S.list samples.now) }
     requires room { at + LANES < 2 ^ 64 }

@@ -25,7 +25,7 @@ pub(crate) fn side_of(threshold: u32, sum: i32) -> Option<Side>
     }
 }
 
-/// Whether the sound stays on its side, or on none. Nearly every sum lets it, so one comparison tells it.
+/// Whether the sound stays on its side, or on none. It does at nearly every sum, so one comparison decides it.
 pub(crate) fn stays(side: Option<Side>, threshold: u32, sum: i32) -> bool
     requires least { 1 ≤ threshold }
     requires most { threshold ≤ 524_272 }
@@ -39,8 +39,8 @@ pub(crate) fn stays(side: Option<Side>, threshold: u32, sum: i32) -> bool
     }
 }
 
-/// The side to which the sound goes over from the other one, if it does. The side that it was on tells
-/// which one that can be, so one comparison tells it.
+/// The side to which the sound goes over from the other one, if it does. The side that it was on shows
+/// which one that can be, so one comparison is enough.
 pub(crate) fn crossed(before: Option<Side>, threshold: u32, sum: i32) -> Option<Side>
     requires least { 1 ≤ threshold }
     requires most { threshold ≤ 524_272 }

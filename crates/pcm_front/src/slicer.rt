@@ -48,7 +48,7 @@ impl Slicer {
         Slicer::summing(fineness, threshold, 1)
     }
 
-    /// A slicer of sums of so many samples, from 1 to `MAX_SMOOTH`, from the first crossing. The
+    /// A slicer of sums of `smooth` samples, from 1 to `MAX_SMOOTH`, from the first crossing. The
     /// threshold is that of the sums.
     pub fn summing(fineness: u32, threshold: Threshold, smooth: u32) -> Slicer
         requires least { 1 ≤ fineness }
@@ -117,7 +117,7 @@ impl Slicer {
     }
 
     /// The ticks that have passed, at the latest sample, since the moment from which the next distance
-    /// runs. They are asked for only where pieces of it stand before it ends.
+    /// runs. They are needed only if pieces of it are written before it ends.
     #[inline(always)]
     pub(crate) fn passed_at(&self, pace: Pace) -> u64
         ensures { result ≡ passed_as pace (passed_of self.now) }

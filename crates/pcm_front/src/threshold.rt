@@ -16,7 +16,7 @@ pub const MAX_THRESHOLD: u32 = 524_272;
 pub enum Threshold {
     /// So far at each sample.
     Fixed(u32),
-    /// At half of what the peak of the sound stands above its mean size, and never nearer than this.
+    /// At half of the height of the peak of the sound above its mean size, and never nearer than this.
     Follow(u32),
     /// At a quarter of it, and never nearer than this: for sound that is dull, or lies on a hum.
     Deep(u32),
@@ -35,7 +35,7 @@ impl Threshold {
         }
     }
 
-    /// The level after one more sum, where the threshold follows it.
+    /// The level after one more sum, if the threshold follows it.
     pub(crate) fn next_level(self, level: Level, sum: i32) -> Level
         requires level { IsInRange level }
         requires sum { IsSum sum }

@@ -23,7 +23,7 @@ pub(crate) struct Window {
     turn: Turn,
 }
 
-/// How a ring of samples stands. These numbers are not in one struct with the samples, so that they can
+/// The place in a ring of samples. These numbers are not in one struct with the samples, so that they can
 /// stay in registers from sample to sample.
 #[derive(Clone, Copy)]
 pub(crate) struct Turn {
@@ -62,7 +62,7 @@ fn moved(sum: i32, comes: i16, goes: i16) -> i32
     sum + i32::from(comes) - i32::from(goes)
 }
 
-/// The place behind, in a ring of so many but one.
+/// The place after this one, in a ring of `smooth - 1` places.
 fn place_after(smooth: u32, place: usize) -> usize
     requires { place + 2 ≤ smooth }
     ensures { result ≡ cond (place + 2 == smooth) 0 (place + 1) }
@@ -97,7 +97,7 @@ impl Turn {
 }
 
 impl Window {
-    /// Before the first sample, where each is 0.
+    /// Before the first sample, when each is 0.
     pub(crate) fn new(smooth: u32) -> Window
         requires least { 1 ≤ smooth }
         requires most { smooth ≤ MAX_SMOOTH }

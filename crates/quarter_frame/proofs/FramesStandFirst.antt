@@ -1,4 +1,4 @@
--- For each list of frames some writer stands, so the text of the frames that follow goes on behind theirs.
+-- For each list of frames there is a writer, so the text of the frames that follow goes on behind theirs.
 use Rattle.std.proofs.Common.{◌≡◌, ℕ, List, [], ◌∷◌, ◌++◌, Option, None, refl, sym, subst, append_assoc, append-nil}
 use Rattle.flywheel.specs.declared.frame.Frame.{Frame}
 use Rattle.quarter_frame.specs.declared.half.Half.{Half}

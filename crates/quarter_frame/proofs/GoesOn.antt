@@ -1,4 +1,4 @@
--- The frames of words go on step by step: an invented frame, and a word that joins, stands one step after the frame
+-- The frames of words go on step by step: an invented frame, and a word that joins, is one step after the frame
 -- before it.
 use Rattle.std.proofs.Common.{◌≡◌, ℕ, zero, suc, ◌+◌, Bool, true, false, not, ◌&&◌, cond, ℤ, pos, ◌+ℤ◌, List, [], ◌∷◌}
 use Rattle.std.proofs.Common.{◌++◌, length, map, Option}
@@ -93,7 +93,7 @@ go_on_invented l word since (suc n) rest label go = (
   go_on_invented l word (since + 1) n rest label (subst (λ k. GoOn (Some (after word k)) rest) (omega arith) go),
 )
 
--- the end, or the next word after so many frames
+-- the frame of code that is gone, if it is gone
 abbrev end_of : Bool → ℕ → List Frame
 end_of gone tick = cond gone (Gone tick ∷ []) []
 

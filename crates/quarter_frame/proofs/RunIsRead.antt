@@ -280,7 +280,7 @@ read_backward r front first text labels l are (inr e) =
     (with_full front first (all_falling labels ++ falling_half e.0) _
     (r.backward_half front 0x7f first labels e.0 (omega arith) l are e.1))
 
--- the pairs of frames, where their text stands behind the full message
+-- the pairs of frames, if their text comes behind the full message
 abbrev pairs_of : List ℕ → List Placed → List MtcEvent
 pairs_of front fs = pairs_read (length front + 10) fs
 

@@ -47,7 +47,7 @@ pub record IsNeighbour (first second : Placed) : Type 0 where
   pub label : before (later first.direction first.label second.label) ≡ earlier first.direction first.label second.label
 
 -- the labels of the quarter frames of a run, which begin at a byte place: for each two frames the earlier one, with the
--- run's direction, at the last of the pair's sixteen bytes. The last frame is read where it is one of two
+-- run's direction, at the last of the pair's sixteen bytes. The last frame is read if it is one of two
 abbrev pub pairs_read : ℕ → List Placed → List MtcEvent
 pairs_read at [] = []
 pairs_read at (first ∷ []) = []

@@ -2,8 +2,8 @@
 //!
 //! A quarter frame message carries four bits of an address, which is hours, minutes, seconds and
 //! frames with its count. Eight of them carry the whole address and span two frames, in the order of
-//! their pieces where the tape moves forward, and in the reverse order where it moves backward. A full
-//! message carries an address at once (MIDI 1.0, MIDI Time Code). A run of frames, which ends where
+//! their pieces if the tape moves forward, and in the reverse order if it moves backward. A full
+//! message carries an address at once (MIDI 1.0, MIDI Time Code). A run of frames, which ends when
 //! the time code is gone or jumps, begins with a full message. Where a run begins, and that both
 //! frames of a pair carry the earlier address of the two, also backward, is this project's own.
 //! MIDI Time Code has no mark for an invented frame.

@@ -17,7 +17,7 @@ use tc_address::{Direction, Label};
 /// Writes the messages of one frame after another.
 #[derive(Drop)]
 pub struct QuarterWriter {
-    /// The half of the next frame, where a run is open.
+    /// The half of the next frame, if a run is open.
     next: Option<Half>,
 }
 
@@ -51,7 +51,7 @@ impl QuarterWriter {
         18
     }
 
-    /// Goes on the open run, or begins one where none is open.
+    /// Goes on the open run, or begins one if none is open.
     fn go_on(&mut self, label: &Label, direction: Direction, room: &mut [u8; 18]) -> usize
         ensures none { self.old ≡ None
             → (result ≡ 18) × (room.new ≡ full_of label.now ++ four_of label.now direction true)
@@ -69,7 +69,7 @@ impl QuarterWriter {
     }
 
     /// Writes the messages of the next frame to the front of the room, and answers how many bytes these
-    /// are: 18 where the frame begins a run, 8 where it goes on one, and 0 where it is `Gone`.
+    /// are: 18 if the frame begins a run, 8 if it goes on one, and 0 if it is `Gone`.
     pub fn frame(&mut self, frame: &Frame, room: &mut [u8; 18]) -> usize
         ensures bytes { take result room.new ≡ written self.old frame.now }
         ensures count { result ≡ length (written self.old frame.now) }

@@ -1,4 +1,4 @@
--- When the frames of a rate begin, after midnight, and which frame of another rate is shown then. A fraction stands as
+-- When the frames of a rate begin, after midnight, and which frame of another rate is shown then. A fraction is kept as
 -- its two numbers.
 use Rattle.std.specs.Prelude.{ℕ, ◌+◌, ◌*◌, ◌/◌, ◌%◌, ◌≤◌, ◌<◌}
 use Rattle.real_time.specs.declared.rate.FrameRate.{FrameRate}

@@ -25,8 +25,8 @@ pub fn a_frame_is_shown_in_itself()
     ensures { (rate : FrameRate) (frame : ℕ) → IsShown rate frame rate frame 0 }
 {}
 
-/// Where the other rate is as fast or faster, the first of its frames that begins with a frame or behind it leads back
-/// to that frame: the one that is shown, where it begins at that very moment, and else the next one.
+/// If the other rate is as fast or faster, the first of its frames that begins with a frame or behind it leads back
+/// to that frame: the one that is shown, if it begins at that very moment, and else the next one.
 pub fn a_frame_comes_back_from_a_faster_rate()
     ensures at { (rate other : FrameRate) (frame there : ℕ)
         → frame * seconds_of rate * frames_in other ≡ there * seconds_of other * frames_in rate
@@ -50,7 +50,7 @@ pub fn moments_by_hand()
     ensures last { IsShown R24 23 R25 23 958 }
 {}
 
-/// So many frames and milliseconds are asked about, at most: more than a day has at any rate.
+/// The most frames and milliseconds that are taken: more than a day has at any rate.
 pub fn the_limits_hold_a_day()
     ensures frames { MAX_FRAMES ≡ 4194304 }
     ensures milliseconds { MAX_MILLISECONDS ≡ 268435456 }

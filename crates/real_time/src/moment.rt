@@ -6,10 +6,10 @@ ghost use Rattle.real_time.specs.Moment.{frame_at, millisecond_at, nearest, pass
 
 use crate::rate::FrameRate;
 
-/// The most frames that are asked about, more than a day of any rate has.
+/// The most frames that are taken, more than a day of any rate has.
 pub const MAX_FRAMES: u64 = 1 << 22;
 
-/// The most milliseconds that are asked about, more than the frames of a day take at any rate.
+/// The most milliseconds that are taken, more than the frames of a day take at any rate.
 pub const MAX_MILLISECONDS: u64 = 1 << 28;
 
 /// The millisecond after midnight that lies nearest to the beginning of a frame, the later one of two.

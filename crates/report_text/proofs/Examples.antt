@@ -60,7 +60,7 @@ a_word : event_line (of_system F25) (Word Forward (word_with (address C25 17 18 
 unfolding of_system word_with digits encode_with
 a_word = refl
 
--- drop-frame has a semicolon; the binary group flags stand in the order 0, 1, 2
+-- drop-frame has a semicolon; the binary group flags are in the order 0, 1, 2
 a_word_backward : event_line (of_system F30) (Word Backward (word_with (address Drop30 0 1 0 2)
     (flags true false true false true) false) 9 800)
     ≡ codes "word backward 00:01:00;02 user deadbee1 flags 10101 balance 0 tick 9 length 800 speed 2000\n"

@@ -41,7 +41,7 @@ pub fn event_text(event: &Event, header: &IntervalHeader) -> Text
     }
 }
 
-/// The line of what is told where each word is asked for a witness, for a recording with this header.
+/// The line of an event when each word needs a witness, for a recording with this header.
 pub fn firm_event_text(event: &FirmEvent, header: &IntervalHeader) -> Text
     requires event { FitsFirmLine event.now }
     requires header { IsTickRate header.now.tick_rate }

@@ -60,7 +60,7 @@ fn row(chance: &mut Chance, bits: u128, dark: u64, light: u64, noise: u64) -> [u
     row
 }
 
-/// How many lines so many fields have, and a sum of their bits.
+/// How many lines are found in `fields` fields, and a sum of their bits.
 fn lines_of(seed: u64, fields: u32) -> (u64, u64) {
     let mut chance = Chance { state: seed };
     let mut reader = PixelReader::new(&Raster::new(WIDTH as u32, 9, 2, 6));

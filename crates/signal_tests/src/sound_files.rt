@@ -42,7 +42,7 @@ const OPEN_LONG: &[u8] =
     \x00\x00fmt\x20\x10\x00\x00\x00\x01\x00\x02\x00\x80\xbb\x00\x00\x00\x00\x00\x00\x08\x00\x20\x00data\
     \xff\xff\xff\xff\x01\x02\x03\x04\x05\x06\x07\x88";
 
-/// What a decoder tells of a file.
+/// What a decoder reads from a file.
 #[derive(Drop)]
 struct Told {
     format: Option<WaveFormat>,
@@ -50,7 +50,7 @@ struct Told {
     end: Result<(), WaveFault>,
 }
 
-/// What a decoder tells of bytes that come in pieces of so many, by whole runs where it is asked.
+/// What a decoder reads from bytes that come in pieces of `piece` bytes, by whole runs if `by_runs`.
 fn read_in_pieces(track: u32, bytes: &[u8], piece: usize, by_runs: bool) -> Told
     requires least { 1 ≤ track }
     requires most { track ≤ 64 }

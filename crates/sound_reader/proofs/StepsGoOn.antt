@@ -43,7 +43,7 @@ reads_on old new left x own waited is reads = λ front given h.
           (sym waited) h.all);
     })
 
--- samples were sliced, where nothing waited
+-- samples were sliced, if nothing waited
 pub sliced_on : (old new : SoundState) (next : Slicer) (count : ℕ) (found : Intervals) (s : List ℤ)
     → slicer.settings_of next ≡ slicer.settings_of old.slicer
     → ((front : List ℤ) → slicer.StandsFor old.slicer front → slicer.StandsFor next (front ++ s))

@@ -14,7 +14,7 @@ pub fn the_limits_are_these()
     ensures samples { MAX_SAMPLES ≡ 2 ^ 50 }
 {}
 
-/// Where no interval waits, what a reader has given are the events of the intervals of all samples that it
+/// If no interval waits, what a reader has given are the events of the intervals of all samples that it
 /// was given, under its settings.
 pub fn what_is_given_are_the_events_of_the_samples()
     ensures { (s : SoundState) (samples : List ℤ) (events : List Event) → StandsFor s samples events → IsSettled s

@@ -8,7 +8,7 @@
 //! - A `SoundReader` that is given samples, piece by piece, gives the events of all samples so far, each
 //!   once and in order, in whatever pieces they come (`specs/Sound.antt`, `StandsFor` and `Brings`; clause
 //!   `brings` of `read`).
-//! - Where it gives no event it has taken all samples, and no interval waits, unless it is full (`all`).
+//! - If it gives no event it has taken all samples, and no interval waits, unless it is full (`all`).
 //! - So they are the events of the intervals of the samples, under the settings that it was made with
 //!   (`laws::what_is_given_are_the_events_of_the_samples`).
 //!

@@ -12,7 +12,7 @@ use limits::{MAX_INTERVAL, MAX_INTERVALS};
 use pcm_front::{Intervals, Slicer};
 use std::marker::Model;
 
-/// So many samples are taken at most: 2 to the 50th, seven hundred years of 48,000 a second.
+/// How many samples are taken, at most: 2 to the 50th, seven hundred years of 48,000 a second.
 pub const MAX_SAMPLES: u64 = 1_125_899_906_842_624;
 
 /// Reads the words of a sound, in either direction, some samples at a time.
@@ -79,7 +79,7 @@ impl SoundReader {
         self.settings
     }
 
-    /// Tells whether it takes no more: it was given as many samples as it takes, or they had as many
+    /// Whether it takes no more: it was given as many samples as it takes, or they had as many
     /// intervals as a recording may have.
     pub fn is_full(&self) -> bool
         ensures { result ≡ is_full self.now }
@@ -166,7 +166,7 @@ impl SoundReader {
     }
 }
 
-/// Tells whether there is no event.
+/// Whether there is no event.
 fn are_none(events: &Events) -> bool
     ensures { IsTrue result ↔ events.now ≡ no_events }
 {

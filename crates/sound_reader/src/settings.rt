@@ -27,7 +27,7 @@ pub struct SoundSettings {
 }
 
 impl SoundSettings {
-    /// Tells whether each of them is in its range.
+    /// Whether each of them is in its range.
     pub fn are_in_range(&self) -> bool
         ensures { IsTrue result ↔ AreInRange self.now }
     {

@@ -1,5 +1,5 @@
--- Noise moves no crossing past those of the clean sound: where the sound lies on a side, the clean sound has reached it
--- at the low bound, and where that reaches it at the high bound, the sound lies there.
+-- Noise moves no crossing past those of the clean sound: if the sound lies on a side, the clean sound has reached it
+-- at the low bound, and if that reaches it at the high bound, the sound lies there.
 use Rattle.std.proofs.Common.{◌≡◌, ℕ, zero, suc, ◌+◌, ◌-◌, ◌*◌, ◌<◌, ◌≤◌, max, Bool, true, false, cond, ℤ, pos, ◌≤ℤ◌}
 use Rattle.std.proofs.Common.{Option, Some, List, [], ◌∷◌, ◌++◌, ◌⊎◌, inl, inr, map, refl, ap, subst, sym, ◌∙◌, add-one}
 use Rattle.std.proofs.Common.{mul-suc, mul-le-mul_left, arith}
@@ -25,7 +25,7 @@ step_bounds f i tick first most =
     let product : f * (i + 1 - 1) ≡ f * (i - 1) + f = ap (λ (k : ℕ). f * k) place ∙ mul-suc f (i - 1) ∙ (omega arith) in
     omega (arith, product, most)
 
--- what lies between others in order comes within the delay where they do
+-- what lies between others in order comes within the delay if they do
 squeezed : (delay : ℕ) (from lows ms highs : List ℕ) → ComeBehind lows from → ComeBehind ms lows → ComeBehind highs ms
     → ComeWithin delay from highs → ComeWithin delay from ms
 squeezed delay [] lows ms (h ∷ highs) low own high within = absurd within
@@ -64,7 +64,7 @@ squeezed_but_last delay last (c ∷ from) (l ∷ lows) (m ∷ ms) (h ∷ highs) 
       | inr all ↦ inr (omega (arith, low.0, own.0), omega (arith, high.0, within.1), all)
     ]
 
--- a turn in so many places comes no later than the last of them
+-- a turn in these places comes no later than the last of them
 one_most : (most m : ℕ) (b : Bool) (over on : List ℕ) → (b ≡ true → m ≤ most)
     → AllByRecursion (λ t. t ≤ most) over → AllByRecursion (λ t. t ≤ most) on
     → AllByRecursion (λ t. t ≤ most) (cond b (m ∷ over) on)
@@ -131,7 +131,7 @@ module _ (f : ℕ) (noise : ℕ → ℕ) (low high : ℕ → ℤ) (threshold : T
   above_at : (i : ℕ) (side : Side) → lies_on threshold sound i side ≡ true → pos (th i) ≤ℤ x i side
   above_at i side is = side_above (th i) (sample_at sound i) side (on_is side (side_at threshold sound i) is)
 
-  -- the moment of the sound, where it lies on a side
+  -- the moment of the sound, if it lies on a side
   moment_is : (i : ℕ) (side : Side) → lies_on threshold sound i side ≡ true
       → moment f threshold sound i ≡ f * (i - 1) + tick_to_bound f (pos (th i)) (x (i - 1) side) (x i side)
   moment_is i side is =
@@ -196,7 +196,7 @@ module _ (f : ℕ) (noise : ℕ → ℕ) (low high : ℕ → ℤ) (threshold : T
         omega (arith, same, bound);
   }
 
-  -- from a place at which the clean sound stands on a side, the crossings in so many places are turns
+  -- from a place at which the clean sound is on a side, the crossings in the k places behind it are turns
   crossings_from : (side : Side) (stop k : ℕ) → first ≤ stop → stop < end
       → reaches (high stop) side (sample_at clean stop) ≡ true
       → map (moment f threshold sound) (filter (is_crossing threshold sound) (range_with_len (stop + 1) k))
@@ -223,7 +223,7 @@ module _ (f : ℕ) (noise : ℕ → ℕ) (low high : ℕ → ℤ) (threshold : T
       (squeezed delay from (turns f low clean side (stop + 1) k) own (turns f high clean side (stop + 1) k) behind lows
       highs within)
 
-  -- so it is where the clean sound may not go all the way behind the last moment, if nothing comes later than the delay
+  -- so it is when the clean sound may not go all the way behind the last moment, if nothing comes later than the delay
   -- behind that one
   pub part_within_but_last : (delay last : ℕ) (from : List ℕ) (side : Side) (stop k : ℕ) → first ≤ stop
       → (stop + 1) + k ≤ end → reaches (high stop) side (sample_at clean stop) ≡ true

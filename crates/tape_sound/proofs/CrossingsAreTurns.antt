@@ -1,4 +1,4 @@
--- The crossings of a sound that stands on a side are its turns at the threshold: each leads to the other side.
+-- The crossings of a sound that is on a side are its turns at the threshold: each leads to the other side.
 use Rattle.std.proofs.Common.{◌≡◌, ℕ, zero, suc, ◌+◌, ◌≤◌, Bool, true, false, cond, Option, Some, None}
 use Rattle.std.proofs.Common.{ℤ, pos, neg_ℤ, ◌≤ℤ◌, int_le, List, ◌∷◌, map, refl, ap, ◌∙◌, add-one, arith}
 use Rattle.std.specs.List.{filter, range_with_len}

@@ -1,4 +1,4 @@
--- A run of even ones of a tape is one of its cells as they are found, where it has room for the delay: each interval is
+-- A run of even ones of a tape is one of its cells as they are found, if it has room for the delay: each interval is
 -- wrong by a delay at most.
 use Rattle.std.proofs.Common.{◌≡◌, ℕ, ◌+◌, ◌-◌, ◌*◌, ◌≤◌, List, [], ◌∷◌, ◌++◌, length, refl, ap, subst, ◌∙◌, arith}
 use Rattle.std.specs.List.{AllByRecursion}

@@ -1,4 +1,4 @@
--- The intervals of a tape as they are found fit a file where its own do, with room for the delay: none is 0, and there
+-- The intervals of a tape as they are found fit a file if its own do, with room for the delay: none is 0, and there
 -- are as many.
 use Rattle.std.proofs.Common.{◌≡◌, ℕ, ◌+◌, ◌<◌, ◌≤◌, List, [], ◌∷◌, length, refl, arith}
 use Rattle.std.specs.List.{AllByRecursion}

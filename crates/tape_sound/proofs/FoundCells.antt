@@ -12,7 +12,7 @@ use Rattle.tape_sound.specs.Margin.{ComeWithin}
 use Rattle.tape_sound.proofs.FoundIsAChain.{found_is_a_chain}
 use Rattle.tape_sound.proofs.LastsLong.{half_drift, lasts, steady_rest}
 
--- cells that are found, with the first transition so many ticks late, and at a moment
+-- cells that are found, with the first transition `first` ticks late, and at a moment
 record Found (delay first moment : ℕ) (tape : List Cell) (moments : List ℕ) : Type 0 where
   cells : List Cell
   are : AreFoundAs delay first tape cells

@@ -9,7 +9,7 @@ use Rattle.biphase.specs.Tolerance.{latest_with, length_of}
 use Rattle.tape_sound.specs.Late.{AreFoundAs, RunsEvenly}
 use Rattle.tape_sound.proofs.FoundLength.{length_found}
 
--- a cell of so many ticks that was found so late, and the next transition so late
+-- a cell of two halves that was found late, from how late it begins to how late the next transition is
 abbrev IsLate : ℕ → ℕ → ℕ → ℕ → Type 0
 IsLate half before length after = length + before ≡ 2 * half + after
 

@@ -1,4 +1,4 @@
--- Where the reader locks at the first cell of a tape, and its cells as they are found follow one another, the words of
+-- If the reader locks at the first cell of a tape, and its cells as they are found follow one another, the words of
 -- the tape are read, each on time.
 use Rattle.std.proofs.Common.{◌≡◌, ℕ, ◌*◌, ◌≤◌, true, false, List, ◌∷◌, take, drop, sym, subst, ◌∙◌}
 use Rattle.biphase.specs.declared.cell.Cell.{Cell}

@@ -1,5 +1,5 @@
--- Of two neighbouring intervals, as they are found, one is nearly as long as the other where both are zeros or both are
--- halves, and nearly half of it where they are a zero and a half: the transition between them is late for both.
+-- Of two neighbouring intervals, as they are found, one is nearly as long as the other if both are zeros or both are
+-- halves, and nearly half of it if they are a zero and a half: the transition between them is late for both.
 use Rattle.std.proofs.Common.{◌≡◌, ℕ, ◌+◌, ◌*◌, ◌<◌, ◌≤◌, List, [], ◌∷◌, arith}
 use Rattle.biphase.specs.declared.cell.Cell.{Cell}
 use Rattle.biphase.specs.declared.cell.Cell.TheVariants.{Zero, One}

@@ -1,4 +1,4 @@
--- Where a cell is compared with the one before it alone, both lengths are wrong by what the same three transitions are
+-- If a cell is compared with the one before it alone, both lengths are wrong by what the same three transitions are
 -- late by, which is little beside a cell that lasts long.
 use Rattle.std.proofs.Common.{◌≡◌, ℕ, ◌+◌, ◌*◌, ◌<◌, ◌≤◌, List, [], ◌∷◌, arith}
 use Rattle.biphase.specs.declared.cell.Cell.{Cell}

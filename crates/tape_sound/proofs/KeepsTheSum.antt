@@ -1,5 +1,5 @@
--- Where a cell is compared with the sum of the four before it, each of the four is wrong by a delay at most, and
--- together they differ from four times the next cell by ten drifts: what is asked of a cell leaves room for both.
+-- If a cell is compared with the sum of the four before it, each of the four is wrong by a delay at most, and
+-- together they differ from four times the next cell by ten drifts: what a cell needs leaves room for both.
 use Rattle.std.proofs.Common.{◌≡◌, ℕ, ◌+◌, ◌*◌, ◌<◌, ◌≤◌, List, [], ◌∷◌, arith}
 use Rattle.biphase.specs.declared.cell.Cell.{Cell}
 use Rattle.biphase.specs.declared.cell.Cell.TheVariants.{Zero, One}
@@ -18,7 +18,7 @@ use Rattle.tape_sound.proofs.LastsLong.{cell_drift, half_drift, steady_rest}
 abbrev IsNear : ℕ → ℕ → ℕ → Type 0
 IsNear delay a b = (a ≤ b + delay) × (b ≤ a + delay)
 
--- a cell of so many ticks comes behind one of others, and outlasts what the sum asks
+-- a cell of c ticks comes behind one of p, and outlasts what the sum needs
 abbrev IsBehind : ℕ → ℕ → ℕ → Type 0
 IsBehind delay c p = (12 * c + 9 * delay ≤ 12 * p + c) × (12 * p + 9 * delay ≤ 12 * c + c)
 
@@ -60,7 +60,7 @@ sum_bounds delay c p q r s latest b nine near = record {
       omega (arith, four, b.last.0, b.second.0, b.third.0, b.fourth.0);
 }
 
--- a cell is as long as the sum asks
+-- a cell is as long as the sum needs
 cell_follows : (delay first last c x sum : ℕ) → first ≤ delay → last ≤ delay → c + last ≡ first + x
     → SumBounds delay c sum → FollowsSum ROUGH sum (Zero x)
 cell_follows delay first last c x sum early late is b = let least = b.least in let most = b.most in

@@ -1,4 +1,4 @@
--- What each tolerance asks of a cell leaves it longer than eight drifts and ten delays, and each half longer than four
+-- What each tolerance needs of a cell leaves it longer than eight drifts and ten delays, and each half longer than four
 -- delays: no transition is found behind the next one.
 use Rattle.std.proofs.Common.{ℕ, ◌+◌, ◌*◌, ◌<◌, ◌≤◌, List, [], ◌∷◌, arith}
 use Rattle.biphase.specs.declared.cell.Cell.{Cell}

@@ -1,4 +1,4 @@
--- Cells that begin so many ticks later have the same events, so many ticks later.
+-- Cells that begin some ticks later have the same events, later by as many ticks.
 use Rattle.std.proofs.Common.{◌≡◌, ℕ, ◌+◌, ◌-◌, Bool, true, false, List, [], ◌∷◌, ◌++◌, length, take, drop, map, refl}
 use Rattle.std.proofs.Common.{ap, ap₂, sym, ◌∙◌}
 use Rattle.std.proofs.Common.{Option, Some, None, arith}
@@ -17,7 +17,7 @@ use Rattle.direction_reader.specs.Candidate.{event_of, candidate_in}
 use Rattle.direction_reader.specs.ListEvents.{bits_in, duration, events_at, events_of_cells, events_of_window}
 use Rattle.direction_reader.specs.Played.{Played, events_of_words}
 
--- an event, so many ticks later
+-- an event, later by `ticks`
 abbrev pub later : ℕ → Event → Event
 later ticks (Word direction word tick length) = Word direction word (ticks + tick) length
 later ticks (Refused direction fault tick) = Refused direction fault (ticks + tick)

@@ -113,7 +113,7 @@ made_margin profile f size noise low high threshold tape noisy some low_is high_
   steady = steady_scaled profile f tape some steady;
 }
 
--- ---- where the threshold and the noise leave room
+-- ---- if the threshold and the noise leave room
 
 low_within : (size t noise : ℕ) → 1 ≤ t → t + noise ≤ size → IsWithinSize size (pos t -ℤ pos noise)
 low_within size t noise some room =

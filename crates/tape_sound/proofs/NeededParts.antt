@@ -13,7 +13,7 @@ use Rattle.tape_sound.specs.Margin.{turns, ComeBehind, ComeWithin, GoesOverAt, H
 abbrev minus : ℕ → ℤ
 minus n = neg_ℤ (pos n)
 
--- noise of 6 lifts a sample to the threshold, where the low bound leaves room for 3
+-- noise of 6 lifts a sample to the threshold, if the low bound leaves room for 3
 abbrev dips_clean : List ℤ
 dips_clean = minus 20 ∷ minus 1 ∷ pos 20 ∷ []
 

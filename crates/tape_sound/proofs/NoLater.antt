@@ -37,7 +37,7 @@ two_parts t a b below above = grind (arith, ints)
 some_part : (t a : ℤ) → int_le t a ≡ false → 1 ≤ apart t a
 some_part t a below = grind (arith, ints)
 
--- where the higher bound is reached, so is the lower one
+-- if the higher bound is reached, so is the lower one
 reached_too : (t u : ℤ) (n : ℕ) (a x : ℤ) → (u +ℤ pos n) ≤ℤ t → apart a x ≤ n → int_le t a ≡ true → int_le u x ≡ true
 reached_too t u n a x lower near is = grind (arith, ints)
 

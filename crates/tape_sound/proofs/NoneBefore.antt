@@ -1,4 +1,4 @@
--- Until a clean sound stands on a side, it does not reach the other one at the low bound, so the sound lies on no
+-- Until a clean sound is on a side, it does not reach the other one at the low bound, so the sound lies on no
 -- other, and has no crossing.
 use Rattle.std.proofs.Common.{◌≡◌, ℕ, zero, suc, ◌+◌, ◌<◌, ◌≤◌, Bool, true, false, cond, ℤ, Option, Some, None, ◌⊎◌}
 use Rattle.std.proofs.Common.{inl, inr}
@@ -50,7 +50,7 @@ no_crossing p a (suc k) none =
     ap (λ (b : Bool). cond b (a ∷ more) more) (none a (omega arith))
     ∙ no_crossing p (a + 1) k (λ i h. none i (omega (arith, h)))
 
--- ---- a sound that lies on a side only where the clean one has reached it
+-- ---- a sound that lies on a side only if the clean one has reached it
 
 module _ (low high : ℕ → ℤ) (threshold : Threshold) (clean sound : List ℤ) (end : ℕ)
     (has_reached : (i : ℕ) → i < end → (side : Side) → lies_on threshold sound i side ≡ true

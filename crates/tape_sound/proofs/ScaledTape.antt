@@ -1,4 +1,4 @@
--- A tape whose lengths are counted in samples is as steady in ticks, where the delay is a sample.
+-- A tape whose lengths are counted in samples is as steady in ticks, if the delay is a sample.
 use Rattle.std.proofs.Common.{◌≡◌, ℕ, ◌+◌, ◌*◌, ◌<◌, ◌≤◌, Bool, true, false, List, [], ◌∷◌, map, refl, ap, sym}
 use Rattle.std.proofs.Common.{subst, mul-add}
 use Rattle.std.proofs.Common.{mul-le-mul_left, arith}
@@ -25,7 +25,7 @@ length_scaled : (f : ℕ) (cell : Cell) → length_of (scaled_cell f cell) ≡ f
 length_scaled f (Zero c) = refl
 length_scaled f (One a b) = sym (mul-add f a b)
 
--- lengths that differ by so many samples at most differ by so many times as many ticks
+-- lengths that differ by at most `most` samples differ by at most f times as many ticks
 apart_scaled : (f a b most : ℕ) → a ≤ b + most → f * a ≤ f * b + f * most
 apart_scaled f a b most less =
     let product : f * a ≤ f * (b + most) = mul-le-mul_left f less in
@@ -45,7 +45,7 @@ drift_scaled f p (One a b) =
     let second = apart_scaled f b a drift (omega arith) in
     omega (arith, more, less, first, second, mul-add f a b)
 
--- so many drifts and so many samples are less than a cell, also in ticks
+-- drifts and delays that are together less than a cell are so in ticks too
 long_scaled : (f drifts delays drift c : ℕ) → 1 ≤ f → drifts * drift + delays * 1 < c
     → drifts * (f * drift) + delays * f < f * c
 long_scaled f drifts delays drift c some less =

@@ -102,7 +102,7 @@ FirstDistance = (f : ℕ) (threshold : Threshold) (samples : List ℤ) (first : 
     → moments f threshold samples ≡ first ∷ more
     → distances_from_start f threshold samples ≡ first ∷ distances f threshold samples
 
--- the distances from the first sample on: that of the first crossing stands before the others
+-- the distances from the first sample on: that of the first crossing comes before the others
 from_start : FirstDistance → (profile : Profile) (f : ℕ) (threshold : Threshold) (tape : List Cell) (sound : List ℤ)
     → (some : 1 ≤ f) → (m : HasMargin profile f threshold tape sound)
     → let own = heard_with profile f threshold tape sound some m in

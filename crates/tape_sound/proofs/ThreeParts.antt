@@ -1,4 +1,4 @@
--- The crossings of some samples are those up to a place, those in so many places from there, and those behind.
+-- The crossings of some samples are those up to a place, those in some places from there, and those behind.
 use Rattle.std.proofs.Common.{◌≡◌, ℕ, zero, suc, ◌+◌, ◌-◌, ◌≤◌, Bool, ℤ, List, ◌∷◌, ◌++◌, length, map, ap}
 use Rattle.std.proofs.Common.{◌∙◌, arith}
 use Rattle.std.specs.List.{filter, range_with_len}

@@ -8,7 +8,7 @@ use Rattle.pcm_front.specs.declared.side.Side.{Side}
 use Rattle.pcm_front.specs.Side.{other_side}
 use Rattle.tape_sound.specs.Margin.{turns_by, ComeBehind}
 
--- the one stands on a side, and the other, which is so many turns ahead, on this one
+-- the one is on a side, and the other, which is ahead by these turns, on this one
 abbrev IsAhead : List ℕ → Side → Side → Type 0
 IsAhead [] side ahead = ahead ≡ side
 IsAhead (m ∷ ms) side ahead = IsAhead ms (other_side side) ahead

@@ -1,5 +1,5 @@
 -- Each crossing of a sound comes within the delay of its own moment, and there are no others: there is none up to the
--- place where the clean sound stands on a side, and from there on they lie between its turns.
+-- place where the clean sound is on a side, and from there on they lie between its turns.
 use Rattle.std.proofs.Common.{◌≡◌, ℕ, ◌+◌, ◌-◌, ◌≤◌, ℤ, List, [], ◌++◌, length, map, ap}
 use Rattle.std.proofs.Common.{subst, sym, ◌∙◌, append-nil, arith}
 use Rattle.pcm_front.specs.declared.threshold.Threshold.{Threshold}
@@ -15,7 +15,7 @@ module _ (f : ℕ) (noise : ℕ → ℕ) (low high : ℕ → ℤ) (delay : ℕ) 
     (clean sound : List ℤ) (some : 1 ≤ f) (noisy : IsNoisy noise clean sound)
     (stays : StaysBetween low high noise threshold sound)
     (at : GoesOverAt f low high delay from clean) where
-  -- up to the place where the clean sound stands on its side
+  -- up to the place where the clean sound is on its side
   none : moments_in f threshold sound 0 (at.first + 1) ≡ []
   none =
       ap (map (moment f threshold sound))

@@ -39,7 +39,7 @@ heard_with profile f threshold tape sound some m =
     (goes_over_within f m.noise m.low m.high m.delay threshold (transitions m.start tape) m.clean sound some m.noisy
     m.stays m.goes_over)
 
--- the distances fit a file where the tape's intervals do
+-- the distances fit a file if the tape's intervals do
 pub distances_fit : (profile : Profile) (f : ℕ) (threshold : Threshold) (tape : List Cell) (sound : List ℤ) → 1 ≤ f
     → (m : HasMargin profile f threshold tape sound) → FitsAFile m.delay tape
     → AllByRecursion IsInterval (distances f threshold sound)

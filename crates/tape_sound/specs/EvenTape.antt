@@ -16,7 +16,7 @@ AreEvenOnesFor delay even (One a b ∷ cells) =
 -- the tape has a zero, nine neighbouring ones or more behind it, and then a zero, and these stand whole in some
 -- intervals,
 -- which begin with those of the tape from the place `cut` on, the last zero in their place `end`. The ones and the zero
--- behind them are even to one length, also where each interval is a delay shorter or longer
+-- behind them are even to one length, even if each interval is a delay shorter or longer
 pub record IsEvenRunFor (delay : ℕ) (intervals : List ℕ) (tape : List Cell) (cut end : ℕ) : Type 0 where
   pub before : List Cell
   pub first : ℕ

@@ -1,4 +1,4 @@
--- A tape that runs steadily, and its cells as they are found where each transition is found some ticks late. The delay
+-- A tape that runs steadily, and its cells as they are found if each transition is found some ticks late. The delay
 -- is the most by which one is: it is found at its moment on the tape or later, and by no more ticks than that. The
 -- rules are this project's own.
 use Rattle.std.specs.Prelude.{◌≡◌, ℕ, ◌+◌, ◌*◌, ◌<◌, ◌≤◌, max, List, [], ◌∷◌}
@@ -21,7 +21,7 @@ abbrev pub drift_from : ℕ → Cell → ℕ
 drift_from before cell = max (abs_diff (length_of cell) before) (uneven cell)
 
 -- what a tolerance asks of a cell: that it lasts longer than a number of drifts and of delays together. The more
--- steadily a tape runs, the later its transitions may be found. The rough tolerance asks two things, of the halves and
+-- steadily a tape runs, the later its transitions may be found. The rough tolerance needs two things, of the halves and
 -- of the cells
 abbrev pub Outlasts : Profile → ℕ → ℕ → ℕ → Type 0
 Outlasts Normal delay drift length = 16 * drift + 32 * delay < length

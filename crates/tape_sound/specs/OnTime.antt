@@ -1,4 +1,4 @@
--- Words that are told: the same words, each with a tick and a length that are wrong by a delay at most, or by anything.
+-- Words as given: the same words, each with a tick and a length that are wrong by a delay at most, or by anything.
 use Rattle.std.specs.Prelude.{◌≡◌, ℕ, ◌+◌, ◌≤◌, List, [], ◌∷◌, map}
 use Rattle.direction_reader.specs.declared.event.Event.{Event}
 use Rattle.direction_reader.specs.declared.event.Event.TheVariants.{Word, Refused, Lost}

@@ -24,7 +24,7 @@ use Rattle.tape_sound.specs.Margin.{moments_in, noise_in_step, reaches, turns, C
 
 -- a part of a sound has a margin for a part of a tape. From a place on, at which the clean sound stands on a side at
 -- the high bound, this many samples are those of the clean sound and some noise, and in them it goes over at each of
--- these neighbouring transitions of the tape. What stands before and behind may be anything
+-- these neighbouring transitions of the tape. What comes before and behind may be anything
 pub record PartHasMargin (profile : Profile) (fineness : ℕ) (threshold : Threshold) (tape : List Cell) (cut : ℕ)
     (sound : List ℤ) (first count : ℕ) : Type 0 where
   -- the tape, and the transitions of the part
@@ -66,7 +66,7 @@ pub record FindThePart (system : System) (profile : Profile) (fineness : ℕ) (t
       × TellFrom system (before ++ kept) (length before + second) cells events
 
 -- the events of a sound find this part of the tape under the rough tolerance, behind even ones. Its distances are a
--- piece of cells with the tape's bits, which have a run of even ones where the tape has one with room for the delay.
+-- piece of cells with the tape's bits, which have a run of even ones if the tape has one with room for the delay.
 -- From the next unequal pair behind such a run and its zero to their end the events are those of these cells, and
 -- nothing else
 pub record FindThePartBehindOnes (system : System) (delay fineness : ℕ) (threshold : Threshold) (tape : List Cell)

@@ -1,5 +1,5 @@
--- A sound as it is told part by part: in each part its threshold rises or falls from a value to another, but for a
--- ripple, or stands, and its noise has one bound. The rules are this project's own.
+-- A sound that is given part by part: in each part its threshold rises or falls from a value to another, but for a
+-- ripple, or stays, and its noise has one bound. The rules are this project's own.
 use Rattle.std.specs.Prelude.{◌≡◌, ℕ, ◌+◌, ◌-◌, ◌<◌, ◌≤◌, min, max, cond, nat_le, nat_lt, Bool, true, false}
 use Rattle.std.specs.Prelude.{List, [], ◌∷◌, length, ℤ, pos, ◌+ℤ◌, ◌-ℤ◌}
 use Rattle.pcm_front.specs.declared.threshold.Threshold.{Threshold}

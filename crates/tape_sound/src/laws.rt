@@ -48,7 +48,7 @@ pub fn a_steady_tape_is_found_within_the_tolerance()
         → bits cells ≡ bits tape }
 {}
 
-/// Where nothing on the tape drifts by more than a hundredth, it is steady if each cell is longer than
+/// If nothing on the tape drifts by more than a hundredth, it is steady if each cell is longer than
 /// 40 delays under the normal tolerance, 28 under the worn and 11 under the rough one.
 pub fn a_tape_within_a_hundredth_is_steady()
     ensures steady { (profile : Profile) (delay : ℕ) (tape : List Cell)
@@ -59,7 +59,7 @@ pub fn a_tape_within_a_hundredth_is_steady()
 {}
 
 /// Fewer are too few. A one that is longer than 38 delays of 50 ticks, and whose halves differ by a
-/// hundredth, breaks the normal tolerance where its middle is found late; so does one of 27 such delays
+/// hundredth, breaks the normal tolerance if its middle is found late; so does one of 27 such delays
 /// under the worn tolerance, and one of 10 delays of 10 ticks under the rough one.
 pub fn fewer_delays_are_refused()
     ensures normal { IsWithinAHundredth 38 50 (One 960 941 ∷ [])
@@ -84,7 +84,7 @@ pub fn the_numbers_of_steadiness_are_the_least()
         × AreFoundAs 10 0 (One 48 48 ∷ []) (One 58 38 ∷ []) × ¬ IsChain Rough (One 58 38 ∷ []) }
 {}
 
-/// Noise moves no crossing past the delay. Where a clean sound goes over once at each of some moments,
+/// Noise moves no crossing past the delay. If a clean sound goes over once at each of some moments,
 /// all the way from the low bound to the high one within the delay, so does the sound with noise: each
 /// of its crossings comes within the delay, and there are no others.
 pub fn noise_keeps_crossings_within_the_delay()
@@ -94,8 +94,8 @@ pub fn noise_keeps_crossings_within_the_delay()
         → ComeWithin delay from (moments fineness threshold sound) }
 {}
 
-/// So the distances of such a sound are the intervals of the tape's cells as they are found, where each
-/// interval of the tape lasts two delays or more. This asks nothing of any tolerance.
+/// So the distances of such a sound are the intervals of the tape's cells as they are found, if each
+/// interval of the tape lasts two delays or more. This needs nothing of any tolerance.
 pub fn distances_are_the_cells_as_they_are_found()
     ensures { (fineness : ℕ) (noise : ℕ → ℕ) (low high : ℕ → ℤ) (delay start : ℕ) (threshold : Threshold)
         (tape : List Cell) (clean sound : List ℤ) → 1 ≤ fineness → IsNoisy noise clean sound
@@ -104,10 +104,10 @@ pub fn distances_are_the_cells_as_they_are_found()
         → AreFoundCells delay tape (distances fineness threshold sound) }
 {}
 
-/// Each part of this is needed. Where noise of 6 meets a low bound that leaves room for 3, the sound crosses
-/// too soon; where the clean sound comes back over the low bound, though not over the high one, it
-/// crosses too often; and where the clean sound is slow to reach the high bound, too late. It crosses
-/// too soon also where the noise at a sample has room, and the louder one at the sample before has not.
+/// Each part of this is needed. If noise of 6 meets a low bound that leaves room for 3, the sound crosses
+/// too soon; if the clean sound comes back over the low bound, though not over the high one, it
+/// crosses too often; and if the clean sound is slow to reach the high bound, too late. It crosses
+/// too soon also if the noise at a sample has room, and the louder one at the sample before has not.
 pub fn each_part_of_a_margin_is_needed()
     ensures dips { let clean = neg_ℤ (pos 20) ∷ neg_ℤ (pos 1) ∷ pos 20 ∷ [] in
         let sound = neg_ℤ (pos 20) ∷ pos 5 ∷ pos 20 ∷ [] in
@@ -144,9 +144,9 @@ pub fn a_threshold_stays_within_the_level()
     levels_are_bounded();
 }
 
-/// Part by part. Where over each part of a sound the threshold rises, or falls, from a value to another,
-/// but for a ripple, and the noise is at most so loud, the threshold stays between the bounds that these
-/// numbers give. A plateau is a part that begins and ends with one threshold. Where it never falls from a
+/// Part by part. If over each part of a sound the threshold rises, or falls, from a value to another,
+/// but for a ripple, and the noise is at most a given size, the threshold stays between the bounds that these
+/// numbers give. A plateau is a part that begins and ends with one threshold. If it never falls from a
 /// sample to the next, it rises without a ripple; so it is with falling.
 pub fn a_threshold_of_ramps_stays_between_them()
     ensures between { (threshold : Threshold) (ramps : List Ramp) (sound : List ℤ) → 1 ≤ least_of threshold
@@ -186,7 +186,7 @@ pub fn what_is_heard_of_a_tape_is_read()
 
 /// From sound to words. Of a sound with a margin, whose tape begins with the bits 0 and 1 and has the
 /// bits of words behind them, each word is read, and nothing else: its tick and its length are those of
-/// the tape from its first transition, but for the delay. And its distances are intervals of a file where
+/// the tape from its first transition, but for the delay. And its distances are intervals of a file if
 /// those of the tape are.
 pub fn noise_below_the_margin_costs_no_word()
     ensures words { (system : System) (profile : Profile) (fineness : ℕ) (threshold : Threshold) (tape : List Cell)
@@ -210,7 +210,7 @@ pub fn noise_below_the_margin_costs_no_word()
     played_words_are_read();
 }
 
-/// The same where the first distance runs from the first sample, and the tape begins behind a silence of
+/// The same if the first distance runs from the first sample, and the tape begins behind a silence of
 /// more than three cells: the interval of the silence changes nothing, and each tick is that from the
 /// first sample.
 pub fn a_silence_before_the_tape_costs_no_word()
@@ -252,8 +252,8 @@ pub fn a_sound_that_ends_while_it_goes_over_is_heard()
         → length (transitions margin.start tape) ≤ length (moments fineness threshold sound) + 1 }
 {}
 
-/// Between damage, under the normal and the worn tolerance: where a part of a sound has a margin for a
-/// part of a tape, whatever stands before and behind it, the events find this part of the tape.
+/// Between damage, under the normal and the worn tolerance: if a part of a sound has a margin for a
+/// part of a tape, whatever comes before and behind it, the events find this part of the tape.
 pub fn a_part_with_a_margin_is_found()
     ensures { (system : System) (profile : Profile) (fineness : ℕ) (threshold : Threshold) (tape : List Cell) (cut : ℕ)
         (sound : List ℤ) (first count : ℕ) (events : List Event) → LooksAtLast profile → 1 ≤ fineness
@@ -266,7 +266,7 @@ pub fn a_part_with_a_margin_is_found()
 
 /// Between damage, under the rough tolerance: the same behind a run of even ones and its zero, as a sync
 /// word has them, so also behind hiss before the tape. The run is one as it is found; and a run of the tape
-/// is found as one where it would be even also with each interval a delay shorter or longer.
+/// is found as one if it would be even also with each interval a delay shorter or longer.
 pub fn a_rough_part_with_a_margin_is_found_behind_even_ones()
     ensures { (system : System) (fineness : ℕ) (threshold : Threshold) (tape : List Cell) (cut : ℕ) (sound : List ℤ)
         (first count : ℕ) (events : List Event) → 1 ≤ fineness
@@ -277,8 +277,8 @@ pub fn a_rough_part_with_a_margin_is_found_behind_even_ones()
     events_find_the_tape_behind_even_ones();
 }
 
-/// The sound that `ltc-pcm` makes of a steady tape has a margin: of its size less the threshold, where that
-/// is fixed. Where it follows, the noise is at most a third of the size too. The tape's lengths are in
+/// The sound that `ltc-pcm` makes of a steady tape has a margin: of its size less the threshold, if that
+/// is fixed. If it follows, the noise is at most a third of the size too. The tape's lengths are in
 /// samples, and those that are found in ticks: it is steady for a delay of one sample.
 pub fn a_made_sound_has_a_margin()
     ensures fixed { (profile : Profile) (fineness size noise threshold : ℕ) (tape : List Cell) (noisy : List ℤ)

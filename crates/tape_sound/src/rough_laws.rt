@@ -19,9 +19,9 @@ ghost use Rattle.tape_sound.specs.OnTime.{AreOnTime};
 
 use direction_reader::laws::{a_list_has_one_list_of_events, words_behind_a_lock_are_read};
 
-/// From a lock on, where the reader does not lock again, the rough tolerance asks 12 drifts and 9 delays of
-/// a cell, and no more: so the words of such a tape are read, each on time, where the reader locks at its
-/// first cell. That a reader may lock at each zero is what asks for 10. With 8 delays a cell may not follow.
+/// From a lock on, if the reader does not lock again, the rough tolerance needs 12 drifts and 9 delays of
+/// a cell, and no more: so the words of such a tape are read, each on time, if the reader locks at its
+/// first cell. That a reader may lock at each zero is why 10 are needed. With 8 delays a cell may not follow.
 pub fn a_rough_tape_bears_more_from_a_lock_on()
     ensures follow { (delay first : ℕ) (tape cells : List Cell) → first ≤ delay → IsSteadyFromALock delay tape
         → AreFoundAs delay first tape cells → FollowOn Rough cells }
@@ -38,8 +38,8 @@ pub fn a_rough_tape_bears_more_from_a_lock_on()
 }
 
 /// Behind its first four cells a rough stretch bears a wider delay still: of a tape that runs evenly each
-/// further cell follows as it is found where 47 delays last no longer than eight cells, since four cells
-/// together are found as late as the last one, less the first. So where the reader locks at the first cell,
+/// further cell follows as it is found if 47 delays last no longer than eight cells, since four cells
+/// together are found as late as the last one, less the first. So if the reader locks at the first cell,
 /// and the first four are found to follow, each word is read, on time. With 46 a cell may not follow.
 pub fn a_rough_stretch_bears_more_behind_four_cells()
     ensures follow { (half delay first : ℕ) (tape : List Cell) (a b c d : Cell) (cells : List Cell) → 1 ≤ half
@@ -62,7 +62,7 @@ pub fn a_rough_stretch_bears_more_behind_four_cells()
 }
 
 /// Ones without drift, and a zero behind them, are even also with each interval a delay shorter or longer
-/// where a cell lasts 32 delays: so a sync word is a run behind which the tape is found again.
+/// if a cell lasts 32 delays: so a sync word is a run behind which the tape is found again.
 pub fn even_ones_have_room_for_a_delay()
     ensures ones { (half delay : ℕ) (ones : List Cell) → 16 * delay ≤ half
         → AllByRecursion (λ cell. cell ≡ One half half) ones → AreEvenOnesFor delay (2 * half) ones }

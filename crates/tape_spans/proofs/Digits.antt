@@ -1,4 +1,4 @@
--- A number below a power of ten has so many decimal digits at most.
+-- How many decimal digits a number below a power of ten has at most.
 use Rattle.std.proofs.Common.{ℕ, ◌<◌, ◌≤◌, ◌^◌, length, arith}
 use Rattle.std.specs.Prelude.{decimal}
 use Rattle.std.proofs.lemmas.Fmt.{length-decimal-le_wide}

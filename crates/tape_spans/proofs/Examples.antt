@@ -25,7 +25,7 @@ heard label direction first last = record {
   bridged = 1;
 }
 
--- ---- the mean speed: so many frames behind the first, in so many ticks
+-- ---- the mean speed: the frames behind the first, by their ticks
 
 -- two frames behind the first, of 1,920 ticks each at 48,000 ticks a second, are two twenty-fifths of a second
 at_nominal : mean_speed 48_000 F25 (heard (address C25 0 0 0 0) Forward 1_920 5_760) ≡ 1_000
@@ -59,12 +59,12 @@ one_word : mean_speed 48_000 F25 (record {
 }) ≡ 0
 one_word = refl
 
--- ---- how labels stand to each other
+-- ---- how labels are related
 
 mark : Address → Direction → Mark
 mark label direction = mark_at label direction 100
 
--- labels of one count in one direction are told by a step
+-- labels of one count in one direction differ by a step
 a_step : (last next : Address) → relation_of (mark (record last { count = C25 }) Forward)
     (mark (record next { count = C25 }) Forward)
     ≡ Step (step_between (mark (record last { count = C25 }) Forward) (mark (record next { count = C25 }) Forward))
@@ -106,7 +106,7 @@ runs_behind : (last next : Address) → step_between (mark last Forward) (mark n
 unfolding mark
 runs_behind last next = refl
 
--- a turn tells no step, and two counts tell neither a turn nor a step
+-- a turn has no step, and two counts have neither a turn nor a step
 a_turn : relation_of (mark (address C25 10 0 0 0) Forward) (mark (address C25 10 0 0 1) Backward) ≡ Turn
 unfolding mark
 a_turn = refl

@@ -1,5 +1,5 @@
 -- The lines that are final are those of the spans that have ended, and that of the gap before the open one. So a
--- frame adds what it tells.
+-- frame adds what it completes.
 use Rattle.std.proofs.Common.{◌≡◌, ℕ, ◌+◌, Bool, true, false, cond, List, [], ◌∷◌, ◌++◌, fold, map, length, Option}
 use Rattle.std.proofs.Common.{Some, None, refl}
 use Rattle.std.proofs.Common.{sym, ◌∙◌, ap, ap₂, subst, append_assoc, append-nil, arith}
@@ -77,7 +77,7 @@ final-split rate system frames done running split =
 
 -- ---- what a frame adds
 
--- nothing, where it goes on or nothing is open
+-- nothing, if it goes on or nothing is open
 pub nothing_told : (lines : List ℕ) → lines ≡ lines ++ []
 nothing_told lines = sym (append-nil lines)
 
@@ -103,7 +103,7 @@ told-on rate system frames frame done running split are =
     final-split rate system (frames ++ frame ∷ []) done running (split []) ∙ sym are
     ∙ nothing_told (final_lines rate system frames)
 
--- a frame that goes on tells nothing
+-- a frame that goes on completes nothing
 told-goes_on : (rate : ℕ) (system : System) (frames : List Frame) (frame : Frame) (done : List SpanFrames)
     (running : Option Running) → goes_on frame ≡ true
     → ((behind : List Frame) → frames_of_spans (frame ∷ behind) ≡ frames_of_spans behind) → Splits frames done running
@@ -116,7 +116,7 @@ told-goes_on rate system frames frame done None on same split =
     told-on rate system frames frame done None (splits-idle frames done frame same split)
     (final-split rate system frames done None (split []))
 
--- the end of invention tells the span that it ends
+-- the end of invention gives the span that it ends
 told-gone : (rate : ℕ) (system : System) (frames : List Frame) (tick : ℕ) (done : List SpanFrames)
     (running : Option Running) (before : Option Mark)
     → latest_end None done ≡ before → Splits frames done running
@@ -150,7 +150,7 @@ nothing-ended : (rate : ℕ) (system : System) (before : Option Mark)
 nothing-ended rate system None = refl
 nothing-ended rate system (Some mark) = refl
 
--- the frame with which a span begins tells the span before it, and the gap
+-- the frame with which a span begins gives the span before it, and the gap
 told-begins : (rate : ℕ) (system : System) (frames : List Frame) (label : Address) (direction : Direction) (tick : ℕ)
     (done : List SpanFrames)
     (running : Option Running) (before : Option Mark) → latest_end None done ≡ before → Splits frames done running
@@ -191,7 +191,7 @@ told-begins rate system frames label direction tick done None before latest spli
     ++ (ended_lines rate system (ended_at (place_of_tape None before))
     ++ gap_lines (gap_at (place_of_tape None before) mark))) (sym lines)
 
--- a frame adds the lines of what it tells
+-- a frame adds the lines of what it completes
 pub frame_adds : (rate : ℕ) (system : System) (tape : Tape) (frames : List Frame) (frame : Frame)
     → StandsFor tape frames
     → final_lines rate system (frames ++ frame ∷ []) ≡ final_lines rate system frames

@@ -48,7 +48,7 @@ none_reached : (more : List Frame) → list_any is_heard more ≡ false → reac
 none_reached [] none = refl
 none_reached (frame ∷ more) none = ap (λ (b : Bool). cond b (suc (reach more)) 0) none
 
--- where a frame stands at a place, and these go on from it: the one heard last
+-- where a frame is at a place, and these go on from it: the one heard last
 record Reaches (mark : Mark) (p : Position) (more : List Frame) : Type 0 where
   pub none : list_any is_heard more ≡ false → fold latest_of mark more ≡ mark
   pub label : list_any is_heard more ≡ true

@@ -18,7 +18,7 @@ use Rattle.tape_spans.proofs.SpansGoOn.{gone-same, heard_on-same, invented-same}
 use Rattle.tape_spans.specs.Spans.{SpanFrames, frames_of_spans, mark_at, span_at, span_of, spans}
 use Rattle.flywheel.specs.Kinds.{is_heard}
 
--- what the open span takes, where there is a place before the frames
+-- what the open span takes, if there is a place before the frames
 abbrev taken : Option Position → List Frame → List Frame
 taken None frames = []
 taken (Some place) frames = take_while goes_on frames

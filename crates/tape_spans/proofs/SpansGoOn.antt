@@ -45,7 +45,7 @@ same_open first last last' heard heard' bridged bridged' invented invented' l h 
     ∙ ap (λ (n : ℕ). open_span first last' heard' n invented) b
     ∙ ap (λ (n : ℕ). open_span first last' heard' bridged' n) i
 
--- so many of a kind, with a frame of this kind or of another
+-- how many of a kind there are, with a frame of this kind or of another
 counts-one : (kind : Frame → Bool) (more : List Frame) (frame : Frame) (n : ℕ) → cond (kind frame) 1 0 ≡ n
     → count_by kind (more ++ frame ∷ []) ≡ count_by kind more + n
 counts-one kind more frame n is = sum_by_push (λ (f : Frame). cond (kind f) 1 0) more frame
@@ -70,7 +70,7 @@ invented-is running label direction step tick =
     same_open _ _ _ _ _ _ _ _ _ (sym (fold_push latest_of running.first running.more frame)) (omega (arith, heard))
     (sym (bridged-invented running.more label direction step tick)) (omega (arith, invented))
 
--- ---- the spans to come, where a frame comes first
+-- ---- the spans to come, if a frame comes first
 
 -- it goes on
 comes-on : (running : Running) (frame : Frame) (behind : List Frame) → goes_on frame ≡ true
@@ -187,7 +187,7 @@ split-frame : (frames : List Frame) (frame : Frame) (behind : List Frame)
     → frames_of_spans ((frames ++ frame ∷ []) ++ behind) ≡ frames_of_spans (frames ++ frame ∷ behind)
 split-frame frames frame behind = ap frames_of_spans (append_assoc frames (frame ∷ []) behind)
 
--- a frame that goes on, where a span is open and where none is
+-- a frame that goes on, if a span is open and if none is
 pub splits-on : (frames : List Frame) (done : List SpanFrames) (running : Running) (frame : Frame)
     → goes_on frame ≡ true
     → ((behind : List Frame) → frames_of_spans (frame ∷ behind) ≡ frames_of_spans behind)
@@ -203,7 +203,7 @@ pub splits-idle : (frames : List Frame) (done : List SpanFrames) (frame : Frame)
 splits-idle frames done frame same split behind =
     split-frame frames frame behind ∙ split (frame ∷ behind) ∙ ap (λ (l : List SpanFrames). done ++ l) (same behind)
 
--- a frame that does not, where a span is open: it has ended
+-- a frame that does not, if a span is open: it has ended
 pub splits-end : (frames : List Frame) (done : List SpanFrames) (running : Running) (frame : Frame)
     (next : Option Running) → goes_on frame ≡ false
     → ((behind : List Frame) → frames_of_spans (frame ∷ behind) ≡ to_come next behind)
@@ -255,7 +255,7 @@ pub latest-push : (done : List SpanFrames) (running : Running)
 latest-push done running = fold_push (λ (mark : Option Mark) (s : SpanFrames). Some (span_of s).last) None done
     (ended_one running)
 
--- ---- the four kinds of frame, where a span is open and where none is
+-- ---- the four kinds of frame, if a span is open and if none is
 
 joins : (tape : Tape) (frames : List Frame) (done : List SpanFrames) (running : Option Running) (before : Option Mark)
     (label : Address) (direction : Direction)

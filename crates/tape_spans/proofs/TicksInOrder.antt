@@ -1,4 +1,4 @@
--- Where the ticks of the frames that are heard do not fall, those of the spans do not.
+-- If the ticks of the frames that are heard do not fall, those of the spans do not.
 use Rattle.std.proofs.Common.{◌≡◌, ◌≤◌, ℕ, true, false, cond, List, [], ◌∷◌, refl, sym, ap, subst, arith}
 use Rattle.std.specs.Prelude.{fold}
 use Rattle.std.specs.List.{take_while}

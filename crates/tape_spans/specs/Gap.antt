@@ -1,4 +1,4 @@
--- What stands between two spans: ticks, and how the labels on both sides stand to each other. The rule is this
+-- What lies between two spans: ticks, and how the labels on both sides are related. The rule is this
 -- project's own.
 use Rattle.std.specs.Prelude.{ℕ, ◌-◌, ℤ, neg_ℤ, if◌then◌else◌}
 use Rattle.tc_address.specs.declared.direction.Direction.{Direction}

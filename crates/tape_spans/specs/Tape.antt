@@ -88,7 +88,7 @@ after_frame tape (Heard label direction true tick) = joined_at tape tape.place (
 after_frame tape (Invented label direction step tick) = invented_at tape tape.place
 after_frame tape (Gone tick) = counted tape
 
--- ---- what the next frame tells
+-- ---- what the next frame completes
 
 -- a frame that ends no span and no gap
 abbrev pub no_cut : Cut

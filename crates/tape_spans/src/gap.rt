@@ -1,23 +1,23 @@
-//! What stands between two spans. Read next: `tape`.
+//! What lies between two spans. Read next: `tape`.
 ghost use Rattle.std.specs.Prelude.{◌≡◌, ◌≤◌, unsigned_abs};
 ghost use Rattle.tape_spans.specs.Gap.{gap_between, relation_of, step_between};
 
 use crate::span::Mark;
 use tc_address::{Direction, day_labels, number, shortest};
 
-/// How the labels at the two ends of a gap stand to each other.
+/// How the labels at the two ends of a gap are related.
 #[derive(Clone, Copy, PartialEq, Eq)]
 pub enum Relation {
     /// They have different counts.
     Count,
     /// The tape runs the other way behind the gap.
     Turn,
-    /// So many labels lie from the one to the other, as the tape runs: 1 is the next label, and a
+    /// How many labels lie from the one to the other, as the tape runs: 1 is the next label, and a
     /// negative number leads back. Half a day is taken towards higher labels.
     Step(i32),
 }
 
-/// What stands between two spans.
+/// What lies between two spans.
 #[derive(Clone, Copy, PartialEq, Eq)]
 pub struct Gap {
     /// From the end of the last word to the end of the next one.
@@ -39,7 +39,7 @@ fn step_between(last: &Mark, next: &Mark) -> i32
     }
 }
 
-/// How the labels of two marks stand to each other.
+/// How the labels of two marks are related.
 fn relation_of(last: &Mark, next: &Mark) -> Relation
     ensures { result ≡ relation_of last.now next.now }
 {
@@ -52,7 +52,7 @@ fn relation_of(last: &Mark, next: &Mark) -> Relation
     }
 }
 
-/// What stands between the last mark of a span and the first of the next.
+/// What lies between the last mark of a span and the first of the next.
 pub fn gap_between(last: &Mark, next: &Mark) -> Gap
     ensures value { result ≡ gap_between last.now next.now }
     ensures ticks { result.ticks ≤ next.now.tick }

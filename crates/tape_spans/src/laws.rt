@@ -13,8 +13,8 @@ ghost use Rattle.flywheel.specs.Kinds.{is_heard};
 
 use tc_address::laws::steps_add_up;
 
-/// Where each frame that goes on follows the one before it, as the frames of a flywheel do: each frame that
-/// was heard or invented stands in exactly one span, in order. Each span begins with a frame that does not
+/// If each frame that goes on follows the one before it, as the frames of a flywheel do: each frame that
+/// was heard or invented is in exactly one span, in order. Each span begins with a frame that does not
 /// join, and behind it each goes on from the one before, so no two neighbours could be one. The spans count
 /// each frame that was heard.
 pub fn spans_share_the_frames_out()
@@ -33,7 +33,7 @@ pub fn a_span_ends_stepped()
     spans_share_the_frames_out();
 }
 
-/// Where the ticks of the frames that are heard do not fall, those of the spans do not: each span ends where it began
+/// If the ticks of the frames that are heard do not fall, those of the spans do not: each span ends where it began
 /// or later, and begins where the one before it ended or later. So the ticks of a gap are those between the two.
 pub fn spans_come_in_order()
     ensures { (first last : ℕ) (frames : List Frame) → DoNotFall first (heard_ticks frames) last

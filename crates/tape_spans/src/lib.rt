@@ -2,19 +2,19 @@
 //!
 //! A span begins with a frame that was heard and does not join the one before it. It goes on with frames
 //! that join and frames that a flywheel invented, and ends before the time code is gone, before a heard
-//! frame that does not join, or with the recording. Of a span is told what was heard: its first and its
+//! frame that does not join, or with the recording. A span has what was heard: its first and its
 //! last frame, how many frames were heard, and how many were invented between two of them. Between two
-//! spans stands a gap: its ticks, and how the labels on both sides stand to each other. The rule is this
+//! spans lies a gap: its ticks, and how the labels on both sides are related. The rule is this
 //! project's own.
 //!
 //! What this crate promises:
-//! - A `TapeSpans` that is given a list of frames, one after another, tells each span when it ends and
+//! - A `TapeSpans` that is given a list of frames, one after another, gives each span when it ends and
 //!   each gap when the next span begins, and keeps none of the frames (`specs/Spans.antt`, `spans`;
 //!   `specs/Gap.antt`; `specs/StandsFor.antt`).
 //! - The lines that it makes so are those of the frames so far that are final, whatever frames follow
 //!   (`specs/SpanTexts.antt`, `final_lines`); with that of the open span, they are the lines of all spans
 //!   (`laws::the_open_span_has_the_last_line`).
-//! - Each frame of a flywheel that was heard or invented stands in exactly one span, in order; within a
+//! - Each frame of a flywheel that was heard or invented is in exactly one span, in order; within a
 //!   span each goes on from the one before it, and none begins with a frame that joins, so no two
 //!   neighbours could be one (`laws::spans_share_the_frames_out`). So the last label of a span is its first
 //!   one, stepped by the frames between them (`laws::a_span_ends_stepped`).

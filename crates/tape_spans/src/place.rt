@@ -25,7 +25,7 @@ pub enum TapePlace {
     Behind(Mark),
 }
 
-/// What a frame tells: the span that ends before it, and the gap before a span that begins with it.
+/// What a frame completes: the span that ends before it, and the gap before a span that begins with it.
 #[derive(Clone, Copy, PartialEq, Eq)]
 pub struct Cut {
     pub ended: Option<Span>,

@@ -76,7 +76,7 @@ impl TapeSpans {
         }
     }
 
-    /// Takes the next frame, and tells the span that ends before it, and the gap before the span that
+    /// Takes the next frame, and gives the span that ends before it, and the gap before the span that
     /// begins with it.
     pub fn frame(&mut self, frame: &Frame) -> Cut
         requires tick { FitsTick frame.now }

@@ -16,7 +16,7 @@ use tc_address::{System, rate, text};
 /// The line of a span, with its newline. What a recording can say fits 128 bytes.
 pub type SpanText = ArrayVec<u8, 160>;
 
-/// The line of a span, in a recording of this system with so many ticks a second.
+/// The line of a span, in a recording of this system with `tick_rate` ticks a second.
 pub fn span_text(span: &Span, tick_rate: u32, system: System) -> SpanText
     requires { FitsSpan span.now }
     ensures { result.items ≡ span_line tick_rate system span.now }
@@ -74,7 +74,7 @@ fn ticks_text(span: &Span, speed: u128) -> Text
     line
 }
 
-/// The mean speed in thousandths of nominal, rounded down; 0 where the span lasts no tick.
+/// The mean speed in thousandths of nominal, rounded down; 0 if the span lasts no tick.
 fn mean_speed(span: &Span, tick_rate: u32, system: System) -> u128
     requires { FitsSpan span.now }
     ensures value { result ≡ mean_speed tick_rate system span.now }

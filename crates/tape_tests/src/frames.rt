@@ -24,7 +24,7 @@ fn word(
     })
 }
 
-/// A flywheel that is told only what it takes: ticks that do not fall, and words where nothing is due.
+/// A flywheel that is given only what it takes: ticks that do not fall, and words when nothing is due.
 #[derive(Drop)]
 struct Tape {
     wheel: Flywheel,

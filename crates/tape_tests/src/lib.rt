@@ -1,7 +1,7 @@
 //! Recordings from outside: cells, the events of a reading, frames, clean copies and spans.
 //!
 //! What no clause says of a crate, or what was known before it: values from standards, from other
-//! software, and worked out by hand, a module for each crate. They stand here since a crate with tests
+//! software, and worked out by hand, a module for each crate. They are here since a crate with tests
 //! in it is proved twice.
 #![tactic(auto)]
 

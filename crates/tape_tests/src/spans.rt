@@ -1,4 +1,4 @@
-//! Tapes whose spans were told by hand.
+//! Tapes whose spans were worked out by hand.
 ghost use Rattle.std.specs.Prelude.{◌≡◌, IfOk};
 
 use flywheel::Frame;
@@ -149,7 +149,7 @@ fn a_dropout_is_bridged_by_the_frame_behind_it(rt: HostRuntime) -> Result<(), Fa
     Ok(())
 }
 
-/// The gap stands between what was heard last and what is heard next, whether the code was gone between
+/// The gap lies between what was heard last and what is heard next, whether the code was gone between
 /// them or not.
 #[test]
 fn a_gap_is_told_when_the_next_span_begins(rt: HostRuntime) -> Result<(), Fail> {

@@ -1,4 +1,4 @@
--- The labels of a day stand in order: each is the one that the arithmetic gives for its number.
+-- The labels of a day are in order: each is the one that the arithmetic gives for its number.
 use Rattle.std.proofs.Common.{◌≡◌, ℕ, zero, suc, ◌+◌, ◌<◌, Bool, true, false, not, cond, List, [], ◌∷◌, ◌++◌, length}
 use Rattle.std.proofs.Common.{refl, sym, ◌∙◌, ap, subst, arith}
 use Rattle.std.specs.List.{filter, flat_map, range_with_len}

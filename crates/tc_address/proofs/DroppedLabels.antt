@@ -13,7 +13,7 @@ use Rattle.tc_address.specs.Numbering.{day_length}
 abbrev pub rate_with : Count → ℕ
 rate_with c = rate_of (system_with c)
 
--- how many addresses, dropped or not, stand before this one
+-- how many addresses, dropped or not, come before this one
 abbrev pub frame_of_day : Count → ℕ → ℕ → ℕ → ℕ → ℕ
 frame_of_day c h m s f = rate_with c * (60 * (60 * h + m) + s) + f
 
@@ -101,7 +101,7 @@ label_with-place c h m s f l =
     omega (arith, dropped_until-place c h m s f l, dropped_below c h m s f) in
     ap (address_of_frame c) e ∙ address_of_frame-frame_of_day c h m s f l.minutes l.seconds l.frames
 
--- a label stands before the next address, and what is dropped does not
+-- a label comes before the next address, and what is dropped does not
 pub place-label : (c : Count) (h m s f : ℕ) → is_dropped_by c m s f ≡ false
     → place c h m s f + 1 ≡ place c h m s (f + 1)
 place-label C24 h m s f e = omega arith

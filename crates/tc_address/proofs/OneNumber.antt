@@ -14,7 +14,7 @@ use Rattle.tc_address.proofs.AroundTheDay.{moved-below, moved-zero, moved-add}
 use Rattle.tc_address.proofs.DroppedLabels.{place_of, label_with, label_with-place, place-below}
 use Rattle.tc_address.proofs.DayInOrder.{IsAt, Runs, labels_run, length_labels}
 
--- what stands at a place of a run has the number of that place
+-- what is at a place of a run has the number of that place
 Runs-get : (c : Count) (n m k : ℕ) (xs : List Address) → Runs c n xs m → n + k < m →
     (a : Address) × (slice_get xs k ≡ Some a) × IsAt c (n + k) a
 Runs-get c n m k [] e h = absurd (omega (arith, e))
@@ -24,7 +24,7 @@ Runs-get c n m (suc k) (x ∷ xs) r h =
     let P : ℕ → Type 0 = λ j. (a : Address) × (slice_get xs k ≡ Some a) × IsAt c j a in
     subst P e (Runs-get c (n + 1) m k xs r.1 (omega arith))
 
--- the label that stands at a place of the day
+-- the label that is at a place of the day
 pub found_at : (c : Count) (n : ℕ) → n < day_length c → (a : Address) × (slice_get (labels c) n ≡ Some a) × IsAt c n a
 found_at c n h =
     let P : ℕ → Type 0 = λ j. (a : Address) × (slice_get (labels c) n ≡ Some a) × IsAt c j a in
@@ -72,7 +72,7 @@ position_step c n x a rest false t l e at low later =
     let more : n + 1 ≤ place_of a = omega (arith, apart) in
     omega (arith, later more)
 
--- as many labels of a run stand before one as its number says
+-- as many labels of a run come before one as its number says
 Runs-position : (c : Count) (n m : ℕ) (xs : List Address) (a : Address) → IsLabel a → a.count ≡ c → n ≤ place_of a
     → place_of a < m →
     Runs c n xs m → n + position_or_len (λ other. is_same_time other a) xs ≡ place_of a
@@ -94,14 +94,14 @@ number_of_place a l =
 pub number_of_below : (a : Address) → IsLabel a → number_of a < day_length a.count
 number_of_below a l = omega (arith, number_of_place a l, place-below a.count a.hours a.minutes a.seconds a.frames l)
 
--- a label stands at the place that its number says
+-- a label is at the place that its number says
 pub get_number_of : (a : Address) → IsLabel a → slice_get (labels a.count) (number_of a) ≡ Some a
 get_number_of a l =
     let bound = place-below a.count a.hours a.minutes a.seconds a.frames l in
     ap (slice_get (labels a.count)) (number_of_place a l) ∙ get_labels a.count (place_of a) bound
     ∙ ap (λ b. Some b) (label_with-place a.count a.hours a.minutes a.seconds a.frames l)
 
--- what stands at a place is a label with the number of that place
+-- what is at a place is a label with the number of that place
 pub number_of_get : (c : Count) (n : ℕ) (a : Address) → slice_get (labels c) n ≡ Some a → (number_of a ≡ n)
     × (a.count ≡ c) × IsLabel a
 number_of_get c n a e =

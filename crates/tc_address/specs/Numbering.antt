@@ -1,4 +1,4 @@
--- The numbers of the labels: how many labels stand before one in the list of its day.
+-- The numbers of the labels: how many labels come before one in the list of its day.
 use Rattle.std.specs.Prelude.{ℕ, Bool, ◌&&◌, ◌==◌, ℤ, length, slice_get}
 use Rattle.std.specs.List.{position_or_len}
 use Rattle.std.specs.Option.{unwrap_or}

@@ -2,7 +2,7 @@
 ghost use Rattle.std.specs.Prelude.{◌≡◌, ◌+◌, ◌*◌, ◌%◌, ◌<◌, ◌≤◌, ◌⊎◌};
 ghost use Rattle.tc_address.specs.Circle.{moved, ahead, shortest_way, IsShortest};
 
-/// The place so many places further on a circle of `day` places, or back where `steps` is negative.
+/// The place `steps` places further on a circle of `day` places, or back if `steps` is negative.
 pub(crate) fn moved(day: u32, place: u32, steps: i64) -> u32
     requires most { day ≤ 207_360_000 }
     requires inside { place < day }

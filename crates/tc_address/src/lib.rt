@@ -3,7 +3,7 @@
 //! A label is hours, minutes, seconds and frames together with the count that it belongs to: 24, 25
 //! or 30 frames a second, or 30 with drop-frame counting, which drops the frame numbers 0 and 1
 //! of each minute that is no multiple of ten (SMPTE 12M, "time address" and "drop frame"). The number
-//! of a label is how many labels of its count stand before it in the day. A subframe is an eightieth
+//! of a label is how many labels of its count come before it in the day. A subframe is an eightieth
 //! of a frame.
 //!
 //! What this crate promises:

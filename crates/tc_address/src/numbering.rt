@@ -41,7 +41,7 @@ pub fn day_subframes(count: Count) -> u32
     SUBFRAMES * day_labels(count)
 }
 
-/// How many labels of the count stand before the label in its day.
+/// How many labels of the count come before the label in its day.
 #[tactic(auto, using(crate::proofs::OneNumber::number_of_place, crate::proofs::OneNumber::get_number_of))]
 pub fn number(label: &Label) -> u32
     ensures before { result ≡ number_of label.now }
@@ -77,7 +77,7 @@ fn label_of(count: Count, n: u32) -> Label
     )
 }
 
-/// The label of number n, if the day has so many labels.
+/// The label of number n, if the day has more than n labels.
 #[tactic(auto, using(crate::proofs::OneNumber::get_labels_past, crate::proofs::OneNumber::number_of_get))]
 pub fn label_at(count: Count, n: u32) -> Option<Label>
     ensures label { result ≡ slice_get (labels count) n }
@@ -91,7 +91,7 @@ pub fn label_at(count: Count, n: u32) -> Option<Label>
     }
 }
 
-/// The label so many labels further, or back where `steps` is negative. The day begins again at its
+/// The label `steps` labels further, or back if `steps` is negative. The day begins again at its
 /// end.
 pub fn advance(label: &Label, steps: i64) -> Label
     ensures label { result ≡ step label.now steps }

@@ -16,7 +16,7 @@ pub enum TextFault {
     /// There are not eleven bytes.
     #[error("Length")]
     Length,
-    /// The byte at this place, from 0, is not the digit or the separator that stands there.
+    /// The byte at this place, from 0, is not the digit or the separator that belongs there.
     #[error("Byte")]
     Byte(usize),
     /// The numbers are no label of the count.
@@ -45,7 +45,7 @@ fn separator(count: Count) -> u8
     }
 }
 
-/// Whether the byte may stand at the place.
+/// Whether the byte may be at the place.
 fn may_stand(count: Count, place: usize, byte: u8) -> bool
     ensures { result ≡ may_stand count place byte }
 {
@@ -56,7 +56,7 @@ fn may_stand(count: Count, place: usize, byte: u8) -> bool
     }
 }
 
-/// The first place whose byte may not stand there.
+/// The first place whose byte may not be there.
 fn first_wrong_place(count: Count, text: &[u8]) -> Option<usize>
     ensures none { IfNone result (IsGoodBelow count text.now (length text.now)) }
     ensures some { IfSome result (λ place. IsFirstWrongPlace count text.now place) }

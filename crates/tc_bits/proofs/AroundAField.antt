@@ -1,4 +1,4 @@
--- A register is what stands above a field, the field, and what stands below it. To write the field
+-- A register is what is above a field, the field, and what is below it. To write the field
 -- is to put these three together again.
 use Rattle.std.proofs.Common.{◌≡◌, ℕ, ◌+◌, ◌-◌, ◌*◌, ◌/◌, ◌%◌, ◌^◌, ◌<◌, ◌≤◌, arith, sym, ap, ◌∙◌, ◌⊎◌, inl, inr}
 use Rattle.std.proofs.lemmas.Nat.{pow-add, pow_pos, shr-shr, shr_high, mod_low, mul-add-lt, mod_below, shr_split}

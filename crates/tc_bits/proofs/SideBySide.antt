@@ -1,4 +1,4 @@
--- Of places that share out the bits of a register each one keeps its number where others are written.
+-- Of places that share out the bits of a register each one keeps its number if others are written.
 use Rattle.std.proofs.Common.{◌≡◌, ℕ, zero, suc, ◌+◌, ◌-◌, ◌*◌, ◌/◌, ◌%◌, ◌^◌, ◌<◌, ◌≤◌, Bool, true, false, cond, subst}
 use Rattle.std.proofs.Common.{List, [], ◌∷◌, arith, refl, sym, ap, ◌∙◌, ◌⊎◌, inl, inr}
 use Rattle.std.specs.Prelude.{◌&&◌, ◌==◌, nat_le, nat_lt, count_by}
@@ -14,7 +14,7 @@ use Rattle.tc_bits.specs.Register.{number_in}
 use Rattle.tc_bits.specs.Row.{is_in, are_within, Entry, places_of, Fit, Holds, sum_of, IsRow, SumHolds, OnlySumHolds}
 use Rattle.tc_bits.proofs.AroundAField.{Replaces, put_together, parts_of, other_bits, bit_of_low}
 
--- ---- what a test of all numbers below a bound tells
+-- ---- what a test of all numbers below a bound shows
 
 tested : (f : ℕ → Bool) (a n : ℕ) → list_all f (range_with_len a n) ≡ true → (i : ℕ) → i < n → f (a + i) ≡ true
 tested f a zero e i lt = absurd (omega arith)
@@ -62,7 +62,7 @@ regroup : (high w v f low old above clear : ℕ) → old ≡ (above * w + clear)
     → (high * w + v) * f + low ≡ v * f + old
 regroup high w v f low old above clear parts same zeros = rw (parts, same, zeros) (grind arith)
 
--- to add a number where zeros stand is to write it there
+-- to add a number where there are zeros is to write it there
 added : (old : ℕ) (p : Place) (value : ℕ) → number_in p old ≡ 0 → value < 2 ^ p.width
     → Replaces old (value * 2 ^ p.first + old) p.first p.width value
 added old p value clear fits =

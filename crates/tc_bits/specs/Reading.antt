@@ -1,4 +1,4 @@
--- What stands in the places of a table: digits, flags and user bits, whether or not they are an address.
+-- What is in the places of a table: digits, flags and user bits, whether or not they are an address.
 use Rattle.std.specs.Prelude.{ℕ, [], ◌∷◌, map, ◌==◌}
 use Rattle.tc_bits.specs.declared.flags.Flags.{Flags}
 use Rattle.tc_bits.specs.declared.raw.RawFields.{RawFields}

@@ -1,4 +1,4 @@
--- A register as a row: places that share out its bits, each with the number that stands in it.
+-- A register as a row: places that share out its bits, each with the number that is in it.
 use Rattle.std.specs.Prelude.{◌≡◌, ℕ, ◌+◌, ◌*◌, ◌^◌, ◌<◌, Bool, true, ◌&&◌, ◌==◌, nat_le, nat_lt}
 use Rattle.std.specs.Prelude.{List, [], ◌∷◌, map, count_by}
 use Rattle.std.specs.List.{list_all, range_with_len}

@@ -10,7 +10,7 @@ use crate::fields::Fields;
 use crate::raw::RawFields;
 use tc_address::{Count, Label, System, rate};
 
-/// The count of a word: at 30 frames its drop-frame flag tells it.
+/// The count of a word: at 30 frames its drop-frame flag decides it.
 fn count_of(system: System, drop_frame: bool) -> Count
     ensures { result ≡ count_in system drop_frame }
 {

@@ -9,8 +9,8 @@ use std::marker::Model;
 use tc_address::{Count, Label};
 use thiserror::Error;
 
-/// A frame address with its flag bits and user bits. At 30 frames the drop-frame flag tells the
-/// count: it is not set where the label's count is 30, and it is set where that is 30 drop-frame.
+/// A frame address with its flag bits and user bits. At 30 frames the drop-frame flag decides the
+/// count: it is not set if the label's count is 30, and it is set if that is 30 drop-frame.
 #[derive(Clone, Copy, Debug, PartialEq, Eq)]
 pub struct Fields {
     pub(crate) label: Label,
@@ -36,7 +36,7 @@ impl Model for Fields {
 pub struct DropFlag;
 
 impl Fields {
-    /// Puts a label, flags and user bits together. It is refused exactly where the count is 30 and
+    /// Puts a label, flags and user bits together. It is refused exactly if the count is 30 and
     /// the drop-frame flag is set, or the count is 30 drop-frame and the flag is not set.
     pub fn new(label: Label, flags: Flags, user: UserBits) -> Result<Fields, DropFlag>
         ensures reads { IfOk result (λ fields. fields ≡ field_values label flags user) }

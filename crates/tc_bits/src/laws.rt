@@ -10,14 +10,14 @@ ghost use Rattle.tc_bits.specs.Fields.{FieldValues, Says, fields_of};
 ghost use Rattle.tc_bits.specs.Fault.{first_field_fault};
 ghost use Rattle.tc_bits.specs.declared.names.TheConstants as names;
 
-/// Numbers that fit places which share out the bits of a register stand each in its place of their sum
-/// by weights, and of no other register of so many bits.
+/// Numbers that fit places which share out the bits of a register are each in its place of their sum
+/// by weights, and in no other register of this width.
 pub fn a_row_is_its_sum()
     ensures holds { SumHolds }
     ensures only { OnlySumHolds }
 {}
 
-/// In a table's places fields are spelled exactly where the digits say them, and their numbers fit.
+/// In a table's places fields are spelled exactly if the digits say them, and their numbers fit.
 pub fn fields_are_exact()
     ensures { AreExact }
 {}
@@ -29,7 +29,7 @@ pub fn eight_groups_are_the_user_bits()
         + group 5 user * 2 ^ 16 + group 6 user * 2 ^ 20 + group 7 user * 2 ^ 24 + group 8 user * 2 ^ 28 }
 {}
 
-/// Digits say one address at most, and they say one exactly where they have no fault.
+/// Digits say one address at most, and they say one exactly if they have no fault.
 pub fn digits_are_exact()
     ensures one { (system : System) (raw : RawFields) (a b : FieldValues) → Says system raw a → Says system raw b
         → a ≡ b }

@@ -1,4 +1,4 @@
-//! Where a field stands in a register of bits. Read next: `register`.
+//! Where a field is in a register of bits. Read next: `register`.
 
 ghost use Rattle.std.specs.Prelude.{◌≡◌, ◌*◌, ◌^◌, ◌<◌};
 ghost use Rattle.tc_bits.specs.Register.{IsPlace, number_in};
@@ -15,7 +15,7 @@ pub struct Place {
 }
 
 impl Place {
-    /// The number that stands in this place of the register.
+    /// The number in this place of the register.
     pub fn number_in(self, bits: u128) -> u32
         requires { IsPlace self }
         ensures { result ≡ number_in self bits }

@@ -1,4 +1,4 @@
-//! The digits of a word as they stand in it, whether or not they are an address. Read next: `checking`.
+//! The digits of a word as they are in it, whether or not they are an address. Read next: `checking`.
 
 use crate::flags::Flags;
 use crate::user_bits::UserBits;

@@ -26,7 +26,7 @@ pub fn is_set_at(bits: u128, number: u32) -> bool
     get_field(bits, number, 1) == 1
 }
 
-/// The flags that stand in the bits.
+/// The flags in the bits.
 #[inline(always)]
 fn flags_at(table: &Table, bits: u128) -> Flags
     requires { IsTable table.now }
@@ -41,7 +41,7 @@ fn flags_at(table: &Table, bits: u128) -> Flags
     }
 }
 
-/// The user bits that stand in the bits.
+/// The user bits in the bits.
 #[inline(always)]
 fn user_at(table: &Table, bits: u128) -> UserBits
     requires { IsTable table.now }
@@ -59,7 +59,7 @@ fn user_at(table: &Table, bits: u128) -> UserBits
     )
 }
 
-/// What stands in the places of the fields, whether or not it is an address.
+/// What is in the places of the fields, whether or not it is an address.
 #[inline(always)]
 fn raw_at(table: &Table, bits: u128) -> RawFields
     requires { IsTable table.now }
@@ -79,7 +79,7 @@ fn raw_at(table: &Table, bits: u128) -> RawFields
     }
 }
 
-/// The fields that stand in the places of the table, or their first fault.
+/// The fields in the places of the table, or their first fault.
 #[inline(always)]
 pub fn fields_at(system: System, table: &Table, bits: u128) -> Result<Fields, FieldFault>
     requires { is_table table.now ≡ true }

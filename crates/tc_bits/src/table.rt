@@ -1,4 +1,4 @@
-//! Where the fields of a word stand in its register. Read next: `place`.
+//! Where the fields of a word are in its register. Read next: `place`.
 
 /// A word's table: the number of the first bit of each field, which is its least significant one. A
 /// unit and a user group have four bits, a flag has one, the tens of frames and hours have two, and

@@ -1,4 +1,4 @@
--- The sources and the sink in memory: what each call answers, and what stands after it.
+-- The sources and the sink in memory: what each call answers, and the state after it.
 use Rattle.std.specs.Prelude.{ℕ, ◌%◌, ◌-◌, min, max, Bool, if◌then◌else◌, ◌==◌, ◌&&◌, ◌||◌, not}
 use Rattle.std.specs.Prelude.{List, [], ◌++◌, length, take, drop, slice_index, Result, Ok, Err}
 use Rattle.std.specs.List.{list_any}

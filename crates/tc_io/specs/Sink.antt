@@ -1,4 +1,4 @@
--- What a push takes, and what stands where only a front of the bytes was pushed.
+-- What a push takes, and what is written if only a front of the bytes was pushed.
 use Rattle.std.specs.Prelude.{◌≡◌, ℕ, ◌<◌, List, ◌++◌, length, Result, IfOk}
 use Rattle.std.specs.declared.option.Option.{Option}
 use Rattle.std.specs.Io.KnownBytes.{Appends}

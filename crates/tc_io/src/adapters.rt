@@ -2,7 +2,7 @@
 //! left the program.
 //!
 //! Each call makes one read or one write, and keeps nothing back. What was read or written is known
-//! only by the answer of the operating system, so these two tell no bytes.
+//! only by the answer of the operating system, so these two have no known bytes.
 ghost use Rattle.std.specs.Prelude.{◌≡◌, ℕ, length, None, OnOk, OnErr};
 ghost use Rattle.std.specs.Io.{ReadsAtMost, WritesAtMost};
 ghost use Rattle.std.specs.Io.KnownBytes.{ReadConsumes, WriteAppends};

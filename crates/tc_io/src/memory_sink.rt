@@ -36,10 +36,10 @@ impl Model for MemorySink {
 }
 
 impl MemorySink {
-    /// A sink with room for so many bytes, all of which it takes now.
+    /// A sink with room for `room` bytes, all of which it takes now.
     ///
-    /// A push takes as much of its piece as fits, and fails where that is nothing of a piece that is
-    /// not empty. A push whose number, from 1, stands in `failing` fails. The number stops at
+    /// A push takes as much of its piece as fits, and fails if that is nothing of a piece that is
+    /// not empty. A push whose number, from 1, is in `failing` fails. The number stops at
     /// `u64::MAX`, as the count of faults does.
     pub fn new(alloc: Global, room: usize, failing: &[u64]) -> Result<MemorySink, AllocError>
         ensures { IfOk result (λ sink. sink ≡ new_sink room failing.now) }
@@ -72,7 +72,7 @@ impl Sink for MemorySink {
         ensures bytes { WriteAppends (Some self.old.written) (Some self.new.written) result piece.now }
         ensures cause { HasCause self.old.faults self.new.faults result }
 
-        // Which answer it is, and what stands afterwards.
+        // Which answer it is, and the state afterwards.
         ensures answer { result ≡ push_answer self.old (length piece.now) }
         ensures after { self.new ≡ after_push self.old piece.now }
     {

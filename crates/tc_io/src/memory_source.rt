@@ -1,4 +1,4 @@
-//! A source over bytes in memory that is cut and fails as it is told. Read next: `steady_source`.
+//! A source over bytes in memory that is cut and fails as given. Read next: `steady_source`.
 ghost use Rattle.std.specs.Prelude.{◌≡◌, ℕ, List, ◌++◌, length, take, drop, Some, IfOk, OnErr};
 ghost use Rattle.std.specs.Io.{ReadsAtMost};
 ghost use Rattle.std.specs.Io.KnownBytes.{ReadConsumes};
@@ -41,7 +41,7 @@ impl MemorySource {
     /// A source of these bytes.
     ///
     /// The k-th pull that succeeds, from 0, gives at most `pieces[k mod pieces.len()]` bytes, where 0
-    /// counts as 1; without pieces there is no such bound. A pull whose number, from 1, stands in
+    /// counts as 1; without pieces there is no such bound. A pull whose number, from 1, is in
     /// `failing` fails. Both numbers stop at `u64::MAX`, as its counts do.
     pub fn new(
         alloc: Global,
@@ -78,7 +78,7 @@ impl Source for MemorySource {
         ensures cause { HasCause self.old.faults self.new.faults result }
         ensures end { self.new.ends ≡ ends_after self.old.ends result (length buf.old) }
 
-        // Which answer it is, and what stands afterwards.
+        // Which answer it is, and the state afterwards.
         ensures answer { result ≡ pull_answer self.old (length buf.old) }
         ensures after { self.new ≡ after_pull self.old (length buf.old) }
         ensures front { IfOk result (λ given. buf.new ≡ take given self.old.left ++ drop given buf.old) }

@@ -9,7 +9,7 @@ use crate::failed::Failed;
 
 /// Where bytes go out to.
 pub trait Sink {
-    /// The bytes written so far, where the sink tells them.
+    /// The bytes written so far, if they are known.
     ghost written: { Self → Option (List ℕ) };
 
     /// How often the sink has failed. The count stops at `u64::MAX`.
@@ -26,11 +26,11 @@ pub trait Sink {
         // The count never falls, an `Ok` leaves it, and a `Failed` comes only by a fault.
         ensures cause { HasCause (faults self.old) (faults self.new) result }
 
-        // Told bytes stay told by `bytes`, and untold ones untold.
+        // Known bytes stay known (`bytes`), and unknown ones unknown.
         ensures untold { written self.old ≡ None → written self.new ≡ None };
 }
 
-/// Pushes all the bytes, in order, in as many pushes as the sink wants. It stops at the first
+/// Pushes all the bytes, in order, in as many pushes as the sink needs. It stops at the first
 /// `Failed`.
 pub fn push_all<K: Sink>(sink: &mut K, bytes: &[u8]) -> Result<(), Failed>
     ensures all { OnOk result (Appends (K.written sink.old) (K.written sink.new) bytes.now) }

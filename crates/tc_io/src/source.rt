@@ -8,13 +8,13 @@ use crate::failed::Failed;
 
 /// Bytes that come in.
 pub trait Source {
-    /// The bytes that are left, where the source tells them.
+    /// The bytes that are left, if they are known.
     ghost left: { Self → Option (List ℕ) };
 
     /// How often the source has failed. The count stops at `u64::MAX`.
     ghost faults: { Self → ℕ };
 
-    /// How many pulls stood at the end of the input or behind it: the first that was answered with the
+    /// How many pulls came at the end of the input or behind it: the first that was answered with the
     /// end, and each one after it, whatever its answer. The count stops at `u64::MAX`.
     ghost ends: { Self → ℕ };
 
@@ -29,14 +29,14 @@ pub trait Source {
         // The count never falls, an `Ok` leaves it, and a `Failed` comes only by a fault.
         ensures cause { HasCause (faults self.old) (faults self.new) result }
 
-        // Told bytes stay told by `bytes`, and untold ones untold.
+        // Known bytes stay known (`bytes`), and unknown ones unknown.
         ensures untold { left self.old ≡ None → left self.new ≡ None }
 
         // Before the end only the pull that comes to it counts, and from then on each one.
         ensures end { ends self.new ≡ ends_after (ends self.old) result (length buf.old) };
 }
 
-/// How many pulls stood at the end or behind it, after one more into so much room.
+/// How many pulls came at the end or behind it, after one more into `room` bytes.
 pub(crate) fn ends_after(ends: u64, answer: &Result<usize, Failed>, room: usize) -> u64
     ensures { result ≡ ends_after ends answer.now room }
 {

@@ -51,7 +51,7 @@ impl Source for SteadySource {
         ensures cause { HasCause 0 0 result }
         ensures end { self.new.ends ≡ ends_after self.old.ends result (length buf.old) }
 
-        // Which answer it is, and what stands afterwards.
+        // Which answer it is, and the state afterwards.
         ensures answer { result ≡ steady_answer self.old (length buf.old) }
         ensures after { self.new ≡ after_steady self.old (length buf.old) }
         ensures front { IfOk result (λ given. buf.new ≡ take given self.old.left ++ drop given buf.old) }

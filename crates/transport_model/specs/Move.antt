@@ -1,4 +1,4 @@
--- The modelled transport: where it stands on the circle of a day, and how it moves. The model is this project's own.
+-- The modelled transport: where it is on the circle of a day, and how it moves. The model is this project's own.
 use Rattle.std.specs.Prelude.{ℕ, ◌*◌, ◌≤◌, ℤ, ◌+ℤ◌, unsigned_abs}
 use Rattle.tc_address.specs.declared.count.Count.{Count}
 use Rattle.tc_address.specs.Numbering.{day_length}

@@ -12,7 +12,7 @@ pub fn the_bound_is_eight_subframes()
 {}
 
 /// A slip moves on from where the order led, and within the bound it is the shortest way from there
-/// to where the transport stands.
+/// to where the transport is.
 pub fn a_slip_leads_away_from_the_place_that_was_meant()
     ensures after { (count : Count) (position : ℕ) (order slip : ℤ)
         → moved (day_of count) (moved (day_of count) position order) slip

@@ -1,8 +1,8 @@
 //! A modelled transport: a tape that moves as it is ordered, up to a slip.
 //!
-//! A transport stands at a position on the circle of a day, in subframes, which are eightieths of a
-//! frame. An order moves it so many subframes forward, or backward where it is negative. It slips
-//! while it moves, and so comes to stand a little beside the place that was meant. It honours its
+//! A transport has a position on the circle of a day, in subframes, which are eightieths of a
+//! frame. An order moves it by a number of subframes, backward if that is negative. It slips
+//! while it moves, and so stops a little beside the place that was meant. It honours its
 //! bound in a move whose slip is at most 8 subframes, a tenth of a frame. The model is this project's
 //! own.
 //!

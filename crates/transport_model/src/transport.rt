@@ -26,7 +26,7 @@ impl Model for Transport {
     ghost inverse = { λ s. record { count = s.count; position = s.position } };
 }
 
-/// The place so many places further on a circle of `day` places, or back where `steps` is negative.
+/// The place `steps` places further on a circle of `day` places, or back if `steps` is negative.
 fn moved(day: u32, place: u32, steps: i64) -> u32
     requires some { 1 ≤ day }
     requires inside { place < day }
@@ -38,7 +38,7 @@ fn moved(day: u32, place: u32, steps: i64) -> u32
 }
 
 impl Transport {
-    /// A transport of a count that stands at a position, in subframes.
+    /// A transport of a count at a position, in subframes.
     pub fn new(count: Count, position: u32) -> Transport
         requires { position < day_of count }
         ensures { result ≡ record { count = count; position = position } }
@@ -46,7 +46,7 @@ impl Transport {
         Transport { count, position }
     }
 
-    /// Where the tape stands, in subframes.
+    /// The position of the tape, in subframes.
     pub fn position(&self) -> u32
         ensures value { result ≡ self.now.position }
         ensures inside { result < day_of self.now.count }

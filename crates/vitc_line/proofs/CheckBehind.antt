@@ -85,7 +85,7 @@ residue_with_check body check r below lt =
     (high_bits body check (check_bit r) below)
     (residue_before body r below lt)
 
--- the folded bits, turned so that each stands where the check has its residue
+-- the folded bits, turned so that each is where the check has its residue
 turned_bit : (sums r : ℕ) → sums < 256 → r < 8 → bit_at (sums / 4 + sums % 4 * 64) (check_bit r) ≡ bit_at sums r
 turned_bit sums r below = each_residue (λ r. bit_at (sums / 4 + sums % 4 * 64) (check_bit r) ≡ bit_at sums r)
     (omega arith) (omega arith) (omega arith) (omega arith) (omega arith) (omega arith) (omega arith) (omega arith) r

@@ -94,7 +94,7 @@ bit_at-behind w n i below le =
     let e : n / 2 ^ i ≡ 0 = div-eq_of_lt h in
     rw e refl
 
--- of the sixteen bits of a residue the last ones stand behind the line
+-- of the sixteen bits of a residue the last ones come behind the line
 first_twelve : (a b c d e f g h i j k l m n o p : ℕ) → m ≡ 0 → n ≡ 0 → o ≡ 0 → p ≡ 0
     → (a + i + (e + m)) + (c + k + (g + o)) + ((b + j + (f + n)) + (d + l + (h + p)))
     ≡ a + (b + (c + (d + (e + (f + (g + (h + (i + (j + (k + (l + 0)))))))))))

@@ -26,7 +26,7 @@ pub made_of : (word : VitcWord) (system : System) (t : Table) (mark fields : ℕ
 made_of word system t mark fields system_is table_is mark_is fields_are =
     rw (mark_is, fields_are, table_is, system_is) (omega arith)
 
--- the numbers stand before the check
+-- the numbers come before the check
 pub unchecked_below : SumHolds → AreExact → (word : VitcWord) → IsFields word.fields → bits_with word 0 < 2 ^ 82
 unchecked_below law exact word valid =
     let s = stands law exact word 0 valid (lit< tt) in

@@ -1,4 +1,4 @@
--- Each field stands in its place and in no other, so the bits fix the word, and the word fixes the bits.
+-- Each field is in its place and in no other, so the bits fix the word, and the word fixes the bits.
 use Rattle.std.proofs.Common.{◌≡◌, ℕ, ◌+◌, ◌*◌, ◌/◌, ◌%◌, ◌^◌, ◌<◌, Bool, true, false, refl, sym, ap, ap₂, ◌∙◌, lit<}
 use Rattle.std.proofs.Common.{arith, None, not}
 use Rattle.std.specs.Int.{bit_at}
@@ -28,7 +28,7 @@ use Rattle.vitc_line.proofs.CheckBehind.{one_check}
 use Rattle.vitc_line.proofs.FoldedCheck.{each_residue, sum_at, residue_is_parity}
 use Rattle.vitc_line.proofs.RowOfALine.{is_sum}
 
--- no sync pair is wrong exactly where each is the bits 1 and 0
+-- no sync pair is wrong exactly if each is the bits 1 and 0
 pub pairs_from_none : (bits : ℕ) → wrong_sync_pair bits ≡ None → (pair : ℕ) → pair < 9
     → number_in (sync_pair_place pair) bits ≡ 1
 unfolding wrong_sync_pair
@@ -44,7 +44,7 @@ none_from_pairs bits right =
     none_found (is_wrong_pair bits) 0 9 (λ pair lt. let k : 0 + pair ≡ pair = omega arith in rw k
     (ap not (eq-eqb _ _ (right pair lt))))
 
--- and no residue exactly where each is 0
+-- and no residue exactly if each is 0
 pub check_from_none : (bits : ℕ) → wrong_residue bits ≡ None → (r : ℕ) → r < 8 → residue r bits ≡ 0
 unfolding wrong_residue
 check_from_none bits e r lt =

@@ -82,7 +82,7 @@ spelled_by exact word check bits valid eight width holds
       check = holds;
     }
 
--- so it spells the word where the check holds
+-- so it spells the word if the check holds
 pub spells_with : SumHolds → AreExact → (word : VitcWord) (check bits : ℕ) → IsFields word.fields
     → word.fields.user < 2 ^ 32 → check < 2 ^ 8
     → bits ≡ bits_with word check → ((r : ℕ) → r < 8 → residue r bits ≡ 0)

@@ -1,4 +1,4 @@
--- Where the bits under all sync pairs are those of right ones, each pair is right.
+-- If the bits under all sync pairs are those of right ones, each pair is right.
 use Rattle.std.proofs.Common.{◌≡◌, ℕ, ◌*◌, ◌/◌, ◌%◌, ◌^◌, ◌<◌, Bool, true, false, get_or, refl, sym, ap, ◌∙◌, lit<}
 use Rattle.std.proofs.Common.{arith}
 use Rattle.std.specs.Prelude.{◌==◌, ◌&&◌, bit_and}

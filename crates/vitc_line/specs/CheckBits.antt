@@ -1,5 +1,5 @@
 -- The check of a line (SMPTE 12M, the cyclic redundancy check of the vertical interval time code). The
--- remainder by the generator `x^8 + 1`, from the start value 0, is 0 exactly where each of eight
+-- remainder by the generator `x^8 + 1`, from the start value 0, is 0 exactly if each of eight
 -- exclusive ors is 0.
 use Rattle.std.specs.Prelude.{ℕ, ◌%◌, Bool, ◌==◌, not, List, [], ◌∷◌, Option, map, find, bit_xor}
 use Rattle.std.specs.List.{filter, range_with_len}

@@ -1,5 +1,5 @@
--- Where the fields stand that have another place in each system (SMPTE 12M, the table of the vertical
--- interval time code), where the sync pairs stand, and all places of a system.
+-- Where the fields are that have another place in each system (SMPTE 12M, the table of the vertical
+-- interval time code), where the sync pairs are, and all places of a system.
 use Rattle.std.specs.Prelude.{ℕ, ◌*◌, Bool, List, ◌∷◌, ◌++◌, map}
 use Rattle.std.specs.List.{range_with_len}
 use Rattle.tc_address.specs.declared.system.System.{System}

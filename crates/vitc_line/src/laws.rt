@@ -17,7 +17,7 @@ ghost use Rattle.vitc_line.specs.Fault.{first_fault};
 
 use tc_bits::laws::{a_row_is_its_sum, digits_are_exact, fields_are_exact};
 
-/// Where each field stands in a line: its first bit, as the table of the standard has it; the check, and a sync pair.
+/// Where each field is in a line: its first bit, as the table of the standard has it; the check, and a sync pair.
 pub fn the_places_are_these()
     ensures table { places.TABLE ≡ record {
       frame_units = 2;

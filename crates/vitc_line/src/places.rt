@@ -1,4 +1,4 @@
-//! Where each field stands in the 90 bits of a line (SMPTE 12M, the table of the vertical interval time
+//! Where each field is in the 90 bits of a line (SMPTE 12M, the table of the vertical interval time
 //! code). Bit 0 is the first in time, and each field has its least significant bit first. Read next: `reading`.
 
 ghost use Rattle.std.specs.Prelude.{◌≡◌, ◌<◌};
@@ -59,7 +59,7 @@ pub const ALL_SYNC_PAIRS: u128 = 0x1_0040_1004_0100_4010_0401;
 /// The bits that belong to sync pairs.
 pub(crate) const UNDER_SYNC_PAIRS: u128 = 0x3_00c0_300c_0300_c030_0c03;
 
-/// Where the sync pair of this number stands, counted from 0: two bits in each ten.
+/// Where the sync pair of this number is, counted from 0: two bits in each ten.
 pub(crate) fn sync_pair(number: u32) -> Place
     requires { number < SYNC_PAIRS }
     ensures { result ≡ sync_pair_place number }
@@ -70,7 +70,7 @@ pub(crate) fn sync_pair(number: u32) -> Place
     }
 }
 
-/// Where the field mark stands.
+/// Where the field mark is.
 pub(crate) fn field_mark(system: System) -> u32
     ensures within { result < 80 }
     ensures value { result ≡ field_mark_bit system }

@@ -26,7 +26,7 @@ pub fn encode(word: &VitcWord) -> u128
     requires { HasLines (system_with word.now.fields.label.count) }
     ensures { Spells (system_with word.now.fields.label.count) word.now result }
 {
-    // The numbers share out the bits, so each of them stands in its place of their sum.
+    // The numbers share out the bits, so each of them is in its place of their sum.
     a_row_is_its_sum();
     fields_are_exact();
     let system = system_of(word.fields.label().count());

@@ -39,7 +39,7 @@ abbrev StandOrAreFaulty : ℕ → List ℕ → Type 0
 StandOrAreFaulty n runs = ((bits : ℕ) × StandFor n runs bits × (bits < 2 ^ 90))
     ⊎ ((fault : RunFault) × IsRunFault n runs fault)
 
--- behind the runs so far there are so many left
+-- behind the runs so far, with `left` runs left
 read_on : (n : ℕ) (runs : List ℕ) (left i bits cells : ℕ) (is_high : Bool) → 1 ≤ n → left + i ≡ length runs
     → ReadSoFar n runs i bits cells is_high → StandOrAreFaulty n runs
 read_on n runs zero i bits cells is_high some all s =

@@ -1,4 +1,4 @@
--- The quotient of a run by a cell, by a product and a shift; and the lower part of the product tells how much the
+-- The quotient of a run by a cell, by a product and a shift; and the lower part of the product says how much the
 -- division leaves.
 use Rattle.std.proofs.Common.{◌≡◌, ℕ, ◌+◌, ◌-◌, ◌*◌, ◌/◌, ◌%◌, ◌^◌, ◌<◌, ◌≤◌, sym, ap, ◌∙◌, arith, inl, inr}
 use Rattle.std.proofs.Math.Nat.{div-mul-le_self, div-add-mod, mod-eq-sub-div-mul, mul-div-mul_right}

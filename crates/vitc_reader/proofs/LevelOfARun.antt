@@ -9,7 +9,7 @@ use Rattle.std.proofs.lemmas.Nat.Bits.{bit_at-trailing_zeros, bit_at-trailing_on
 use Rattle.std.proofs.lemmas.Nat.Bits.{bit_at_cat_low, bit_at_ones, bit_at-zero}
 use Rattle.lemmas.specs.Bits.{bit_at_low}
 
--- what the lowest k bits say, where they are all of one level
+-- what the lowest k bits say, if they are all of one level
 pub record Level (n k level_bits : ℕ) : Type 0 where
   pub least : 1 ≤ k
   pub within : k ≤ 90

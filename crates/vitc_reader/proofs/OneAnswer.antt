@@ -22,7 +22,7 @@ use Rattle.vitc_reader.proofs.WholeCells.{one_list, one_number, cut, total-appen
 
 -- ---- the place of a fault
 
--- where two lists are one, the one that is longer at the front goes on with the other's next
+-- if two lists are one, the one that is longer at the front goes on with the other's next
 split_there : (before after earlier later : List ℕ) (x y : ℕ) → before ++ x ∷ after ≡ earlier ++ y ∷ later
     → length before < length earlier
     → (mid : List ℕ) × (earlier ≡ before ++ x ∷ mid)

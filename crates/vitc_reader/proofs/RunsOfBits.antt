@@ -13,7 +13,7 @@ use Rattle.vitc_reader.proofs.BitsOfCells.{level_after, odd_runs}
 use Rattle.vitc_reader.proofs.LevelOfARun.{ones_level, zeros_level, not_odd}
 use Rattle.vitc_reader.proofs.WrittenSoFar.{runs_are_cells, few_runs, turned, ended}
 
--- a run at the bottom of bits, and the level of what stands above it
+-- a run at the bottom of bits, and the level of what is above it
 pub record Run (level : Bool) (bits k : ℕ) : Type 0 where
   pub least : 1 ≤ k
   pub run : bits % 2 ^ k ≡ bits_of_run level k
@@ -55,7 +55,7 @@ within bits m k width least some =
       | inr le ↦ le
     ]
 
--- and what stands above it is less
+-- and what is above it is less
 above_less : (bits m k : ℕ) → bits < 2 ^ m → k ≤ m → bits / 2 ^ k < 2 ^ (m - k)
 above_less bits m k width le =
     elim (cases_lt (bits / 2 ^ k) (2 ^ (m - k))) [

@@ -1,4 +1,4 @@
--- The runs that stand in bytes: half as many, and each of them by its two bytes.
+-- The runs that are in bytes: half as many, and each of them by its two bytes.
 use Rattle.std.proofs.Common.{◌≡◌, ℕ, zero, suc, ◌*◌, ◌/◌, ◌<◌, List, [], ◌∷◌, length, drop, get_or, refl, arith}
 use Rattle.byteorder.specs.Endian.{big_number}
 use Rattle.vitc_reader.specs.Runs.{runs_of_bytes}

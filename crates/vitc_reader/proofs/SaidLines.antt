@@ -1,6 +1,6 @@
--- A line says a word exactly where its runs are those of the word's line, so the answer of a field tells whose lines
+-- A line says a word exactly if its runs are those of the word's line, so the answer of a field says whose lines
 -- its
--- lines are, and what tells that is its answer.
+-- lines are, and what says that is its answer.
 use Rattle.std.proofs.Common.{◌≡◌, ◌⊎◌, ℕ, ◌^◌, ◌<◌, ◌≤◌, true, List, [], ◌∷◌, ◌++◌, Result, Ok, Err}
 use Rattle.std.proofs.Common.{inl, inr, refl, sym, ap, ◌∙◌, subst, append_assoc}
 use Rattle.std.specs.Prelude.{◌≢◌}

@@ -1,4 +1,4 @@
--- Two words are the same where each of their parts is.
+-- Two words are the same if each of their parts is.
 use Rattle.std.proofs.Common.{◌≡◌, ℕ, Bool, true, false, refl, rules}
 use Rattle.std.specs.Prelude.{◌&&◌}
 use lib.Dec.{eqb}

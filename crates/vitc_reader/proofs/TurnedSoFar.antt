@@ -119,7 +119,7 @@ not_read n runs i run line (Run j) bits some t lt is no_run stand = no_cells n r
 not_read n runs i run line (TooLong j) bits some t lt is too_far stand =
     too_many n runs i t.value line.cells too_far.1 bits t.is_high some t.so_far lt (rw is at too_far.2) too_far.3 stand
 
--- what is said of a success that is told by a test
+-- what is said of a success that a test decides
 pub told_success : {P : ℕ → Type 0} (result : Result ℕ RunFault) (is_read : Bool) → is_read ≡ is_ok result
     → IfOk result P → is_read ≡ true
     → (bits : ℕ) × P bits

@@ -30,11 +30,11 @@ pub not_longer : (n r : ℕ) → 4 * (nearest n r * n) ≤ 460 * r + n
 not_longer n r = let h = div-mul-le_self (460 * r + n) (4 * n) in let e = quarters n (nearest n r) in
     omega (arith, h, e)
 
--- it is the number of cells where it is some, and not much shorter
+-- it is the number of cells if it is some, and not much shorter
 pub are_cells : (n r : ℕ) → 1 ≤ nearest n r → 460 * r + n - 4 * (nearest n r * n) ≤ 2 * n → IsCells n r (nearest n r)
 are_cells n r some near = let h = not_longer n r in (some, omega (arith, h, near))
 
--- so there is none where the nearest is 0 or not near
+-- so there is none if the nearest is 0 or not near
 pub not_none : (n r k : ℕ) → 1 ≤ n → IsCells n r k → nearest n r < 1 → ⊥
 not_none n r k some cells low = let e = is_nearest n r k some cells in let one = cells.0 in omega (arith, e, one, low)
 
@@ -97,6 +97,6 @@ pub total-append : (xs ys : List ℕ) → total (xs ++ ys) ≡ total xs + total 
 total-append [] ys = omega arith
 total-append (x ∷ xs) ys = let h = total-append xs ys in omega (arith, h)
 
--- the run at a place, with what stands before and after it
+-- the run at a place, with what comes before and after it
 pub at_place : (xs : List ℕ) (i d : ℕ) → i < length xs → xs ≡ take i xs ++ get_or xs i d ∷ drop (suc i) xs
 at_place xs i d lt = sym (take-append-drop i xs) ∙ ap (λ (ys : List ℕ). take i xs ++ ys) (drop-cons xs i d lt)

@@ -6,7 +6,7 @@ use vitc_line::LineFault;
 /// The first run of a line that can't be taken, counted from 0.
 #[derive(Clone, Copy, Debug, PartialEq, Eq, Drop, Error)]
 pub enum RunFault {
-    /// This run is more than a quarter of a cell from each whole number of cells, or from one cell where
+    /// This run is more than a quarter of a cell from each whole number of cells, or from one cell if
     /// it is shorter.
     #[error("this run is no whole number of cells")]
     Run(usize),

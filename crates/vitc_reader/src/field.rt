@@ -99,7 +99,7 @@ impl Model for FieldReader {
 }
 
 impl FieldReader {
-    /// A reader of a field of the system, 25 or 30 frames, whose lines last so many ticks, from 460 to
+    /// A reader of a field of the system, 25 or 30 frames, whose lines last `length` ticks, from 460 to
     /// 65,535.
     pub fn new(system: System, length: u32) -> FieldReader
         requires system { HasLines system }
@@ -126,8 +126,8 @@ impl FieldReader {
         self.answer = self.answer.with(said);
     }
 
-    /// Takes the next line of the field, as `line` does, where each run stands as two bytes, the most
-    /// significant first. It tells whether the runs stand for bits.
+    /// Takes the next line of the field, as `line` does, with each run as two bytes, the most
+    /// significant first. It returns whether the runs stand for bits.
     pub fn line_of_bytes(&mut self, bytes: &[u8]) -> bool
         requires { MayBeLine (runs_of_bytes bytes.now) }
         ensures same { (self.new.system ≡ self.old.system) × (self.new.length ≡ self.old.length) }

@@ -46,9 +46,9 @@ pub fn lines_have_one_answer()
     spelling_is_exact();
 }
 
-/// The answer of a field says whose lines its lines are: agreed on a word exactly where some line's runs are those of
-/// the word's line, each to a quarter of a cell, and every other line is so or at fault; in conflict exactly where the
-/// first two lines that differ are these words' lines; nothing where every line is at fault, the first one with this.
+/// The answer of a field says whose lines its lines are: agreed on a word exactly if some line's runs are those of
+/// the word's line, each to a quarter of a cell, and every other line is so or has a fault; in conflict exactly if the
+/// first two lines that differ are these words' lines; nothing if every line has a fault, the first line this one.
 pub fn an_answer_says_whose_lines_they_are()
     ensures says { (system : System) (n : ℕ) (lines : List (List ℕ)) (answer : FieldAnswer)
         → IsAnswer system n lines answer
@@ -61,7 +61,7 @@ pub fn an_answer_says_whose_lines_they_are()
     bits_spell_a_word_or_have_a_fault();
 }
 
-/// A line that stands again behind itself changes no answer.
+/// A line that comes again right after itself changes no answer.
 pub fn a_line_again_changes_nothing()
     ensures { (reader : FieldState) (lines : List (List ℕ)) (line : List ℕ) → StandsFor reader (lines ++ line ∷ [])
         → StandsFor reader ((lines ++ line ∷ []) ++ line ∷ []) }

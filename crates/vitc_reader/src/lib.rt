@@ -2,14 +2,14 @@
 //!
 //! A line of video is alternately high and low, beginning with the high level of bit 0. A run is how long one
 //! level lasts, in ticks. One cell of a bit lasts 1/115 of the line. A field carries its time code in
-//! several lines, and a reader tells what they say together.
+//! several lines, and a reader says what they carry together.
 //!
 //! What this crate promises:
-//! - `read_runs` gives the bits exactly where the runs stand for some (`specs/Runs.antt`, `StandFor`): each
+//! - `read_runs` gives the bits exactly if the runs stand for some (`specs/Runs.antt`, `StandFor`): each
 //!   run is within a quarter of a cell of a whole number of cells, and there are 90 at most. Else it names
 //!   the first run that can't be taken (`IsRunFault`).
 //! - `runs_of` writes the runs of some bits, and they stand for these bits, at every length of a line.
-//! - A `FieldReader` that was fed some lines, as their runs or as the bytes in which these stand, answers for
+//! - A `FieldReader` that was fed some lines, as their runs or as the bytes of these, answers for
 //!   all of them (`specs/Field.antt`, `StandsFor`, `IsAnswer`): agreed, in conflict, or nothing, with the
 //!   fault of the first line. That is: it says whose lines these are, of which word's line each has the runs,
 //!   and where the first two differ (`specs/Agreement.antt`, `SaysOf`; `laws`).

@@ -1,9 +1,9 @@
-//! The bits of some cells, all of them 1. They stand as a table, since a shift of 128 bits by a number that
+//! The bits of some cells, all of them 1. They are in a table, since a shift of 128 bits by a number that
 //! isn't known takes longer than to look there. Read next: `reading`.
 
 ghost use Rattle.std.specs.Prelude.{◌≡◌, ◌≤◌, ◌-◌, ◌^◌};
 
-/// So many ones as a number, for each number of cells that a line may have.
+/// Each number of ones as a number, for each number of cells that a line may have.
 const ONES: [u128; 91] = [
     0,
     1,
@@ -98,7 +98,7 @@ const ONES: [u128; 91] = [
     0x3ff_ffff_ffff_ffff_ffff_ffff,
 ];
 
-/// So many ones as a number.
+/// The number whose lowest `cells` bits are ones, and no others.
 #[inline(always)]
 pub(crate) fn ones(cells: u32) -> u128
     requires { cells ≤ 90 }

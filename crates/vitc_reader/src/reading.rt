@@ -23,7 +23,7 @@ pub(crate) fn factor_of(length: u32) -> u64
     ((1 << 43) / (4 * length as u64) + 1) << 21
 }
 
-/// How many cells a run of so many ticks is: it is within a quarter of a cell of them.
+/// How many cells a run of `run` ticks is: it is within a quarter of a cell of them.
 #[inline(always)]
 fn cells_of(length: u32, factor: u64, run: u16) -> Option<u32>
     requires length { IsLineLength length }
@@ -36,7 +36,7 @@ fn cells_of(length: u32, factor: u64, run: u16) -> Option<u32>
     let quarters = 460 * run as u32 + length;
     let product = quarters as u128 * factor as u128;
     let cells = (product >> 64) as u32;
-    // What the division leaves stands in the lower half, times the factor: half of the divisor is near enough.
+    // What the division leaves is in the lower half, times the factor: half of the divisor is near enough.
     let half = (2 * length as u64 + 1) * factor;
     if cells >= 1 && ((product % (1 << 64)) as u64) < half {
         Some(cells)
@@ -105,8 +105,8 @@ pub fn read_runs(length: u32, runs: &[u16]) -> Result<u128, RunFault>
     Ok(line.bits)
 }
 
-/// The same of runs that stand as two bytes each, the most significant first. Alone it has the registers that its loop
-/// wants.
+/// The same of runs as two bytes each, the most significant first. Alone it has the registers that its loop
+/// needs.
 #[inline(never)]
 pub(crate) fn read_bytes(length: u32, factor: u64, bytes: &[u8]) -> Result<u128, RunFault>
     requires length { IsLineLength length }

@@ -4,7 +4,7 @@ ghost use Rattle.std.specs.Prelude.{◌≡◌, ◌↔◌, ◌^◌, ◌<◌, ◌�
 ghost use Rattle.vitc_reader.specs.Runs.{IsLineLength, MayBeLine, StandFor, AreRunsOf, bits_of_run};
 ghost use Rattle.vitc_reader.specs.Written.{run_length, runs_in};
 
-/// How many of the lowest bits have this level, where the lowest one has it.
+/// How many of the lowest bits have this level, if the lowest one has it.
 fn run_of(is_high: bool, rest: u128) -> u32
     requires width { rest < 2 ^ 90 }
     requires some { 1 ≤ rest }
@@ -23,7 +23,7 @@ fn run_of(is_high: bool, rest: u128) -> u32
     }
 }
 
-/// The tick at which this cell of a line of so many ticks begins.
+/// The tick at which this cell of a line of `length` ticks begins.
 fn begin_of(length: u32, cell: u32) -> u32
     requires length { IsLineLength length }
     requires cell { cell ≤ 90 }
@@ -33,7 +33,7 @@ fn begin_of(length: u32, cell: u32) -> u32
 }
 
 /// Writes the runs of a line with these bits, in ticks, to the front of `runs`, and gives their number,
-/// which is odd. The line lasts so many ticks, from 460 to 65,535, and bit 0 is 1. The runs go up to the
+/// which is odd. The line lasts `length` ticks, from 460 to 65,535, and bit 0 is 1. The runs go up to the
 /// last high one. Cell i begins at tick i times the length by 115, rounded down.
 pub fn runs_of(length: u32, bits: u128, runs: &mut [u16; 90]) -> usize
     requires length { IsLineLength length }

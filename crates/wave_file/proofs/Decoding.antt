@@ -269,7 +269,7 @@ waiting asked notes place (Data format (Announced left) room) part is less =
       ends = lt-leb left (length part) (omega (arith, less, there)) ∙ sym (and_right (length part == 0) false refl);
     }
 
--- ---- what is told
+-- ---- what is answered
 
 -- the format of data that have begun is taken
 pub stage_taken : (asked : Asked) (place : ℕ) (stage : Stage) → IsStage asked place stage

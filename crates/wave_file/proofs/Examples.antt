@@ -8,7 +8,7 @@ use Rattle.wave_file.specs.Grammar.{Wide, file_of, read_whole}
 use Rattle.wave_file.specs.Wave.{bad, chunks_at, file_at}
 use Rattle.tc_io.specs.Verdict.{past_limit}
 
--- of a file a track is asked
+-- of a file a track is asked for
 abbrev of_track : ℕ → Asked
 of_track track = record { track = track; least_rate = 1; most_samples = 2 ^ 40 }
 
@@ -44,7 +44,7 @@ unknown = 255 ∷ 255 ∷ 255 ∷ 255 ∷ []
 nothing : List ℕ
 nothing = 0 ∷ 0 ∷ 0 ∷ 0 ∷ []
 
--- format 1, so many tracks of so many bits, in blocks of so many bytes, at 8,000 a second
+-- format 1, with these tracks, bits, and bytes of a block, at 8,000 a second
 format_with : ℕ → ℕ → ℕ → List ℕ
 format_with tracks block bits =
     16 ∷ 0 ∷ 0 ∷ 0 ∷ 1 ∷ 0 ∷ tracks ∷ 0 ∷ 64 ∷ 31 ∷ 0 ∷ 0 ∷ 8_000 * block % 256 ∷ 8_000 * block / 256 ∷ 0 ∷ 0 ∷ block
@@ -85,7 +85,7 @@ thirty_two_bits = refl
 
 -- ---- sizes of 64 bits
 
--- the size of the data stands at byte 8 of ds64; what follows the data is passed over
+-- the size of the data is at byte 8 of ds64; what follows the data is passed over
 long_sizes : file_at (of_track 1) (rf64 ++ unknown ++ wave ++ ds64 ++ 16 ∷ 0 ∷ 0 ∷ 0 ∷ 9 ∷ 9 ∷ 9 ∷ 9 ∷ 9 ∷ 9 ∷ 9 ∷ 9 ∷ 2
     ∷ 0 ∷ 0
     ∷ 0 ∷ 0 ∷ 0 ∷ 0 ∷ 0 ∷ fmt
@@ -156,7 +156,7 @@ an_odd_chunk : file_at (of_track 1) (riff ++ unknown ++ wave ++ 74 ∷ 85 ∷ 78
 unfolding riff unknown wave fmt format_with samples format chunks_at samples_at
 an_odd_chunk = refl
 
--- format 65,534 is told by its subformat at byte 24
+-- format 65,534 is known by its subformat at byte 24
 extensible : ℕ → ℕ → List ℕ
 extensible subformat other =
     riff ++ unknown ++ wave_fmt ++ 26 ∷ 0 ∷ 0 ∷ 0 ∷ 254 ∷ 255 ∷ 1 ∷ 0 ∷ 64 ∷ 31 ∷ 0 ∷ 0 ∷ 128 ∷ 62 ∷ 0 ∷ 0 ∷ 2 ∷ 0 ∷ 16
@@ -171,7 +171,7 @@ another_subformat : file_at (of_track 1) (extensible 3 1) ≡ bad (fault.Format 
 unfolding extensible riff unknown wave_fmt samples chunks_at
 another_subformat = refl
 
--- a rate below the least that is asked is a fault of the format, at the place of its rate
+-- a rate below the least that is asked for is a fault of the format, at the place of its rate
 a_low_rate : file_at (record { track = 1; least_rate = 8_001; most_samples = 9 }) (riff ++ unknown ++ wave_fmt
     ++ format_with 1 2 16) ≡ bad (fault.Format 24)
 unfolding riff unknown wave_fmt format_with chunks_at

@@ -1,4 +1,4 @@
--- A format that a sound file is read with was judged, so its rate is from the least that is asked to 6,250,000, and
+-- A format that a sound file is read with was judged, so its rate is from the least that is asked for to 6,250,000, and
 -- the ticks are not too
 -- many.
 use Rattle.std.proofs.Common.{◌≡◌, ℕ, zero, suc, ◌+◌, ◌*◌, ◌≤◌, Bool, true, false, not, ◌&&◌, List, [], ◌∷◌, length}

@@ -1,4 +1,4 @@
--- A piece that is whole is judged by itself, whatever stands behind it; and bytes that are passed over change nothing
+-- A piece that is whole is judged by itself, whatever comes behind it; and bytes that are passed over change nothing
 -- but the place.
 use Rattle.std.proofs.Common.{true, ◌≡◌, ℕ, zero, suc, ◌+◌, ◌-◌, ◌<◌, ◌≤◌, ◌⊎◌, inl, inr, List, [], ◌∷◌, ◌++◌, Some}
 use Rattle.std.proofs.Common.{length, take, drop, refl, ap}
@@ -30,7 +30,7 @@ nat_le_same a b c d to back = go (cases_lt b a) (cases_lt d c)
     go (inr l) (inl m) = let h = to l in absurd (omega (arith, m, h))
     go (inr l) (inr m) = le-leb a b l ∙ sym (le-leb c d m)
 
--- a whole piece, and what stands behind it
+-- a whole piece, and what comes behind it
 pub piece_whole : (width : ℕ) (brings : List ℕ → List ℕ → Reading) (p more : List ℕ) → length p ≡ width
     → piece width brings (p ++ more) ≡ brings p more
 piece_whole width brings p more e =

@@ -160,7 +160,7 @@ format_brings asked notes place next body =
 abbrev sizes_bring : Notes → (Notes → Reading) → List ℕ → Reading
 sizes_bring notes next body = next (record notes { data_size = Some (little_number 8 (drop 8 body)) })
 
--- what a chunk begins, where the chunks behind its bytes go on
+-- what a chunk begins, if the chunks behind its bytes go on
 chunk_goes_on : (asked : Asked) (notes : Notes) (place : ℕ) (chunk : Chunk) (next later : ℕ → Notes → Reading)
     (bytes more : List ℕ)
     → ((size : ℕ) (n : Notes) → GoesOn (next size n) (later size n))

@@ -56,7 +56,7 @@ nothing_left asked format extent room tail some inside ends =
     (ap (λ (b : Bool). if b then good else past_limit) (le-leb (bytes_inside extent tail / format.block) room
     (omega (arith, none)))) ends
 
--- the extent is that of so many bytes, whatever follows them, or nothing follows
+-- the extent is that of `count` bytes, whatever follows them, or nothing follows
 abbrev pub Covers : Extent → ℕ → List ℕ → Type 0
 Covers (Announced n) count tail = n ≡ count
 Covers Open count tail = tail ≡ []
@@ -340,7 +340,7 @@ long_file_read asked form file_size data_size before format blocks tail extent p
 
 -- ---- how far the data go
 
--- a size that is none of those that tell no length
+-- a size that is none of those that say no length
 told_size : (file_size place size : ℕ) (format : WaveFormat) → 1 ≤ size → size < 2 ^ 31 - 2 ^ 16
     → extent_of (noted (no_notes false file_size) format) place size ≡ Some (Announced size)
 told_size file_size place size format some less =

@@ -1,5 +1,5 @@
 -- The bytes of a block are those of its samples one behind another, each of the same width, so a track is found where
--- it stands.
+-- it is.
 use Rattle.std.proofs.Common.{◌≡◌, ℕ, zero, suc, ◌+◌, ◌-◌, ◌*◌, ◌<◌, ◌≤◌, ◌^◌, ℤ, pos, List, [], ◌∷◌}
 use Rattle.std.proofs.Common.{◌++◌, length, take, drop, get_or}
 use Rattle.std.proofs.Common.{refl, ap, ap₂, ◌∙◌, arith, subst, sym, append_assoc}
@@ -39,7 +39,7 @@ block_length w (s ∷ block) all =
     let next = suc-mul (length block) w in
     omega (arith, one, rest, sum, next)
 
--- behind the samples of the tracks before it stands that of a track
+-- behind the samples of the tracks before it comes that of a track
 from_track : (w k : ℕ) (block : List Sample) (d : Sample) → AllByRecursion (IsOfWidth w) block → k < length block
     → drop (k * w) (block_text block) ≡ sample_text (get_or block k d) ++ block_text (drop (suc k) block)
 from_track w k [] d all less = absurd (omega (arith, less))

@@ -1,5 +1,5 @@
 -- The format of a sound file, as the chunk `fmt ` gives it, and the samples of a track in its blocks (EBU Tech 3285,
--- ITU-R BS.2088). Numbers stand with the less significant byte first. Which formats are taken is this project's own.
+-- ITU-R BS.2088). Numbers have the less significant byte first. Which formats are taken is this project's own.
 use Rattle.std.specs.Prelude.{◌≡◌, ◌≤◌, ℕ, zero, suc, ◌+◌, ◌-◌, ◌*◌, ◌/◌, ℤ, pos, ◌-ℤ◌, Bool, not, ◌&&◌, ◌||◌, ◌==◌}
 use Rattle.std.specs.Prelude.{nat_le, nat_lt, if◌then◌else◌}
 use Rattle.std.specs.Prelude.{List, [], ◌∷◌, length, take, drop, slice_index, Option, Some, None, Result, Ok, Err}
@@ -13,7 +13,7 @@ use Rattle.wave_file.specs.declared.stage.TheConstants.{MAX_SAMPLES}
 use Rattle.limits.specs.declared.sound_file.TheConstants.{MAX_TRACKS}
 use Rattle.wave_file.specs.declared.format.Asked.{Asked}
 
--- ---- what is asked
+-- ---- what is asked for
 
 -- a track from 1, from 1 sample a second on, and samples within the limit
 pub record IsAsked (asked : Asked) : Type 0 where

@@ -1,5 +1,5 @@
 -- A sound file as a text, as a writer makes it (EBU Tech 3285; ITU-R BS.2088): a form, chunks before the data, the
--- format, the blocks of the data, and what follows them. Numbers stand with the less significant byte first, letters as
+-- format, the blocks of the data, and what follows them. Numbers have the less significant byte first, letters as
 -- they are read.
 use Rattle.std.specs.Prelude.{◌≡◌, ◌≢◌, ◌⊎◌, ◌≤◌, ◌<◌, ◌^◌, ℕ, ◌+◌, ◌-◌, ◌*◌, ◌%◌, ℤ, pos, ◌-ℤ◌, FitsSigned}
 use Rattle.std.specs.Prelude.{true, false}

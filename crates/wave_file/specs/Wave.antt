@@ -1,5 +1,5 @@
 -- The sound file as a whole text, piece after piece: the form, the letters WAVE, and chunks up to the first one of
--- `data`, whose blocks are the samples. A piece is judged where it is whole: the first one that is not taken is the
+-- `data`, whose blocks are the samples. A piece is judged when it is whole: the first one that is not taken is the
 -- fault.
 use Rattle.std.specs.Prelude.{ℕ, zero, suc, ◌+◌, ◌/◌, ◌%◌, min, ℤ, Bool, false, ◌==◌, nat_le, if◌then◌else◌}
 use Rattle.std.specs.Prelude.{List, [], ◌∷◌, length, take, drop, Option, Some, None, Result, Ok, Err}

@@ -31,7 +31,7 @@ pub const DATA: u32 = 0x6461_7461;
 /// The bytes of `ds64` that are looked at, and that it has at least.
 pub const SIZES_LENGTH: u32 = 16;
 
-/// A size that stands in `ds64`, or that is not known.
+/// A size that is in `ds64`, or that is not known.
 pub const NO_SIZE: u32 = 0xffff_ffff;
 
 /// The least of the sizes about 2 to the 31st by which programs say that they do not know the length.
@@ -56,7 +56,7 @@ pub struct Notes {
 /// How far data go.
 #[derive(Clone, Copy)]
 pub enum Extent {
-    /// So many bytes.
+    /// This number of bytes.
     Announced(u64),
     /// To the end of the input: their writer did not know.
     Open,
@@ -96,7 +96,7 @@ fn is_open(notes: &Notes, place: u64, size: u32) -> bool
     is_open_size(size) || (size == 0 && u64::from(notes.file_size) <= place)
 }
 
-/// How far data of this size at a place go, where that is said.
+/// How far data of this size at a place go, if that is said.
 fn extent_of(notes: &Notes, place: u64, size: u32) -> Option<Extent>
     ensures { result ≡ extent_of notes.now place size }
 {

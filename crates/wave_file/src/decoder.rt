@@ -29,11 +29,11 @@ type Part = ArrayVec<u8, PIECE_ROOM>;
 /// What bytes complete.
 #[derive(Clone, Copy)]
 pub enum Taken {
-    /// So many bytes, and no sample.
+    /// The number of bytes taken; no sample ends with them.
     Nothing(usize),
-    /// So many bytes, behind which the data begin.
+    /// The number of bytes taken, behind which the data begin.
     Begin { count: usize, format: WaveFormat },
-    /// So many bytes, and with the last of them a sample of the track.
+    /// The number of bytes taken, and the sample of the track that ends with the last of them.
     Sample { count: usize, sample: i16 },
     /// The first fault of the bytes so far.
     Fault(WaveFault),
@@ -62,7 +62,7 @@ impl Model for WaveDecoder {
 }
 
 impl WaveDecoder {
-    /// A decoder of what is asked, that stands before the first byte.
+    /// A decoder of what is asked for, before the first byte.
     pub fn new(asked: Asked) -> WaveDecoder
         requires asked { IsAsked asked }
         requires most { asked.track ≤ 64 }
@@ -109,7 +109,7 @@ impl WaveDecoder {
         self.take_piece(want, bytes)
     }
 
-    /// Takes the next piece, of which so many of the bytes are wanted.
+    /// Takes the rest of the next piece: the first `want` of the bytes.
     #[inline(always)]
     fn take_piece(&mut self, want: usize, bytes: &[u8]) -> Taken
         requires some { 1 ≤ want }
@@ -158,9 +158,9 @@ impl WaveDecoder {
         }
     }
 
-    /// Takes whole blocks at the front of the bytes, where the next bytes are blocks of data, and puts
+    /// Takes whole blocks at the front of the bytes, if the next bytes are blocks of data, and puts
     /// their samples into the room from its front on. Answers how many bytes and how many samples these
-    /// are: none where a block is cut, where data have not begun or have ended, or at a limit.
+    /// are: none if a block is cut, if data have not begun or have ended, or at a limit.
     pub fn samples(&mut self, bytes: &[u8], room: &mut [i16]) -> (usize, usize)
         ensures bytes { result.0 ≤ length bytes.now }
         ensures samples { result.1 ≤ length room.new }
@@ -195,7 +195,7 @@ impl WaveDecoder {
         (length, count)
     }
 
-    /// The format, where the data have begun. What was taken is good, and the samples that were given are
+    /// The format, if the data have begun. What was taken is good, and the samples that were given are
     /// those of its bytes.
     pub fn format(&self) -> Option<WaveFormat>
         ensures value { result ≡ format_in_decoding self.now }
@@ -207,7 +207,7 @@ impl WaveDecoder {
         format_at(&self.stage)
     }
 
-    /// The end of the input: the fault where it may not end here.
+    /// The end of the input: the fault if it may not end here.
     pub fn finish(&self) -> Result<(), WaveFault>
         ensures ok { OnOk result ((bytes : List ℕ) (samples : List ℤ) → StandsFor self.now bytes samples
             → end_fault_of self.now.asked bytes ≡ None) }
@@ -222,7 +222,7 @@ impl WaveDecoder {
     }
 }
 
-/// What a piece brings, the first bytes of which were kept. Where the reading ends, they are kept on.
+/// What a piece brings, the first bytes of which were kept. If the reading ends, they are kept on.
 fn step_with(
     asked: Asked,
     notes: &Notes,
@@ -251,7 +251,7 @@ fn step_with(
     step
 }
 
-/// The format, where the data have begun.
+/// The format, if the data have begun.
 fn format_at(stage: &Stage) -> Option<WaveFormat>
     ensures { result ≡ format_at_stage stage.now }
 {
@@ -276,7 +276,7 @@ fn may_end(stage: &Stage) -> bool
     }
 }
 
-/// So many bytes, and no more than there is room for.
+/// `length` bytes, but no more than there is room for.
 fn within(room: u64, length: usize) -> usize
     requires room { 1 ≤ room }
     requires length { 1 ≤ length }
@@ -291,7 +291,7 @@ fn within(room: u64, length: usize) -> usize
     }
 }
 
-/// How many of so many bytes are data and within the limit.
+/// How many of `length` bytes are data and within the limit.
 fn bytes_inside(extent: Extent, room: u64, length: usize) -> usize
     ensures length { result ≤ length }
     ensures room { result ≤ room }
@@ -309,7 +309,7 @@ fn bytes_inside(extent: Extent, room: u64, length: usize) -> usize
     }
 }
 
-/// How many whole blocks are in so many bytes, where there are so many places and so many are left.
+/// How many whole blocks are in `inside` bytes, if there are `places` places and `left` blocks are left.
 fn whole_blocks(inside: usize, block: usize, places: usize, left: u64) -> usize
     requires { 1 ≤ block }
     ensures inside { result * block ≤ inside }

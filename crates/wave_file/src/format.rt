@@ -16,7 +16,7 @@ pub const FORMAT_LENGTH: u32 = 26;
 /// The bytes that a format chunk has at least.
 pub const MIN_FORMAT_LENGTH: u32 = 16;
 
-/// How samples stand in a file. The samples of all tracks at one time are a block.
+/// How samples are stored in a file. The samples of all tracks at one time are a block.
 #[derive(Clone, Copy)]
 pub struct WaveFormat {
     /// From 1 to 64.
@@ -29,18 +29,18 @@ pub struct WaveFormat {
     pub bits: u16,
 }
 
-/// What is asked of a sound file.
+/// What is asked for of a sound file.
 #[derive(Clone, Copy, Debug, PartialEq, Eq)]
 pub struct Asked {
     /// The track, from 1 to 64.
     pub track: u32,
     /// A file of fewer samples a second is refused. From 1 on: of 1 none is.
     pub least_rate: u32,
-    /// So many samples of the track are read, at most.
+    /// How many samples of the track are read, at most.
     pub most_samples: u64,
 }
 
-/// The format in the first bytes of a format chunk, which stand at a place; or its first field that is
+/// The format in the first bytes of a format chunk, which begin at a place; or its first field that is
 /// not taken.
 pub(crate) fn format_in(asked: Asked, place: u64, body: &[u8]) -> Result<WaveFormat, WaveFault>
     requires asked { IsAsked asked }
@@ -101,21 +101,21 @@ fn field_fault(asked: Asked, place: u64, is_pcm: bool, format: &WaveFormat) -> O
     }
 }
 
-/// Whether a file may have so many tracks.
+/// Whether a file may have `tracks` tracks.
 fn is_track_count(tracks: u16) -> bool
     ensures { result ≡ is_track_count tracks }
 {
     1 <= tracks && u32::from(tracks) <= MAX_TRACKS
 }
 
-/// Whether a file may have so many samples a second, where so many are asked at least.
+/// Whether a file may have `rate` samples a second, if at least `least` are asked for.
 fn is_rate(least: u32, rate: u32) -> bool
     ensures { result ≡ is_rate least rate }
 {
     least <= rate && rate <= MAX_RATE
 }
 
-/// Whether a sample may have so many bits.
+/// Whether a sample may have `bits` bits.
 fn is_sample_size(bits: u16) -> bool
     ensures { result ≡ is_sample_size bits }
 {

@@ -35,8 +35,8 @@ pub fn the_letters_are_these()
     ensures samples { chunk.DATA ≡ big_number 4 (100 ∷ 97 ∷ 116 ∷ 97 ∷ []) }
 {}
 
-/// In RIFF these sizes of data tell no length: the greatest number, those from 2,147,418,112 to
-/// 2,147,483,648, and at byte 36 that of 0 where the file tells a size of at most 36. Their neighbours do.
+/// In RIFF these sizes of data say no length: the greatest number, those from 2,147,418,112 to
+/// 2,147,483,648, and at byte 36 that of 0 if the file gives a size of at most 36. Their neighbours do.
 pub fn these_sizes_tell_no_length()
     ensures greatest { chunk.NO_SIZE ≡ 2 ^ 32 - 1 }
     ensures least { chunk.LEAST_OPEN_SIZE ≡ 2 ^ 31 - 2 ^ 16 }
@@ -75,21 +75,21 @@ pub fn what_a_sound_file_shows_stays()
     ensures { (asked : Asked) (bytes more : List ℕ) → GoesOn (reading_of asked bytes) (reading_of asked (bytes ++ more)) }
 {}
 
-/// Whatever the bytes, no more samples are read than are asked, and before a format there are none, and the
+/// Whatever the bytes, no more samples are read than are asked for, and before a format there are none, and the
 /// input may not end.
 pub fn samples_are_few_and_behind_a_format()
     ensures { (asked : Asked) (bytes : List ℕ) → IsWithin asked (reading_of asked bytes) }
 {}
 
-/// A file that was made of blocks is read as its format and the samples of a track, whatever stands before its
-/// format and behind its data, and the input may end there: in RIFF where the size of its data stands in it, and
-/// where it tells no length and nothing follows the data; in RF64 and BW64 where the size stands in `ds64`.
+/// A file that was made of blocks is read as its format and the samples of a track, whatever comes before its
+/// format and behind its data, and the input may end there: in RIFF if the size of its data is in it, and
+/// if it says no length and nothing follows the data; in RF64 and BW64 if the size is in `ds64`.
 pub fn a_file_is_read_as_it_was_written()
     ensures { (asked : Asked) (format : WaveFormat) (blocks : List (List Sample)) (bytes : List ℕ)
         → IsMadeOf asked format blocks bytes → reading_of asked bytes ≡ read_whole format (track_of asked.track blocks) }
 {}
 
-/// A format was judged before its data: its rate is from the least that is asked to 6,250,000.
+/// A format was judged before its data: its rate is from the least that is asked for to 6,250,000.
 pub fn the_rate_of_a_format_is_judged()
     ensures { (asked : Asked) (bytes : List ℕ) (format : WaveFormat) → (reading_of asked bytes).format ≡ Some format
         → (asked.least_rate ≤ format.rate) × (format.rate ≤ 6_250_000) }

@@ -17,10 +17,10 @@ use crate::format::{Asked, FORMAT_LENGTH, WaveFormat, format_in};
 use crate::sample::sample_in;
 use byteorder::{BigEndian, ByteOrder, LittleEndian};
 
-/// So many bytes are read, at most: more than any store holds.
+/// How many bytes are read, at most: more than any store holds.
 pub const MAX_BYTES: u64 = 4_611_686_018_427_387_904;
 
-/// So many samples of the track may be asked, at most: 265 days at 48,000 samples a second.
+/// How many samples of the track may be asked for, at most: 265 days at 48,000 samples a second.
 pub const MAX_SAMPLES: u64 = 1_099_511_627_776;
 
 /// What the next bytes are.
@@ -32,7 +32,7 @@ pub enum Stage {
     Wave {
         is_long: bool,
     },
-    /// So many bytes of a chunk, and then the letters and the size of the next one.
+    /// `skip` bytes of a chunk, and then the letters and the size of the next one.
     Chunk {
         skip: u64,
     },
@@ -44,13 +44,13 @@ pub enum Stage {
     Sizes {
         size: u32,
     },
-    /// Blocks of data. So many samples are within the limit.
+    /// Blocks of data. `room` samples are within the limit.
     Data {
         format: WaveFormat,
         extent: Extent,
         room: u64,
     },
-    /// So many bytes of data that are no block, and what follows the data.
+    /// `left` bytes of data that are no block, and what follows the data.
     Tail {
         format: WaveFormat,
         left: u64,
@@ -117,8 +117,8 @@ pub(crate) fn data_stage(format: WaveFormat, extent: Extent, room: u64) -> Stage
     }
 }
 
-/// How many of so many bytes are passed over, and what the bytes behind them are; or none, where a piece
-/// is waited for.
+/// How many of `length` bytes are passed over, and what the bytes behind them are; or none, if the decoder
+/// waits for a piece.
 pub(crate) fn passed(stage: &Stage, length: usize) -> Option<(usize, Stage)>
     requires { 1 ≤ length }
     ensures passed { IfSome result (λ passed. IsPassed stage.now length passed.0 passed.1) }
@@ -314,7 +314,7 @@ fn long_size_in(body: &[u8]) -> u64
     LittleEndian::read_u64(&body[8..])
 }
 
-/// How far data go behind so many of their bytes.
+/// How far data go behind `count` of their bytes.
 pub(crate) fn behind(extent: Extent, count: u64) -> Extent
     requires { HasBytes count extent }
     ensures { result ≡ extent_behind extent count }

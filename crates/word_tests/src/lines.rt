@@ -33,7 +33,7 @@ fn word_of(row: Row) -> Result<VitcWord, Fail> {
     Ok(VitcWord { fields, field_mark })
 }
 
-/// Lines whose address the filter `readvitc` of ffmpeg 5.1.9 read so. The filter tells no user bits, flags
+/// Lines whose address the filter `readvitc` of ffmpeg 5.1.9 read so. The filter gives no user bits, flags
 /// or field mark: these are what was put into the line by the table of SMPTE 12M.
 const ROWS: [Row; 9] = [
     (

@@ -38,7 +38,7 @@ fn word_of(said: Said) -> Result<VitcWord, Fail> {
 type Line = (u32, &'static [u16], Said);
 
 /// Lines whose address the filter `readvitc` of ffmpeg 5.1.9 read so, some with runs at the ends of their
-/// range. The filter tells no user bits, flags or field mark: these are what was put into the line by the
+/// range. The filter gives no user bits, flags or field mark: these are what was put into the line by the
 /// table of SMPTE 12M.
 const LINES: [Line; 7] = [
     (

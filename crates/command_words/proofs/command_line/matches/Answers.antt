@@ -13,7 +13,7 @@ returns-clause-found c =
     (λ m has. found_line _ m words c.in_ok-grammar.ensures some c.requires.plain has)
     c.try_get_matches_from.ensures.matches
 
--- clap takes them, so it fails for want of memory alone
+-- clap takes them, so it fails for lack of memory alone
 pub returns-clause-memory : goal.returns-clause-memory
 returns-clause-memory c = λ fits.
     let words = map string_bytes c.args.words.now in

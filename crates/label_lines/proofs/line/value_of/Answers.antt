@@ -20,7 +20,7 @@ loop-digit-preserved c =
     let more = a_digit_more c.args.digits.now c.loop-digit.digit-index c.requires.digits c.loop-digit-test.true in
     omega (arith, c.loop-digit.invariant, c.from.ensures, more)
 
--- so many digits write less than the power of ten of so many
+-- digits write less than the power of ten of their number
 pub returns-clause-most : goal.returns-clause-most
 returns-clause-most c =
     let below = value_below c.args.digits.now c.requires.digits in

@@ -18,7 +18,7 @@ returns-in-Short-clause-piece c =
 pub returns-in-Short-clause-kept : goal.returns-in-Short-clause-kept
 returns-in-Short-clause-kept c = λ short. c.put_bytes.ensures.items
 
--- what stands at the front of the bytes that were tried stands at the front of all
+-- what is at the front of the bytes that were tried is at the front of all
 pub returns-in_default-piece_behind-clause-piece : goal.returns-in_default-piece_behind-clause-piece
 returns-in_default-piece_behind-clause-piece c =
     let kept = c.args.part.now.items in

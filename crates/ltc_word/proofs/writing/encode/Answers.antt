@@ -18,7 +18,7 @@ is_balanced-requires c =
     system c.table.ensures c.holding.ensures c.field_bits.ensures.sum in
     rw made (stands c.a_row_is_its_sum.ensures.holds c.fields_are_exact.ensures w 0 valid (lit< tt)).1
 
--- the bits have the balance that the word asks for
+-- the bits have the balance that the word needs
 pub returns-then-is_balanced-word : goal.returns-then-is_balanced-word
 returns-then-is_balanced-word c =
     let w = c.args.word.now in

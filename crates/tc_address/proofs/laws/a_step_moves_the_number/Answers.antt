@@ -3,7 +3,7 @@ use Rattle.tc_address.specs.Numbering.{day_length, number_of, step}
 use Rattle.tc_address.proofs.OneNumber.{number_of_get, step_get}
 use Rattle.tc_address.proofs.laws.a_step_moves_the_number.Goals as goal
 
--- the label that a step leads to stands at the place that was moved to
+-- the label that a step leads to is at the place that was moved to
 pub returns-clause-number : goal.returns-clause-number
 returns-clause-number c =
     λ a steps. (number_of_get a.count (moved (day_length a.count) (number_of a) steps) (step a steps)

@@ -4,7 +4,7 @@ use Rattle.tc_address.specs.Numbering.{number_of}
 use Rattle.tc_address.proofs.OneNumber.{number_of_place, get_number_of}
 use Rattle.tc_address.proofs.numbering.number.Goals as goal
 
--- the label stands at the place that its number says
+-- the label is at the place that its number says
 pub returns-clause-place : goal.returns-clause-place
 returns-clause-place c =
     let seconds = 60 * (60 * c.hours.result + c.minutes.result) + c.seconds.result in

@@ -7,7 +7,7 @@ of_an_error : {T E : Type 0} (result : Result T E) {P : Type 0} → P → OnErr 
 of_an_error (Ok _) holds = tt
 of_an_error (Err _) holds = holds
 
--- the bytes before `at` stand, and the failed push left them
+-- the bytes before `at` are written, and the failed push left them
 pub returns-in_err-at-clause-front : goal.returns-in_err-at-clause-front
 returns-in_err-at-clause-front g c =
     of_an_error c.from_residual.result

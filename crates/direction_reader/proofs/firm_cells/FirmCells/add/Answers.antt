@@ -8,7 +8,7 @@ use Rattle.direction_reader.proofs.FirmAdds.{add_in_turn, add_within, add_stands
 use Rattle.direction_reader.proofs.SyncInTime.{WordLaws}
 use Rattle.direction_reader.proofs.firm_cells.FirmCells.add.Goals as goal
 
--- what is told lies within the cells
+-- what is given lies within the cells
 pub returns-clause-within : goal.returns-clause-within
 returns-clause-within c = λ before late within.
     let waits = subst (λ (k : KeptFirm). WaitsWithin before k.waits) (sym c.self.view_is) within in

@@ -3,7 +3,7 @@ use Rattle.direction_reader.specs.FirmStandsFor.{KeptFirm, FirmCellsStandFor}
 use Rattle.direction_reader.proofs.FirmAdds.{end_stands}
 use Rattle.direction_reader.proofs.firm_cells.FirmCells.end.Goals as goal
 
--- with what waits all events are told
+-- with what waits all events are given
 pub returns-clause-stands : goal.returns-clause-stands
 returns-clause-stands c = λ system begin cells told stands.
     let is = subst (λ (k : KeptFirm). FirmCellsStandFor k system begin cells told) (sym c.self.view_is) stands in

@@ -75,7 +75,7 @@ returns-in-FirstZero-clause-stands c = λ l told stands.
     (rw c.begin.ensures at c.add-in-FirstZero.ensures.stands)
     is (c.in-FirstZero.ensures.stands l is.earlier is.open_yet is.tracker)
 
--- in turn, where the interval before is the first zero
+-- in turn, if the interval before is the first zero
 pub returns-in-ZeroBefore-clause-in_turn : goal.returns-in-ZeroBefore-clause-in_turn
 returns-in-ZeroBefore-clause-in_turn c =
     let law = rw c.begin-in-ZeroBefore.ensures at c.add-in-ZeroBefore.ensures.in_turn in

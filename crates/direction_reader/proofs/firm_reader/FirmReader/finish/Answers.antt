@@ -6,7 +6,7 @@ use Rattle.direction_reader.specs.Tracker.{profile_of}
 use Rattle.direction_reader.proofs.FirmSteps.{finished}
 use Rattle.direction_reader.proofs.firm_reader.FirmReader.finish.Goals as goal
 
--- with what waits all events are told
+-- with what waits all events are given
 pub returns-clause-all : goal.returns-clause-all
 returns-clause-all c = λ intervals told stands.
     let r : FirmState = record {

@@ -29,7 +29,7 @@ invariant_of-self-in-Cell-false c =
           c.add-in-Cell-false.ensures.boundaries;
     }
 
--- the cell is the stretch's next, and its window brings what is told: a one
+-- the cell is the stretch's next, and its window brings what is given: a one
 pub returns-in-Cell-true-clause-stands : goal.returns-in-Cell-true-clause-stands
 returns-in-Cell-true-clause-stands c = λ l es own stands told.
     let is = subst (λ (r : ReaderState). StandsFor r l es) (sym c.self.view_is) stands in

@@ -5,7 +5,7 @@ use Rattle.flywheel.proofs.DueInOrder.{first_due}
 use Rattle.flywheel.proofs.GivenSoFar.{waits}
 use Rattle.flywheel.proofs.wheel.Flywheel.due.Goals as goal
 
--- where the first tick at which a frame is due lies ahead, all were given
+-- if the first tick at which a frame is due lies ahead, all were given
 pub returns-clause-stands : goal.returns-clause-stands
 returns-clause-stands c = λ words earlier given stands h late.
     let has = subst (λ wheel. StandsFor wheel words earlier given) (sym c.self.view_is) stands in

@@ -9,7 +9,7 @@ pub returns-in-QuarterFrame-clause-keeps : goal.returns-in-QuarterFrame-clause-k
 returns-in-QuarterFrame-clause-keeps c = λ before keeps.
     rw c.in-QuarterFrame.is (c.next-self.ensures (padded (row_in before)) (omega arith) keeps)
 
--- and the row tells what it carries
+-- and the row says what it carries
 pub returns-in-QuarterFrame-clause-gives : goal.returns-in-QuarterFrame-clause-gives
 returns-in-QuarterFrame-clause-gives c = λ before keeps.
     let row = row_in before ++ c.in-QuarterFrame.quarter ∷ [] in

@@ -14,7 +14,7 @@ returns-then-not-are_none-clause-brings c =
     brings_on c.args.self.now c.waiting.self c.feed-events.new.self [] [] [] own c.waiting.invariant.brings
     (subst (λ (s : SoundState). Brings s c.feed-events.new.self [] own) c.self.view_is step)
 
--- where it brought nothing
+-- if it brought nothing
 pub waiting-preserved : goal.waiting-preserved
 waiting-preserved c =
     let none : c.feed-events.result ≡ no_events = c.if-not-are_none.ensures.0 refl in

@@ -5,7 +5,7 @@ use Rattle.sound_reader.specs.contracts.reader.SoundReader.{the_view}
 use Rattle.sound_reader.proofs.StepsGoOn.{front_of_front, sliced_on, within_front}
 use Rattle.sound_reader.proofs.reader.SoundReader.slice.Goals as goal
 
--- the slicer takes the samples up to the limit, and so many from their front
+-- the slicer takes the samples up to the limit, and some from their front
 pub returns-clause-brings : goal.returns-clause-brings
 returns-clause-brings c =
     let count = c.intervals_of_samples-count.result.0 in

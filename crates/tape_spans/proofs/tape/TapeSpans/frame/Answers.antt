@@ -14,7 +14,7 @@ returns-clause-stands c = λ frames stands.
     subst (λ (t : Tape). StandsFor t (frames ++ c.args.frame.now ∷ [])) (sym c.take.ensures.next)
     (stands_on c.args.self.now frames c.args.frame.now stands)
 
--- and it adds the lines of what the frame tells
+-- and it adds the lines of what the frame completes
 pub returns-clause-lines : goal.returns-clause-lines
 returns-clause-lines c = λ frames rate system stands.
     subst (λ (cut : Cut). final_lines rate system (frames ++ c.args.frame.now ∷ []) ≡ final_lines rate system frames
