@@ -1,4 +1,5 @@
 //! Cases: the words of a run and its input, made from a number.
+use crate::drawn;
 use crate::draws::Draws;
 use crate::frames::{played, word_bits};
 use crate::intervals::{MOST_TICKS, header, spell};
@@ -22,6 +23,11 @@ pub fn case(seed: u64, number: u64) -> Case {
     // (by its number, so that each other case is the one that its seed and number were before)
     if number % 20 == 9 {
         let mut case = noisy::case(d);
+        spoil(&mut case.input, d);
+        return case;
+    }
+    if number % 20 == 14 {
+        let mut case = drawn::case(d);
         spoil(&mut case.input, d);
         return case;
     }

@@ -4,12 +4,14 @@
 mod cases;
 mod cells;
 mod chase;
+mod drawn;
 mod draws;
 mod fields;
 mod frames;
 mod intervals;
 mod labels;
 mod lines;
+mod luma;
 mod made;
 mod midi;
 mod noisy;

@@ -7,7 +7,7 @@ use crate::lines::{Base, Printed, along_text};
 use crate::made::{Striping, load, stripe};
 use crate::run::{End, Run};
 use crate::sound::{Slicing, Threshold, make, slice, slice_track};
-use crate::{chase, midi as mtc, path, vitc};
+use crate::{chase, luma, midi as mtc, path, vitc};
 
 /// The words of a tolerance behind a command along frames.
 #[derive(Clone, Copy)]
@@ -114,6 +114,7 @@ pub fn run(words: &[String], input: &[u8]) -> Run {
         "mtc-read" => Words::of(words, 0, 0).map(|_| mtc::read(input)),
         "vitc-read" => Words::of(words, 0, 0).map(|_| vitc::read(input)),
         "vitc-make" => line_file(words),
+        "luma-vitc" => pictured(words, input),
         "chase" => script(words, input),
         "number" => numbered(words),
         "label" => labelled(words),
@@ -315,6 +316,20 @@ fn line_file(words: &[String]) -> Read<Run> {
     let label = w.label(count)?;
     let (frames, length) = (w.number(1, 1_000_000)?, w.number(460, 65_535)?);
     Ok(Run { output: vitc::make(&label, frames, length), end: End::Done })
+}
+
+fn pictured(words: &[String], input: &[u8]) -> Read<Run> {
+    let mut w = Words::of(words, 5, 5)?;
+    let system = w.value(|word| match word {
+        "25" => Some(25),
+        "30" => Some(30),
+        _ => None,
+    })?;
+    let (width, height) = (w.number(360, 4_096)?, w.number(1, 4_096)?);
+    let first = w.number(0, height - 1)?;
+    let rows = w.number(1, 40.min(height - first))?;
+    let [width, height, first, rows] = [width, height, first, rows].map(|number| number as usize);
+    Ok(luma::read(&luma::Picture { system, width, height, first, rows }, input))
 }
 
 fn script(words: &[String], input: &[u8]) -> Read<Run> {
