@@ -1,4 +1,4 @@
-//! From the coarse place to the place of a word. Read next: `cells`.
+//! From the coarse place to the place with the deepest falls. Read next: `earliest`.
 ghost use Rattle.std.specs.Prelude.{◌≡◌, ℕ, ◌+◌, ◌*◌, ◌/◌, ◌%◌, ◌^◌, ◌<◌, ◌≤◌, length};
 ghost use Rattle.luma_row.specs.Climb.{moved, neighbour, worth, Climbs, IsPlace};
 ghost use Rattle.luma_row.specs.KeptBest.{IsBestOf};
@@ -115,7 +115,7 @@ fn climb(row: &[u8], sums: &Sums, from: Scored, step: u32) -> Scored
     Scored { place, score: own }
 }
 
-/// In eight steps from the coarse place to the place of the word.
+/// In eight steps from the coarse place to the place with the deepest falls.
 pub(crate) fn refine(row: &[u8], sums: &Sums, coarse: Place) -> Place
     requires row { IsRow row.now }
     requires sums { AreSums row.now sums.now }
