@@ -84,7 +84,7 @@ fn best_neighbour(row: &[u8], sums: &Sums, place: Place, step: u32, own: u32) ->
 }
 
 /// A place, and the sum of its falls.
-#[derive(Clone, Copy, Debug, PartialEq, Eq)]
+#[derive(Clone, Copy)]
 struct Scored {
     place: Place,
     score: u32,

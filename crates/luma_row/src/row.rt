@@ -17,7 +17,7 @@ use crate::place::Place;
 use crate::width::MAX_WIDTH;
 
 /// A row that carries code: where the word lies, and what its cells say.
-#[derive(Clone, Copy, Debug, PartialEq, Eq)]
+#[derive(Clone, Copy)]
 pub struct CodeRow {
     pub place: Place,
     pub levels: Levels,
