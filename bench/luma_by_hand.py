@@ -9,6 +9,7 @@ of one for the next. Fields that are cut at the end are left out.
 """
 import struct
 import sys
+from fractions import Fraction
 from itertools import combinations, groupby
 
 PAIRS, CELLS, LINE_TICKS, CELL_TICKS, MOST = 9, 90, 1840, 16, 20
@@ -85,6 +86,16 @@ class Row:
             step //= 2
         return place
 
+    def earliest(self, place):
+        """The earliest of the places up to eight cells before this one whose falls lack half a fall of it at most."""
+        own = max(0, self.worth(place))
+        for cells in range(8, 0, -1):
+            less = cells * (place[1] - place[0]) // 80
+            other = (place[0] - less, place[1] - less)
+            if other[0] > 0 and self.fits(other) and own - max(0, self.worth(other)) <= own // 18:
+                return other
+        return place
+
     def best_beside(self, place, step):
         """The first of the best of a place and its eight neighbours."""
         first, last = place
@@ -105,7 +116,7 @@ class Row:
         place = self.coarse()
         if place is None:
             return None
-        place = self.fine(place)
+        place = self.earliest(self.fine(place))
         cells = [
             self.light(self.at(place, 8 * cell + 7)) - self.light(self.at(place, 8 * cell + 1)) for cell in range(CELLS)
         ]
@@ -199,6 +210,16 @@ def drawn(bits, width=360, begin=0, cell=4, dark=50, light=200):
     return bytes((row + [dark] * width)[:width])
 
 
+def shaded(bits, begin, cell, width=384, dark=50, light=200):
+    """A row in cells that begin and end inside pixels: each pixel has the mean of what it covers."""
+    row = []
+    for pixel in range(width):
+        edges = [(max(pixel, begin + bit * cell), min(pixel + 1, begin + bit * cell + cell)) for bit in range(CELLS)]
+        high = sum(max(0, last - first) for bit, (first, last) in zip(bits, edges) if bit)
+        row.append(int(dark + (light - dark) * high + Fraction(1, 2)))
+    return bytes(row)
+
+
 def spelled(data):
     """Bytes as a cell of the table has them: hexadecimal, repeated ones with their number."""
     parts = [(value, len(list(group))) for value, group in groupby(data)]
@@ -216,6 +237,9 @@ def cases():
     ten = word("10:00:00:00")
     user = word("19:47:58:23", (1, 2, 3, 4, 5, 6, 7, 8))
     late = word("23:59:59:24", (15,) * 8)
+    two_later = word("11:11:11:11", (15, 9, 9, 13, 9, 6, 15, 11))
+    six_later = word("10:00:00:00", (13, 5, 5, 5, 1, 5, 5, 1))
+    eight_later = word("10:00:00:00", (5, 4, 4, 7, 5, 5, 7, 7))
     black, gray = bytes([16] * 384), bytes([128] * 384)
     one = drawn(ten, 384, 12)
     rows = [
@@ -242,6 +266,10 @@ def cases():
         ("cells-that-fit-the-row", "25 360 1 0 1", drawn(ten, 360)),
         ("cells-that-fit-the-row", "25 736 1 0 1", drawn(user, 736, 10, cell=8, dark=16, light=140)),
         ("cells-that-fit-the-row", "25 720 1 0 1", drawn(user, 720, 18, cell=7, dark=16, light=140)),
+        ("the-earliest-place", "25 384 1 0 1", shaded(two_later, 0, Fraction(382, 100))),
+        ("the-earliest-place", "25 384 1 0 1", shaded(six_later, Fraction(3, 8), Fraction(394, 100))),
+        ("the-earliest-place", "25 384 1 0 1", shaded(eight_later, Fraction(3, 8), Fraction(382, 100))),
+        ("the-earliest-place", "25 384 1 0 1", shaded(eight_later, 16, Fraction(394, 100))),
     ]
     for edge, words in enumerate(("25 4096 4096 4056 40", "30 360 1 0 1"), 1):
         yield case("the-greatest-and-the-least-field", edge, words, b"")

@@ -139,9 +139,21 @@ impl Row {
         place
     }
 
+    /// The place, or the earliest up to eight cells before it that falls nearly as deep.
+    fn earliest(&self, place: Place) -> Place {
+        let own = self.fine_sum(place).max(0);
+        let falls_nearly = |other: &Place| self.fits(*other) && own - self.fine_sum(*other).max(0) <= own / 18;
+        let earlier = |cells| {
+            let less = cells * (place.ninth - place.first) / 80;
+            Place { first: place.first - less, ninth: place.ninth - less }
+        };
+        (1..=8).rev().map(earlier).filter(|other| other.first > 0).find(falls_nearly).unwrap_or(place)
+    }
+
     /// The code that the row carries, if it carries any.
     fn code(&self) -> Option<Code> {
         let place = self.has_contrast().then(|| self.coarse()).flatten().map(|coarse| self.fine(coarse))?;
+        let place = self.earliest(place);
         let cell = |i: usize| {
             let before = 8 * i as i64;
             self.up_to(place.eighths(before + 7)) - self.up_to(place.eighths(before + 1))

@@ -12,7 +12,7 @@ use crate::cell::Sign;
 use crate::numbers::{Numbers, PLACES};
 
 /// The best path of all: its score, and how it ends.
-#[derive(Clone, Copy, Debug, PartialEq, Eq)]
+#[derive(Clone, Copy)]
 pub struct Best {
     pub number: i64,
     /// The place of the length in the list. Of one byte, so that no seven bytes of padding are copied.

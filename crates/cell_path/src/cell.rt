@@ -4,7 +4,7 @@ ghost use Rattle.cell_path.specs.Path.{opposite, sign_before, signed};
 ghost use Rattle.cell_path.specs.Within.{IsWithin};
 
 /// One step of the sound.
-#[derive(Clone, Copy, Debug, PartialEq, Eq)]
+#[derive(Clone, Copy)]
 pub struct Step {
     /// The sound there.
     pub sound: i32,
@@ -13,21 +13,21 @@ pub struct Step {
 }
 
 /// The side on which a cell ends.
-#[derive(Clone, Copy, Debug, PartialEq, Eq)]
+#[derive(Clone, Copy)]
 pub enum Sign {
     Plus,
     Minus,
 }
 
 /// A zero has one sign, and a one two halves of different signs.
-#[derive(Clone, Copy, Debug, PartialEq, Eq)]
+#[derive(Clone, Copy)]
 pub enum Bit {
     Zero,
     One,
 }
 
 /// How a cell follows the one before it.
-#[derive(Clone, Copy, Debug, PartialEq, Eq)]
+#[derive(Clone, Copy)]
 pub enum Way {
     /// It is as long.
     Same,
@@ -40,7 +40,7 @@ pub enum Way {
 }
 
 /// A cell of a path.
-#[derive(Clone, Copy, Debug, PartialEq, Eq)]
+#[derive(Clone, Copy)]
 pub struct Cell {
     /// The place of its length in the list of lengths.
     pub place: usize,

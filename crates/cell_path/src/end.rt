@@ -14,7 +14,7 @@ use crate::rows::Rows;
 use crate::sums::Sums;
 
 /// The best path that ends in one length and sign: its score, and its latest bit.
-#[derive(Clone, Copy, Debug, PartialEq, Eq)]
+#[derive(Clone, Copy)]
 pub(crate) struct End {
     pub(crate) number: i64,
     pub(crate) bit: Bit,

@@ -12,14 +12,14 @@ use crate::rows::Rows;
 use crate::sums::Sums;
 
 /// A bit for each length, by a sign.
-#[derive(Clone, Copy, Debug, PartialEq, Eq)]
+#[derive(Clone, Copy)]
 pub struct Bits {
     pub plus: [Bit; PLACES],
     pub minus: [Bit; PLACES],
 }
 
 /// The best paths that end with one step, in each length and sign: their scores, and their latest bits.
-#[derive(Clone, Copy, Debug, PartialEq, Eq)]
+#[derive(Clone, Copy)]
 pub struct Ends {
     pub numbers: Numbers,
     pub bits: Bits,

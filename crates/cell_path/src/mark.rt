@@ -6,7 +6,7 @@ use crate::cell::{Bit, Sign, Way};
 use crate::numbers::PLACES;
 
 /// The marks of one step: for each length a byte, and how the best path of all ends.
-#[derive(Clone, Copy, Debug, PartialEq, Eq)]
+#[derive(Clone, Copy)]
 pub struct StepMarks {
     pub marks: [u8; PLACES],
     pub best_place: u8,

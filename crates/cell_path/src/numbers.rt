@@ -9,7 +9,7 @@ use crate::cell::Sign;
 pub const PLACES: usize = 45;
 
 /// A number for each length, by a sign.
-#[derive(Clone, Copy, Debug, PartialEq, Eq)]
+#[derive(Clone, Copy)]
 pub struct Numbers {
     pub plus: [i64; PLACES],
     pub minus: [i64; PLACES],

@@ -6,7 +6,7 @@ use crate::cell::{Cell, Sign, Way};
 use crate::lengths::length_at;
 
 /// A cell, and where in the sound it ends.
-#[derive(Clone, Copy, Debug, PartialEq, Eq)]
+#[derive(Clone, Copy)]
 pub struct Placed {
     /// In steps from the beginning of the sound.
     pub end: u64,
@@ -14,7 +14,7 @@ pub struct Placed {
 }
 
 /// A cell that is decided.
-#[derive(Clone, Copy, Debug, PartialEq, Eq)]
+#[derive(Clone, Copy)]
 pub struct Decided {
     pub placed: Placed,
     /// It does not begin where the cell before it ended.

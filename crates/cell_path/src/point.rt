@@ -7,7 +7,7 @@ use crate::mark::StepMarks;
 use crate::numbers::PLACES;
 
 /// The end of a cell: how many steps ago, the place of its length, and its sign.
-#[derive(Clone, Copy, Debug, PartialEq, Eq)]
+#[derive(Clone, Copy)]
 pub struct Point {
     pub ago: usize,
     pub place: usize,
@@ -15,7 +15,7 @@ pub struct Point {
 }
 
 /// A cell, and where the one before it ends. Before the first there is none.
-#[derive(Clone, Copy, Debug, PartialEq, Eq)]
+#[derive(Clone, Copy)]
 pub struct Back {
     pub cell: Cell,
     pub before: Option<Point>,

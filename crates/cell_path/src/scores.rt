@@ -15,7 +15,7 @@ use crate::sums::Sums;
 use std::marker::Model;
 
 /// What is known of the paths through a sound at its latest step.
-#[derive(Clone, Copy, Debug, PartialEq, Eq)]
+#[derive(Clone, Copy)]
 pub struct Heard {
     /// The best paths that end here, in each length and sign.
     pub ends: Ends,

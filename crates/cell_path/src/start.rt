@@ -14,7 +14,7 @@ use crate::lengths::{JUMP, length_at};
 use crate::numbers::{Numbers, PLACES};
 
 /// The best way to begin: the score of what comes before, less the costs, and the way.
-#[derive(Clone, Copy, Debug, PartialEq, Eq)]
+#[derive(Clone, Copy)]
 pub(crate) struct Start {
     pub(crate) number: i64,
     pub(crate) way: Way,

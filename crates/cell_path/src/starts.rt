@@ -13,7 +13,7 @@ use crate::numbers::{Numbers, PLACES};
 use crate::start::{Start, best_start};
 
 /// A way for each length, by the sign with which the cell before ends.
-#[derive(Clone, Copy, Debug, PartialEq, Eq)]
+#[derive(Clone, Copy)]
 pub struct Ways {
     pub plus: [Way; PLACES],
     pub minus: [Way; PLACES],
@@ -21,7 +21,7 @@ pub struct Ways {
 
 /// The best ways to begin behind one step, for each length and sign before: the scores of what comes
 /// before, and the ways.
-#[derive(Clone, Copy, Debug, PartialEq, Eq)]
+#[derive(Clone, Copy)]
 pub struct Starts {
     pub numbers: Numbers,
     pub ways: Ways,

@@ -9,7 +9,7 @@ use luma_row::laws::a_row_is_narrower_than_two;
 use luma_row::{CodeRow, Levels, MAX_WIDTH, Place};
 
 /// A row that carries code, and its number in the field.
-#[derive(Clone, Copy, Debug, PartialEq, Eq)]
+#[derive(Clone, Copy)]
 pub struct FoundRow {
     pub number: u32,
     pub row: CodeRow,

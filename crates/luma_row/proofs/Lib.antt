@@ -9,4 +9,5 @@ pub mod OneCode
 pub mod OneMore
 pub mod OnePlace
 pub mod PixelByPixel
+pub mod PlacesTried
 pub mod Within

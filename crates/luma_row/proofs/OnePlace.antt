@@ -4,6 +4,7 @@ use Rattle.luma_row.specs.declared.place.Place.{Place}
 use Rattle.luma_row.specs.Choice.{IsFirstBest}
 use Rattle.luma_row.specs.Climb.{halved, neighbour, worth, Climbs, Moves, Refines}
 use Rattle.luma_row.specs.Coarse.{best_at, sum_at, IsCoarse}
+use Rattle.luma_row.specs.Earliest.{earliest}
 use Rattle.luma_row.specs.Row.{LiesAt}
 use Rattle.luma_row.specs.Width.{distance, distances, grain, start, starts}
 use Rattle.luma_row.proofs.OneMore.{one_first}
@@ -50,5 +51,6 @@ one_coarse row sum other a b p q =
 pub one_place : (row : List ℕ) (a b : Place) → LiesAt row a → LiesAt row b → a ≡ b
 one_place row a b p q =
     let same = one_coarse row p.sum q.sum p.coarse q.coarse p.is_coarse q.is_coarse in
-    let fine = subst (λ (x : Place). Refines row (2 * grain (length row)) 8 x a) (same.1) p.fine in
-    one_refined row (2 * grain (length row)) 8 q.coarse a b fine q.fine
+    let fine = subst (λ (x : Place). Refines row (2 * grain (length row)) 8 x p.deepest) (same.1) p.fine in
+    let deepest = one_refined row (2 * grain (length row)) 8 q.coarse p.deepest q.deepest fine q.fine in
+    p.earliest_is ∙ (ap (earliest row) deepest ∙ sym q.earliest_is)

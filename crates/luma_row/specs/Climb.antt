@@ -1,4 +1,4 @@
--- The place of a word: from the coarse place step by step to the best neighbour, in steps that are halved.
+-- The place with the deepest falls: from the coarse place step by step to the best neighbour, in steps that are halved.
 use Rattle.std.specs.Prelude.{◌≡◌, ℕ, zero, suc, ◌+◌, ◌-◌, ◌*◌, ◌/◌, ◌%◌, ◌==◌, cond, List, length}
 use Rattle.luma_row.specs.declared.place.Place.{Place}
 use Rattle.luma_row.specs.Choice.{IsFirstBest}
@@ -43,6 +43,6 @@ Refines row step zero from to = to ≡ from
 Refines row step (suc steps) from to =
     (between : Place) × Refines row step steps from between × Climbs row (halved step steps) 6 between to
 
--- the place of a word: eight steps from the coarse place, the first of two grains
+-- the place with the deepest falls: eight steps from the coarse place, the first of two grains
 abbrev pub IsPlace : List ℕ → Place → Place → Type 0
 IsPlace row coarse place = Refines row (2 * grain (length row)) 8 coarse place

@@ -2,6 +2,7 @@ pub mod Cells
 pub mod Choice
 pub mod Climb
 pub mod Coarse
+pub mod Earliest
 pub mod Heights
 pub mod KeptBest
 pub mod KeptCells

@@ -7,6 +7,7 @@ use Rattle.luma_row.specs.declared.row.CodeRow.{CodeRow}
 use Rattle.luma_row.specs.Cells.{cells_of, counts, swing}
 use Rattle.luma_row.specs.Climb.{IsPlace}
 use Rattle.luma_row.specs.Coarse.{IsCoarse}
+use Rattle.luma_row.specs.Earliest.{earliest}
 use Rattle.luma_row.specs.Heights.{heights_of}
 
 -- the lightest pixel of a row
@@ -21,13 +22,15 @@ darkest row = fold min 255 row
 abbrev pub has_contrast : List ℕ → Bool
 has_contrast row = leb 8 (lightest row - darkest row)
 
--- where a word lies in a row: its sync pairs fall at the coarse place, which is made finer
+-- where a word lies in a row: its sync pairs fall at the coarse place, which is made finer, and it fits at no earlier one
 pub record LiesAt (row : List ℕ) (place : Place) : Type 0 where
   pub coarse : Place
   pub sum : ℕ
   pub is_coarse : IsCoarse row sum coarse
   pub falls : 9 * EVEN < sum
-  pub fine : IsPlace row coarse place
+  pub deepest : Place
+  pub fine : IsPlace row coarse deepest
+  pub earliest_is : place ≡ earliest row deepest
 
 -- the row carries code: a word lies in it, and it counts
 pub record IsCode (row : List ℕ) (code : CodeRow) : Type 0 where

@@ -3,7 +3,7 @@ ghost use Rattle.std.specs.Prelude.{◌≡◌, ℕ, ◌+◌, ◌<◌, ◌≤◌}
 ghost use Rattle.luma_row.specs.KeptBest.{IsBestOf};
 
 /// The first of the greatest so far, and its number.
-#[derive(Clone, Copy, Debug, PartialEq, Eq)]
+#[derive(Clone, Copy)]
 pub(crate) struct Best {
     pub(crate) sum: u32,
     pub(crate) number: u32,

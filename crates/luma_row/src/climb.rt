@@ -1,4 +1,4 @@
-//! From the coarse place to the place of a word. Read next: `cells`.
+//! From the coarse place to the place with the deepest falls. Read next: `earliest`.
 ghost use Rattle.std.specs.Prelude.{◌≡◌, ℕ, ◌+◌, ◌*◌, ◌/◌, ◌%◌, ◌^◌, ◌<◌, ◌≤◌, length};
 ghost use Rattle.luma_row.specs.Climb.{moved, neighbour, worth, Climbs, IsPlace};
 ghost use Rattle.luma_row.specs.KeptBest.{IsBestOf};
@@ -84,7 +84,7 @@ fn best_neighbour(row: &[u8], sums: &Sums, place: Place, step: u32, own: u32) ->
 }
 
 /// A place, and the sum of its falls.
-#[derive(Clone, Copy, Debug, PartialEq, Eq)]
+#[derive(Clone, Copy)]
 struct Scored {
     place: Place,
     score: u32,
@@ -115,7 +115,7 @@ fn climb(row: &[u8], sums: &Sums, from: Scored, step: u32) -> Scored
     Scored { place, score: own }
 }
 
-/// In eight steps from the coarse place to the place of the word.
+/// In eight steps from the coarse place to the place with the deepest falls.
 pub(crate) fn refine(row: &[u8], sums: &Sums, coarse: Place) -> Place
     requires row { IsRow row.now }
     requires sums { AreSums row.now sums.now }

@@ -241,7 +241,7 @@ fn best_distance(row: &[u8], falls: &Falls, sums: &mut Falls) -> Best
 }
 
 /// A coarse place, and the sum of its falls.
-#[derive(Clone, Copy, Debug, PartialEq, Eq)]
+#[derive(Clone, Copy)]
 pub(crate) struct Coarse {
     pub(crate) place: Place,
     pub(crate) sum: u32,

@@ -11,7 +11,7 @@ use crate::cells::BITS;
 use crate::heights::Heights;
 
 /// The swing of the sync pairs, and how high each cell stands above its threshold.
-#[derive(Clone, Copy, Debug, PartialEq, Eq)]
+#[derive(Clone, Copy)]
 pub struct Levels {
     /// Of all nine sync pairs, in sixteenths of a pixel times levels.
     pub swing: u32,

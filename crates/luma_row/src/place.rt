@@ -12,7 +12,7 @@ use crate::width::{end, width_of};
 pub(crate) const PAIRS: u32 = 9;
 
 /// Where a word lies, in sixteenths of a pixel from where the row begins.
-#[derive(Clone, Copy, Debug, PartialEq, Eq)]
+#[derive(Clone, Copy)]
 pub struct Place {
     /// Where the 1 of the first sync pair ends.
     pub first: u32,

@@ -9,6 +9,7 @@ ghost use Rattle.luma_row.specs.Row.{has_contrast, IsCode};
 use crate::cells::{cells_of, counts, swing_of};
 use crate::climb::refine;
 use crate::coarse::{Falls, best_coarse, fall_along};
+use crate::earliest::earliest;
 use crate::heights::heights_of;
 use crate::levels::Levels;
 use crate::light::{EVEN, SUMS, Sums, sum_up};
@@ -16,7 +17,7 @@ use crate::place::Place;
 use crate::width::MAX_WIDTH;
 
 /// A row that carries code: where the word lies, and what its cells say.
-#[derive(Clone, Copy, Debug, PartialEq, Eq)]
+#[derive(Clone, Copy)]
 pub struct CodeRow {
     pub place: Place,
     pub levels: Levels,
@@ -69,7 +70,8 @@ impl RowReader {
         if coarse.sum <= 9 * EVEN {
             return None;
         }
-        let place = refine(row, &self.sums, coarse.place);
+        let deepest = refine(row, &self.sums, coarse.place);
+        let place = earliest(row, &self.sums, deepest);
         let cells = cells_of(row, &self.sums, place);
         let swing = swing_of(&cells);
         if !counts(place, &cells, swing) {

@@ -8,14 +8,14 @@ use crate::levels::{FINE, slowly};
 use crate::measured::{Half, Measured};
 
 /// The levels of the neighbours: the lesser mean, and the greater one.
-#[derive(Clone, Copy, Debug, PartialEq, Eq)]
+#[derive(Clone, Copy)]
 pub struct Range {
     pub least: u64,
     pub most: u64,
 }
 
 /// How far a half is from what is usual, in squares.
-#[derive(Clone, Copy, Debug, PartialEq, Eq)]
+#[derive(Clone, Copy)]
 pub struct HalfFit {
     /// The spread of the sound inside.
     pub spread: u64,
@@ -24,14 +24,14 @@ pub struct HalfFit {
 }
 
 /// The two halves of a cell.
-#[derive(Clone, Copy, Debug, PartialEq, Eq)]
+#[derive(Clone, Copy)]
 pub struct Fit {
     pub first: HalfFit,
     pub second: HalfFit,
 }
 
 /// What is usual: slow means of what both halves of a cell have together.
-#[derive(Clone, Copy, Debug, PartialEq, Eq)]
+#[derive(Clone, Copy)]
 pub struct Usual {
     pub spread: u64,
     pub outside: u64,

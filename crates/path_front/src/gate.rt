@@ -19,7 +19,7 @@ use std::marker::Model;
 pub const NEIGHBOURS: usize = 8;
 
 /// A cell, and whether the stretch of code breaks in front of it.
-#[derive(Clone, Copy, Debug, PartialEq, Eq)]
+#[derive(Clone, Copy)]
 pub struct Judged {
     pub cell: Measured,
     pub breaks: bool,

@@ -7,7 +7,7 @@ use std::marker::Model;
 use step_grid::MAX_SUMMED;
 
 /// A sample of the sound, or the mean of some: clipped, and held besides.
-#[derive(Clone, Copy, Debug, PartialEq, Eq)]
+#[derive(Clone, Copy)]
 pub struct Sounds {
     pub clipped: i32,
     pub held: i32,

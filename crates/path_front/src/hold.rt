@@ -6,14 +6,14 @@ ghost use Rattle.path_front.specs.Hold.{HoldStandsFor, IsLoudness};
 use std::marker::Model;
 
 /// The side on which the sound is.
-#[derive(Clone, Copy, Debug, PartialEq, Eq)]
+#[derive(Clone, Copy)]
 pub enum Side {
     High,
     Low,
 }
 
 /// How loud the sound is: its peak, and the sum of some thousand sizes.
-#[derive(Clone, Copy, Debug, PartialEq, Eq)]
+#[derive(Clone, Copy)]
 pub struct Loudness {
     /// The size of the greatest samples. It rises fast and falls slowly.
     pub peak: u32,

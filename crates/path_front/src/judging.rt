@@ -12,7 +12,7 @@ use std::marker::Model;
 use step_grid::Grid;
 
 /// How far the sound is.
-#[derive(Clone, Copy, Debug, PartialEq, Eq)]
+#[derive(Clone, Copy)]
 pub enum Phase {
     /// More samples may come.
     Sound,
@@ -45,7 +45,7 @@ impl Phase {
 }
 
 /// What one more cell brings.
-#[derive(Clone, Copy, Debug, PartialEq, Eq)]
+#[derive(Clone, Copy)]
 pub enum Taken {
     /// A cell is judged.
     Judges(Judged),

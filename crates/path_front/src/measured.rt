@@ -9,7 +9,7 @@ use cell_path::{Bit, Decided, Sign, length_at};
 
 /// A half of a cell. The middle step of an odd one counts half for each of its halves, so all is taken
 /// twice.
-#[derive(Clone, Copy, Debug, PartialEq, Eq)]
+#[derive(Clone, Copy)]
 pub struct Half {
     /// Twice the sum of the sound, times the sign that the path has there.
     pub sum: i64,
@@ -18,7 +18,7 @@ pub struct Half {
 }
 
 /// What the gate and the intervals need of a cell.
-#[derive(Clone, Copy, Debug, PartialEq, Eq)]
+#[derive(Clone, Copy)]
 pub struct Measured {
     /// How many steps it ends after the one before it, from 2 to 120.
     pub span: u32,

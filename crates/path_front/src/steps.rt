@@ -15,7 +15,7 @@ use std::marker::Model;
 use step_grid::Grid;
 
 /// A step of the sound: for the path, and as it is without the hold.
-#[derive(Clone, Copy, Debug, PartialEq, Eq)]
+#[derive(Clone, Copy)]
 pub struct Heard {
     pub step: Step,
     pub sound: i32,

@@ -16,13 +16,15 @@ returns-then-coarse-clause-none c = λ code is.
 pub returns-then-not-counts-clause-none : goal.returns-then-not-counts-clause-none
 returns-then-not-counts-clause-none c = λ code is.
     let row = c.args.row.now in
-    let place = c.refine-place.result in
+    let place = c.earliest-place.result in
     let lies : LiesAt row place = record {
       coarse = c.best_coarse-coarse.result.place;
       sum = c.best_coarse-coarse.result.sum;
       is_coarse = c.best_coarse-coarse.ensures.coarse;
       falls = omega (arith, c.if-coarse.false);
-      fine = c.refine-place.ensures.refines;
+      deepest = c.refine-deepest.result;
+      fine = c.refine-deepest.ensures.refines;
+      earliest_is = c.earliest-place.ensures.earliest;
     } in
     let same = one_place row place code.place lies is.lies in
     let fit = subst (λ (p : Place). counts p (cells_of row p) ≡ true) (sym same) is.it_counts in
@@ -34,7 +36,7 @@ returns-then-not-counts-clause-none c = λ code is.
 pub returns-clause-code : goal.returns-clause-code
 returns-clause-code c =
     let row = c.args.row.now in
-    let place = c.refine-place.result in
+    let place = c.earliest-place.result in
     let cells = c.cells_of-cells.ensures.cells in
     let fit : c.counts.result ≡ true = search rules in
     let contrast : c.has_contrast.result ≡ true = search rules in
@@ -45,7 +47,9 @@ returns-clause-code c =
         sum = c.best_coarse-coarse.result.sum;
         is_coarse = c.best_coarse-coarse.ensures.coarse;
         falls = omega (arith, c.if-coarse.false);
-        fine = c.refine-place.ensures.refines;
+        deepest = c.refine-deepest.result;
+        fine = c.refine-deepest.ensures.refines;
+        earliest_is = c.earliest-place.ensures.earliest;
       };
       it_counts = subst (λ (xs : List ℕ). counts place xs ≡ true) cells (sym c.counts.ensures ∙ fit);
       swing_is = c.swing_of-swing.ensures.swing ∙ ap swing cells;
