@@ -1,5 +1,5 @@
-/* libltc's encoder over the maker of cells of tc.h, which says how many intervals a bit has, and in what proportion. The
- * number of samples of an interval, their level and the rise at its edges are made here. */
+/* libltc's encoder over the maker of cells of tc.h, which tells the intervals of bits. The samples of an interval, their
+ * level and the rise at its edges are made here. */
 #include "ltc.h"
 #include "tc.h"
 #include <limits.h>
@@ -18,14 +18,14 @@ struct LTCEncoder {
     tc_maker maker;
     LTCFrame frame;
     enum LTC_TV_STANDARD standard;
-    int flags, fps; /* frames a second, as a whole number */
+    int flags, fps;           /* frames a second, as a whole number */
     double sample_rate, cell; /* samples of a cell */
-    double rest;    /* of a sample: how far the latest transition lies before its place, and a half, by which it is rounded */
-    double rise, share; /* the rise time, and the share of the way to its level that a sample goes by it */
-    int level;      /* beside that of silence */
-    bool high;      /* the latest interval lies above silence */
+    double rest;              /* samples from the latest transition to its place, and the half that rounds it */
+    double rise, share;       /* the rise time, and what a sample then goes of the way to its level */
+    int level;                /* beside silence */
+    bool high;                /* the latest interval lies above silence */
     ltcsnd_sample_t *samples;
-    size_t size, filled; /* of them one is never filled, as in libltc */
+    size_t size, filled; /* one of them is never filled, as in libltc */
 };
 
 static size_t up_to(size_t size, size_t boundary) { return (size + boundary - 1) / boundary * boundary; }

@@ -1,8 +1,8 @@
-/* ltc.h: the names of libltc 1.3 that libltc-tc.so.11 serves, written anew from the documentation of its calls.
+/* ltc.h: the names of libltc 1.3, which libltc-tc.so.11 serves, written anew from the documentation of its calls.
  *
- * A program that was built with libltc's own header runs on libltc-tc.so.11 unchanged: the functions have the same names
- * and the objects the same layout. README.md tells which functions there are and where they differ. The layout is that
- * of machines with the least significant byte first. */
+ * A program that was built with libltc's own header runs on libltc-tc.so.11 unchanged: the functions have the same
+ * names and the objects the same layout. README.md tells where they differ. The layout is that of machines with the
+ * least significant byte first. */
 #ifndef LTC_H
 #define LTC_H 1
 #include <stddef.h>

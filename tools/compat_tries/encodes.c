@@ -1,12 +1,12 @@
 /* What libltc's encoder makes of calls at random: a line each, for tools/try_compat.
  *
- *     encodes calls COUNT SEED           COUNT encoders, and 40 calls of each: what the call gave, and what is in the buffer
- *     encodes sound FRAMES SEED          a sound of so many frames, of a count and at a sample rate and a level at random: a
- *                                        line of its sample rate and its frames a second, then for each frame its 80 bits
- *                                        and its samples, of 8 bits, in hexadecimal digits
+ *     encodes calls COUNT SEED       COUNT encoders, and 40 calls of each: what a call gave, and what the buffer has
+ *     encodes sound FRAMES SEED      a sound of FRAMES frames, of a count, a sample rate and a level at random: a line
+ *                                    of its sample rate and frames a second; of each frame its 80 bits and its samples,
+ *                                    of 8 bits, in hexadecimal digits; and the samples behind the last one
  *
- * It is built against libltc, and runs on what the loader finds. What compat/README.md names as a difference by intent is
- * not asked for, or printed in the same way: a byte that has no room, rates that are none, and a rise time of 0. */
+ * It is built against libltc, and runs on what the loader finds. What compat/README.md names as a difference by intent
+ * is not asked for, or not printed: a byte that has no room, rates that are none, and so on. */
 #include <ltc.h>
 #include <stdint.h>
 #include <stdio.h>
@@ -221,24 +221,28 @@ static void try_encoder(void) {
 
 static void sound(unsigned long count) {
     double sample_rate = rates[2 + below(RATES - 2)], fps = counts[below(COUNTS - 2)];
-    LTCEncoder *encoder = ltc_encoder_create(sample_rate, fps, LTC_TV_FILM_24, LTC_USE_DATE);
+    LTCEncoder *encoder = ltc_encoder_create(sample_rate, fps, LTC_TV_FILM_24, 0);
+    ltcsnd_sample_t *samples = NULL;
     printf("%g %.9g\n", sample_rate, fps);
     any_time(encoder, fps);
     ltc_encoder_set_user_bits(encoder, (unsigned long)below(1u << 31) << 1);
     ltc_encoder_set_volume(encoder, -(double)below(25));
     ltc_encoder_set_filter(encoder, below(100));
     for (unsigned long i = 0; i < count; i++) {
-        ltcsnd_sample_t *samples = NULL;
         LTCFrame frame;
+        int made;
         ltc_encoder_inc_timecode(encoder);
         ltc_encoder_get_frame(encoder, &frame);
         ltc_encoder_encode_frame(encoder);
         print_bytes(&frame, 10);
         printf(" ");
-        int made = ltc_encoder_get_bufferptr(encoder, &samples, 1);
+        made = ltc_encoder_get_bufferptr(encoder, &samples, 1);
         print_bytes(samples, (size_t)made);
         puts("");
     }
+    printf("end %d ", ltc_encoder_end_encode(encoder));
+    print_bytes(samples, (size_t)ltc_encoder_get_bufferptr(encoder, NULL, 1));
+    puts("");
     ltc_encoder_free(encoder);
 }
 
