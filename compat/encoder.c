@@ -1,5 +1,5 @@
-/* libltc's encoder over the maker of cells of tc.h, which tells the intervals of bits. The samples of an interval, their
- * level and the rise at its edges are made here. */
+/* libltc's encoder over the maker of cells of tc.h, which tells the intervals of bits. The samples of an interval,
+ * their level and the rise at its edges are made here. */
 #include "ltc.h"
 #include "tc.h"
 #include <limits.h>
