@@ -5,9 +5,12 @@
  *                                    of its sample rate and frames a second; of each frame its 80 bits and its samples,
  *                                    of 8 bits, in hexadecimal digits; and the samples behind the last one
  *
+ *     encodes edges 0 0              what is answered at the edges where the library differs from libltc
+ *
  * It is built against libltc, and runs on what the loader finds. What compat/README.md names as a difference by intent
- * is not asked for, or not printed: a byte that has no room, rates that are none, and so on. */
+ * is asked for by `edges` alone: a byte that has no room, rates that are none, and so on. */
 #include <ltc.h>
+#include <math.h>
 #include <stdint.h>
 #include <stdio.h>
 #include <stdlib.h>
@@ -246,6 +249,40 @@ static void sound(unsigned long count) {
     ltc_encoder_free(encoder);
 }
 
+static void edges(void) {
+    static const double numbers[] = {0, -1, 0.5, 1, 25, 48000, 1e9, 1e300, INFINITY, NAN};
+    static const int bytes[] = {-2147483647 - 1, -1, 0, 9, 10, 2147483647};
+    enum { NUMBERS = sizeof numbers / sizeof *numbers };
+    LTCEncoder *encoder = ltc_encoder_create(48000, 29.97, LTC_TV_525_60, 0);
+    LTCFrame frame;
+    for (int i = 0; i < NUMBERS; i++) {
+        for (int j = 0; j < NUMBERS; j++) {
+            LTCEncoder *other = numbers[i] < 1e9 ? ltc_encoder_create(numbers[i], numbers[j], LTC_TV_525_60, 0) : NULL;
+            printf("%d%d ", other != NULL, ltc_encoder_reinit(encoder, numbers[i], numbers[j], LTC_TV_525_60, 0) == 0);
+            ltc_encoder_free(other);
+        }
+        printf("volume %d ", ltc_encoder_set_volume(encoder, -numbers[i]));
+        ltc_encoder_set_filter(encoder, numbers[i]);
+        printf("rise %g byte", ltc_encoder_get_filter(encoder));
+        for (int k = 0; k < 6; k++) {
+            printf(" %d", ltc_encoder_encode_byte(encoder, bytes[k], numbers[i]));
+        }
+        printf(" fill %d\n", ltc_encoder_get_bufferptr(encoder, NULL, 1));
+    }
+    ltc_encoder_free(encoder);
+    encoder = ltc_encoder_create(48000, 29.97, LTC_TV_525_60, 0);
+    ltc_encoder_get_frame(encoder, &frame);
+    print_bytes(&frame, 10);
+    for (int byte = 0; byte < 11; byte++) {
+        printf(" %d", ltc_encoder_encode_byte(encoder, byte % 10, 1));
+    }
+    printf(" fill %d, then %d", ltc_encoder_get_bufferptr(encoder, NULL, 0), ltc_encoder_encode_byte(encoder, 1, 0.001));
+    printf(", end %d", ltc_encoder_end_encode(encoder));
+    printf(" %d\n", ltc_encoder_end_encode(encoder));
+    ltc_encoder_free(encoder);
+    ltc_encoder_free(NULL);
+}
+
 int main(int count, char **words) {
     if (count != 4) {
         return 2;
@@ -253,6 +290,10 @@ int main(int count, char **words) {
     state = strtoull(words[3], NULL, 10) * 2 + 88172645463325252ull;
     if (strcmp(words[1], "sound") == 0) {
         sound(strtoul(words[2], NULL, 10));
+        return 0;
+    }
+    if (strcmp(words[1], "edges") == 0) {
+        edges();
         return 0;
     }
     for (unsigned long i = strtoul(words[2], NULL, 10); i > 0; i--) {
