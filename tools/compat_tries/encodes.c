@@ -276,7 +276,8 @@ static void edges(void) {
     for (int byte = 0; byte < 11; byte++) {
         printf(" %d", ltc_encoder_encode_byte(encoder, byte % 10, 1));
     }
-    printf(" fill %d, then %d", ltc_encoder_get_bufferptr(encoder, NULL, 0), ltc_encoder_encode_byte(encoder, 1, 0.001));
+    printf(" fill %d", ltc_encoder_get_bufferptr(encoder, NULL, 0));
+    printf(", then %d", ltc_encoder_encode_byte(encoder, 1, 0.001));
     printf(", end %d", ltc_encoder_end_encode(encoder));
     printf(" %d\n", ltc_encoder_end_encode(encoder));
     ltc_encoder_free(encoder);
