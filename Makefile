@@ -6,8 +6,9 @@
 # make binary        dist/tc-VERSION-x86_64-linux.tar.gz, with a script that installs it, for machines without the toolchain
 # make lib           proves and builds the library: lib/libtc.a, lib/libtc.so.1 and lib/tc.pc, for include/tc.h, and
 #                    lib/libltc-tc.so.11 for programs that are linked against libltc
-# make install       program, manual pages, completions, documents and examples, under PREFIX (and DESTDIR, for packagers)
-#                    and the library with its header where make lib was run before; WITH_LIBRARY= leaves it out, as the packages do
+# make install       program, manual pages, completions, documents and examples, under PREFIX (and DESTDIR, for packagers),
+#                    and if make lib was run before, the library with its header and its Python; WITH_LIBRARY= leaves
+#                    them out, as the packages do
 # make install-strip the same, with the program stripped of its symbols
 # make uninstall     removes what install put there
 #
@@ -22,10 +23,12 @@ BASHDIR = $(PREFIX)/share/bash-completion/completions
 ZSHDIR = $(PREFIX)/share/zsh/site-functions
 FISHDIR = $(PREFIX)/share/fish/vendor_completions.d
 DOCDIR = $(PREFIX)/share/doc/$(PROGRAM)
-# The library, its header and what pkg-config reads.
+# The library, its header, what pkg-config reads, and the place of tc.py: where Debian's python3 looks below /usr/local.
 LIBRARYDIR = $(PREFIX)/lib
 INCLUDEDIR = $(PREFIX)/include
 PKGCONFIGDIR = $(LIBRARYDIR)/pkgconfig
+PYTHON = $(shell python3 -c 'import sys; print("python%d.%d" % sys.version_info[:2])' 2> /dev/null || echo python3)
+PYTHONDIR ?= $(LIBRARYDIR)/$(PYTHON)/dist-packages
 WITH_LIBRARY ?= $(wildcard lib/libtc.a)
 # The tools for tapes, archives and live code, as PROGRAM-tape, PROGRAM-archive and PROGRAM-live, and their parts.
 LIBDIR = $(PREFIX)/lib/$(PROGRAM)
@@ -131,12 +134,13 @@ install:
 
 install-library:
 	@[ -e lib/libtc.a ] && [ -e lib/libltc-tc.so.11 ] || { echo "lib/ is not built, or by an older make lib: run make lib first" >&2; exit 1; }
-	install -d "$(DESTDIR)$(LIBRARYDIR)" "$(DESTDIR)$(INCLUDEDIR)" "$(DESTDIR)$(PKGCONFIGDIR)"
+	install -d "$(DESTDIR)$(LIBRARYDIR)" "$(DESTDIR)$(INCLUDEDIR)" "$(DESTDIR)$(PKGCONFIGDIR)" "$(DESTDIR)$(PYTHONDIR)"
 	install -m 644 lib/libtc.a "$(DESTDIR)$(LIBRARYDIR)"
 	install -m 755 lib/libtc.so.1 "$(DESTDIR)$(LIBRARYDIR)"
 	ln -sf libtc.so.1 "$(DESTDIR)$(LIBRARYDIR)/libtc.so"
 	install -m 755 lib/libltc-tc.so.11 "$(DESTDIR)$(LIBRARYDIR)"
 	install -m 644 include/tc.h "$(DESTDIR)$(INCLUDEDIR)"
+	install -m 644 python/tc.py "$(DESTDIR)$(PYTHONDIR)"
 	sed -e 's@^prefix=.*@prefix=$(PREFIX)@' -e 's@^includedir=.*@includedir=$(INCLUDEDIR)@' -e 's@^libdir=.*@libdir=$(LIBRARYDIR)@' \
 	    lib/tc.pc > "$(DESTDIR)$(PKGCONFIGDIR)/tc.pc"
 	chmod 644 "$(DESTDIR)$(PKGCONFIGDIR)/tc.pc"
@@ -154,5 +158,6 @@ uninstall:
 	rm -f "$(DESTDIR)$(BINDIR)/$(PROGRAM)-live" "$(DESTDIR)$(MANDIR)/man1/$(PROGRAM)-live.1" "$(DESTDIR)$(BASHDIR)/$(PROGRAM)-live" \
 	    "$(DESTDIR)$(ZSHDIR)/_$(PROGRAM)-live" "$(DESTDIR)$(FISHDIR)/$(PROGRAM)-live.fish"
 	rm -f "$(DESTDIR)$(LIBRARYDIR)/libtc.a" "$(DESTDIR)$(LIBRARYDIR)/libtc.so.1" "$(DESTDIR)$(LIBRARYDIR)/libtc.so" \
-	    "$(DESTDIR)$(LIBRARYDIR)/libltc-tc.so.11" "$(DESTDIR)$(INCLUDEDIR)/tc.h" "$(DESTDIR)$(PKGCONFIGDIR)/tc.pc"
+	    "$(DESTDIR)$(LIBRARYDIR)/libltc-tc.so.11" "$(DESTDIR)$(INCLUDEDIR)/tc.h" "$(DESTDIR)$(PKGCONFIGDIR)/tc.pc" \
+	    "$(DESTDIR)$(PYTHONDIR)/tc.py"
 	rm -rf "$(DESTDIR)$(DOCDIR)" "$(DESTDIR)$(LIBDIR)"

@@ -12,14 +12,15 @@ enum { FINENESS = 16, PIECE = 1024, ROOM = 2 };
 
 struct LTCDecoder {
     tc_reader reader;
-    LTCFrameExt *queue; /* a ring of so many, the oldest at head */
+    LTCFrameExt *queue; /* a ring of `size`, the oldest at head */
     size_t size, head, count;
     ltc_off_t taken; /* the samples that the reader took */
     short low, high; /* of the samples since the word before */
 };
 
-/* Each system's words are read as those of 30 frames: the fields lie alike in all of them, and the bits come back as they
- * were. The threshold follows the level at a quarter of it, which reads dull sound too, down to 60 dB below full scale. */
+/* Each system's words are read as those of 30 frames: the fields lie alike in all of them, and the bits come back as
+ * they were. The threshold follows the level at a quarter of it, which reads dull sound too, down to 60 dB below full
+ * scale. */
 static const tc_settings settings = {30, 2, 2, 32, FINENESS, 1, 0};
 
 static void forget_levels(LTCDecoder *d) {

@@ -1,8 +1,8 @@
-/* ltc.h: the names of libltc 1.3 that libltc-tc.so.11 serves, written anew from the documentation of its calls.
+/* ltc.h: the names of libltc 1.3, which libltc-tc.so.11 serves, written anew from the documentation of its calls.
  *
- * A program that was built with libltc's own header runs on libltc-tc.so.11 unchanged: the functions have the same names
- * and the objects the same layout. README.md tells which functions there are and where they differ. The layout is that
- * of machines with the least significant byte first. */
+ * A program that was built with libltc's own header runs on libltc-tc.so.11 unchanged: the functions have the same
+ * names and the objects the same layout. README.md tells where they differ. The layout is that of machines with the
+ * least significant byte first. */
 #ifndef LTC_H
 #define LTC_H 1
 #include <stddef.h>
@@ -63,8 +63,8 @@ enum LTC_TV_STANDARD { LTC_TV_525_60, LTC_TV_625_50, LTC_TV_1125_60, LTC_TV_FILM
 
 enum LTC_BG_FLAGS {
     LTC_USE_DATE = 1,       /* the user bits are a date */
-    LTC_TC_CLOCK = 2,       /* of the encoder alone */
-    LTC_BGF_DONT_TOUCH = 4, /* of the encoder alone */
+    LTC_TC_CLOCK = 2,       /* of the encoder: the label is the time of day */
+    LTC_BGF_DONT_TOUCH = 4, /* of the encoder: sets the binary group flags, as in libltc, against its documentation */
     LTC_NO_PARITY = 8       /* the polarity correction stays as it is */
 };
 
@@ -87,6 +87,7 @@ typedef struct SMPTETimecode {
 } SMPTETimecode;
 
 typedef struct LTCDecoder LTCDecoder;
+typedef struct LTCEncoder LTCEncoder;
 
 LTCDecoder *ltc_decoder_create(int apv, int queue_size);
 int ltc_decoder_free(LTCDecoder *d);
@@ -98,6 +99,34 @@ void ltc_decoder_write_u16(LTCDecoder *d, unsigned short *buf, size_t size, ltc_
 int ltc_decoder_read(LTCDecoder *d, LTCFrameExt *frame);
 void ltc_decoder_queue_flush(LTCDecoder *d);
 int ltc_decoder_queue_length(LTCDecoder *d);
+
+LTCEncoder *ltc_encoder_create(double sample_rate, double fps, enum LTC_TV_STANDARD standard, int flags);
+void ltc_encoder_free(LTCEncoder *e);
+int ltc_encoder_reinit(LTCEncoder *e, double sample_rate, double fps, enum LTC_TV_STANDARD standard, int flags);
+void ltc_encoder_reset(LTCEncoder *e);
+void ltc_encoder_set_timecode(LTCEncoder *e, SMPTETimecode *t);
+void ltc_encoder_get_timecode(LTCEncoder *e, SMPTETimecode *t);
+void ltc_encoder_set_user_bits(LTCEncoder *e, unsigned long data);
+int ltc_encoder_inc_timecode(LTCEncoder *e);
+int ltc_encoder_dec_timecode(LTCEncoder *e);
+void ltc_encoder_set_frame(LTCEncoder *e, LTCFrame *f);
+void ltc_encoder_get_frame(LTCEncoder *e, LTCFrame *f);
+double ltc_encoder_get_volume(LTCEncoder *e);
+int ltc_encoder_set_volume(LTCEncoder *e, double dBFS);
+double ltc_encoder_get_filter(LTCEncoder *e);
+void ltc_encoder_set_filter(LTCEncoder *e, double rise_time);
+int ltc_encoder_encode_byte(LTCEncoder *e, int byte, double speed);
+void ltc_encoder_encode_frame(LTCEncoder *e);
+void ltc_encoder_encode_reversed_frame(LTCEncoder *e);
+int ltc_encoder_end_encode(LTCEncoder *e);
+int ltc_encoder_set_buffersize(LTCEncoder *e, double sample_rate, double fps);
+int ltc_encoder_set_bufsize(LTCEncoder *e, double sample_rate, double fps);
+size_t ltc_encoder_get_buffersize(LTCEncoder *e);
+int ltc_encoder_get_bufferptr(LTCEncoder *e, ltcsnd_sample_t **buf, int flush);
+ltcsnd_sample_t *ltc_encoder_get_bufptr(LTCEncoder *e, int *size, int flush);
+int ltc_encoder_copy_buffer(LTCEncoder *e, ltcsnd_sample_t *buf);
+int ltc_encoder_get_buffer(LTCEncoder *e, ltcsnd_sample_t *buf);
+void ltc_encoder_buffer_flush(LTCEncoder *e);
 
 void ltc_frame_to_time(SMPTETimecode *stime, LTCFrame *frame, int flags);
 void ltc_time_to_frame(LTCFrame *frame, SMPTETimecode *stime, enum LTC_TV_STANDARD standard, int flags);

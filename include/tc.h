@@ -1,13 +1,13 @@
-/* tc.h: linear time code, read from samples or from the intervals of a tape, its words, frames and labels, and lines of
- * vertical interval time code, by proved code, as functions for C11 and C++17.
+/* tc.h: linear time code for C11 and C++17, by proved code: it is read from samples or from intervals of a tape, its
+ * words become frames, labels and MIDI Time Code, and words become intervals and samples. Lines of vertical interval
+ * time code are read and made as well.
  *
- * No function here allocates, keeps global state, waits, prints or ends the process. What an object keeps, a reader or
- * a flywheel, lies in the caller's memory, and its size is fixed: memcpy takes a copy that goes on from the same place,
- * and nothing is freed. One object serves one call at a time; different objects may serve different threads at once.
+ * No function here allocates, keeps global state, waits, prints or ends the process. An object, such as a reader or a
+ * flywheel, lies in the caller's memory, and its size is fixed: memcpy makes a copy that goes on from the same place,
+ * and nothing has to be freed. One object serves one call at a time; different objects may serve different threads.
  *
- * What a caller has to keep: a pointer is not NULL, also where a count is 0; it points to so many elements as the count
- * says, which stay as they are during the call but for those that are written; and what is written overlaps nothing
- * that is read.
+ * What a caller has to keep: no pointer is NULL, not even if its count is 0; it points to at least as many elements as
+ * the count says; only the library writes them during the call; and what is written overlaps nothing that is read.
  *
  * A tick is a part of a sample: a sample has `fineness` of them, and tick 0 is at the first sample. Of a tape it is the
  * unit of its intervals, and tick 0 is at the beginning of the first. */
@@ -23,7 +23,7 @@ extern "C" {
 #define TC_ALIGN(bytes) _Alignas(bytes)
 #endif
 
-/* The version of these functions, and that of the library: they are to be the same. */
+/* The version of these functions in this header, and in the library that was loaded: they have to be the same. */
 #define TC_ABI 1
 uint32_t tc_abi(void);
 
@@ -32,11 +32,11 @@ typedef struct tc_settings {
     uint32_t system;    /* frames a second: 24, 25 or 30, which reads 29.97 and drop-frame counting too */
     uint32_t tolerance; /* how much cells may differ: 0 normal, 1 worn, 2 rough */
     uint32_t follows;   /* the threshold: 0 fixed, 1 at half of the level, 2 at a quarter of it */
-    uint32_t threshold; /* the fixed one, or the least, in the unit of the sums: 1 to 524272 */
+    uint32_t threshold; /* the fixed one, or the least to which it falls, in units of a sum: 1 to 524272 */
     uint32_t fineness;  /* ticks of a sample: 1 to 64 */
-    uint32_t smooth;    /* samples in a sum: 1 to 16 */
-    uint32_t pace;      /* 0: an interval is read when it has ended; else as it passes, in pieces of so many ticks,
-                           1 to 16777215 */
+    uint32_t smooth;    /* what is read is the sum of this many latest samples: 1 to 16 */
+    uint32_t pace;      /* 0: an interval is read when it has ended, so a silence is told of when it is over. Else it is
+                           read as it passes, in pieces of this many ticks, 1 to 16777215: a quarter of a frame, say */
 } tc_settings;
 
 /* What was read. */
@@ -50,14 +50,14 @@ typedef struct tc_event {
     uint8_t direction; /* of a word, and of a refused one */
     uint8_t detail;    /* word: its count. Refused: its fault, 1 frame units, 2 frames, 3 second units, 4 second tens,
                           5 minute units, 6 minute tens, 7 hour units, 8 hours, 9 a dropped label; or TC_ALONE, a word
-                          without a witness, where a tape is read so */
+                          without a witness, of a tape whose settings ask for one */
     uint8_t flags;     /* word: the bits above */
     uint8_t hours, minutes, seconds, frames; /* word: its label */
     uint32_t user;     /* word: its user bits, group 1 as the least significant */
     uint32_t zero;     /* 0 */
     uint64_t tick;     /* where it ends */
     uint64_t length;   /* word: the ticks of its 80 cells. Break: the place of its interval, from 0 */
-} tc_event;            /* what says nothing of an event is 0 */
+} tc_event;            /* a field that says nothing of its kind of event is 0 */
 
 /* What a call took and gave. */
 typedef struct tc_taken {
@@ -66,7 +66,8 @@ typedef struct tc_taken {
     bool full;   /* nothing more is taken: 2 to the 50th samples, or a thousand million intervals. Start anew */
 } tc_taken;
 
-/* ---- the library's own form of an object: where its state lies. Callers use the functions below */
+/* ---- the library's own form of an object: where its state lies. The functions whose names end in an underscore, and
+ * those that ask for bytes and boundaries, are for this header and for other languages. In C call those below */
 typedef struct tc_handle {
     void *at;
 } tc_handle;
@@ -83,15 +84,15 @@ typedef struct tc_reader {
     TC_ALIGN(TC_READER_BOUNDARY) unsigned char state[TC_READER_BYTES];
 } tc_reader;
 
-/* Begins anew with these settings, and tells whether they are taken. Where they are not, nothing changes. The reader
- * was made by tc_reader_init before, or copied from one that was. */
+/* Begins anew with these settings, and tells whether they are taken. If they are not, nothing changes. The reader was
+ * made by tc_reader_init before, or copied from one that was. */
 static inline bool tc_reader_start(tc_reader *reader, const tc_settings *settings) {
     tc_handle handle = {reader->state};
     return tc_reader_start_(&handle, settings);
 }
 
-/* Makes a reader, before its first sample, and tells whether the settings are taken. Where they are not it may not be
- * used; nor where the library is of another version than this header, which is answered the same. */
+/* Makes a reader, before its first sample, and tells whether the settings are taken. If they are not, it may not be
+ * used. It is false too if the library is of another version than this header. */
 static inline bool tc_reader_init(tc_reader *reader, const tc_settings *settings) {
     tc_handle handle;
     if (tc_abi() != TC_ABI || tc_reader_bytes() > TC_READER_BYTES || tc_reader_boundary() > TC_READER_BOUNDARY) {
@@ -102,9 +103,9 @@ static inline bool tc_reader_init(tc_reader *reader, const tc_settings *settings
 }
 
 /* Takes samples from the front, and writes the events that they bring, in order, as long as there is room for two more:
- * a room of 0 or 1 takes nothing, writes nothing and leaves the reader as it was. Behind the events that are made no
- * event is changed. Call again with the samples that are left while room - made < 2. In whatever pieces the samples
- * come, the events are the same. */
+ * with a room of 0 or 1 it takes nothing, writes nothing, and leaves the reader as it was. Behind the events that are
+ * made no element changes. If room - made < 2, samples may be left: call again with those. In whatever pieces the
+ * samples come, the events are the same. */
 static inline tc_taken tc_reader_write_s16(tc_reader *reader, const int16_t *samples, size_t count, tc_event *events,
                                            size_t room) {
     tc_handle handle = {reader->state};
@@ -117,8 +118,8 @@ static inline tc_taken tc_reader_write_s16(tc_reader *reader, const int16_t *sam
 typedef struct tc_tape_settings {
     uint32_t system;    /* frames a second: 24, 25 or 30, which reads 29.97 and drop-frame counting too */
     uint32_t tolerance; /* how much cells may differ: 0 normal, 1 worn, 2 rough */
-    uint32_t firm;      /* 1: a word is told where another's sync word, or the edge of its stretch, stands beside it,
-                           and is refused as alone where not; 0: each word is told */
+    uint32_t firm;      /* 1: a word needs a witness, which is another word's sync word beside it, or the edge of the
+                           code; without one it is refused as TC_ALONE. 0: each word is told */
 } tc_tape_settings;
 
 /* What a call took and gave. */
@@ -160,9 +161,9 @@ static inline bool tc_tape_init(tc_tape *tape, const tc_tape_settings *settings)
 }
 
 /* Takes intervals, in ticks from 1 to 16777215, from the front, and writes the events that they bring, in order, as
- * long as there is room for three more: a room of 0, 1 or 2 takes nothing, writes nothing and leaves the reader as it
- * was. Behind the events that are made no event is changed. Call again with the intervals that are left while room -
- * made < 3. In whatever pieces the intervals come, the events are the same. Where it asks for witnesses, a word that is
+ * long as there is room for three more: with a room of 0, 1 or 2 it takes nothing, writes nothing, and leaves the
+ * reader as it was. Behind the events that are made no element changes. If room - made < 3, intervals may be left: call
+ * again with those. In whatever pieces the intervals come, the events are the same. If words need a witness, one that is
  * read backward is told 16 cells after its end. */
 static inline tc_tape_taken tc_tape_write(tc_tape *tape, const uint32_t *ticks, size_t count, tc_event *events,
                                           size_t room) {
@@ -170,29 +171,29 @@ static inline tc_tape_taken tc_tape_write(tc_tape *tape, const uint32_t *ticks, 
     return tc_tape_write_(&handle, ticks, count, events, room);
 }
 
-/* Writes what is told if the tape ends here, and gives how many events these are, 2 at most: with those before they are
- * the events of the tape. Nothing changes in the reader, which may go on. A room of 0, 1 or 2 takes none. */
+/* Writes the events that come if the tape ends here, 2 at most, and gives their number. Together with those before they
+ * are the events of the tape. The reader does not change, and may go on. With a room of 0, 1 or 2 it writes none. */
 static inline size_t tc_tape_last(tc_tape *tape, tc_event *events, size_t room) {
     tc_handle handle = {tape->state};
     return tc_tape_last_(&handle, events, room);
 }
 
-/* ---- labels: frame addresses that a count has. Where numbers are none of a label, false, and nothing changes */
+/* ---- labels: the frame addresses of a count. If the numbers are no label, a call gives false and changes nothing */
 typedef struct tc_label {
     uint32_t count; /* TC_COUNT_24 and so on */
     uint32_t hours, minutes, seconds, frames;
 } tc_label;
 
-/* How many labels a day of the count has, and 0 where it is no count. */
+/* How many labels a day of the count has, and 0 if there is no such count. */
 uint32_t tc_day_labels(uint32_t count);
 
-/* How many labels of its count stand before this one in its day, from 0. */
+/* How many labels of its count come before this one in its day: its place, from 0. */
 bool tc_label_number(const tc_label *label, uint32_t *place);
 
-/* The label before which so many stand in the day of the count. False where the day has no more. */
+/* The label of this place in the day of the count. False if the day has fewer labels. */
 bool tc_label_at(uint32_t count, uint32_t place, tc_label *label);
 
-/* Moves a label by so many, back where they are negative. The day begins again at its end. */
+/* Moves a label by a number of steps, backward if it is negative. At its end the day begins again. */
 bool tc_label_advance(tc_label *label, int64_t steps);
 
 /* ---- words and their bits */
@@ -207,12 +208,12 @@ typedef struct tc_bits {
     uint64_t high; /* bits 64 to 79, the sync word, bit 64 as the least significant */
 } tc_bits;
 
-/* The 80 bits that spell the word. False where the numbers are none of a word, and then nothing changes. */
+/* The 80 bits that spell the word. False if the numbers are no word, and then nothing changes. */
 bool tc_word_bits(const tc_word *word, tc_bits *bits);
 
-/* Reads a word of the system, 24, 25 or 30, from its 80 bits. 0 where they spell one, or else the first fault, and then
- * nothing changes: TC_NO_SYNC where bits 64 to 79 are not the sync word; from 1 to 9 the fault of the fields, as in
- * tc_event; and TC_NO_BITS where there is no such system, or a bit above 79 is set. */
+/* Reads a word of the system, 24, 25 or 30, from its 80 bits. It gives 0 if they spell one, and else the first fault,
+ * and then nothing changes: TC_NO_SYNC if bits 64 to 79 are not the sync word; from 1 to 9 the fault of the fields, as
+ * in tc_event; TC_NO_BITS if there is no such system, or a bit above 79 is set. */
 enum { TC_NO_SYNC = 10, TC_NO_BITS = 11 };
 uint32_t tc_bits_word(uint32_t system, const tc_bits *bits, tc_word *word);
 
@@ -239,8 +240,8 @@ bool tc_line_read(uint32_t system, uint32_t length, const uint16_t *runs, size_t
  * word at 25 or 30 frames, the length is not 460 to 65535, or the room is below 89, and then nothing changes. */
 size_t tc_line_runs(const tc_word *word, uint32_t length, uint16_t *runs, size_t room);
 
-/* ---- a flywheel: words and time in, frames out. Where no word comes, it invents frames at the pace and in the
- * direction of the last one, up to a limit */
+/* ---- a flywheel: words and time in, frames out. If no word comes, it invents frames at the pace and in the direction
+ * of the last one, up to a limit */
 
 /* A word that was heard. */
 typedef struct tc_heard {
@@ -260,22 +261,22 @@ static inline tc_heard tc_heard_in(const tc_event *event) {
 /* What was given. */
 enum { TC_HEARD = 1, TC_INVENTED = 2, TC_GONE = 3 };
 typedef struct tc_frame {
-    uint32_t kind;      /* a word was heard; none was where one was due; or more were due than may be invented */
+    uint32_t kind;      /* a word was heard; one was due and none heard; or more were due than may be invented */
     uint32_t direction; /* heard, invented */
-    uint32_t joined;    /* heard: 1 where it goes on where the word before leads, after the frames invented since */
+    uint32_t joined;    /* heard: 1 if its label is the next one after the word before and the frames invented since */
     uint32_t step;      /* invented: how many labels it lies after the word before, from 1 to the limit */
     tc_label label;     /* heard, invented */
     uint32_t zero;      /* 0 */
     uint64_t tick;      /* where it ends */
-} tc_frame;             /* what says nothing of a frame is 0 */
+} tc_frame;             /* a field that says nothing of its kind of frame is 0 */
 
 /* What a call gave. */
 typedef struct tc_given {
     size_t made;  /* frames written, from the front */
-    bool done;    /* nothing more is due at the tick, and the word is among the frames. Where not, call again with the
-                     same tick or word */
+    bool done;    /* nothing more is due at the tick, and the word is among the frames. If it is false, call again with
+                     the same tick or word */
     bool refused; /* nothing changed: the tick lies before the latest one or at 2 to the 60th or later, or the numbers
-                     are none of a word */
+                     are no word */
 } tc_given;
 
 /* The library's own form of it. */
@@ -292,8 +293,8 @@ typedef struct tc_wheel {
     TC_ALIGN(TC_WHEEL_BOUNDARY) unsigned char state[TC_WHEEL_BYTES];
 } tc_wheel;
 
-/* Begins anew, and tells whether the limit is taken: so many frames are invented in a row at most, 0 to 255. Where it
- * is not, nothing changes. The flywheel was made by tc_wheel_init before, or copied from one that was. */
+/* Begins anew, and tells whether the limit is taken: the most frames that are invented in a row, 0 to 255. If it is
+ * not, nothing changes. The flywheel was made by tc_wheel_init before, or copied from one that was. */
 static inline bool tc_wheel_start(tc_wheel *wheel, uint32_t limit) {
     tc_handle handle = {wheel->state};
     return tc_wheel_start_(&handle, limit);
@@ -310,8 +311,8 @@ static inline bool tc_wheel_init(tc_wheel *wheel, uint32_t limit) {
 }
 
 /* Tells the time: writes the frames that are due at the tick, as long as there is room. A frame is due half a length
- * after it should have been heard. Ticks do not fall from call to call, those of words too. A room of 0 writes nothing
- * and leaves the flywheel as it was. */
+ * after it should have been heard. No tick may lie before that of an earlier call, a word's tick included. With a room of
+ * 0 nothing is written, and the flywheel stays as it was. */
 static inline tc_given tc_wheel_pass(tc_wheel *wheel, uint64_t tick, tc_frame *frames, size_t room) {
     tc_handle handle = {wheel->state};
     return tc_wheel_pass_(&handle, tick, frames, room);
@@ -333,7 +334,7 @@ void tc_mtc_writer_at(void *room, tc_handle *handle);
 void tc_mtc_writer_start_(tc_handle *handle);
 tc_given tc_mtc_writer_write_(tc_handle *handle, const tc_frame *frame, uint8_t *bytes, size_t room);
 
-#define TC_MTC_MOST 18 /* so many bytes a frame at most: a full message, and four quarter frames */
+#define TC_MTC_MOST 18 /* the most bytes of a frame: a full message, and four quarter frames */
 #define TC_MTC_WRITER_BYTES 64
 #define TC_MTC_WRITER_BOUNDARY 16
 typedef struct tc_mtc_writer {
@@ -346,7 +347,7 @@ static inline void tc_mtc_writer_start(tc_mtc_writer *writer) {
     tc_mtc_writer_start_(&handle);
 }
 
-/* Makes a writer, before its first frame. False where the library is of another version than this header. */
+/* Makes a writer, before its first frame. False if the library is of another version than this header. */
 static inline bool tc_mtc_writer_init(tc_mtc_writer *writer) {
     tc_handle handle;
     if (tc_abi() != TC_ABI || tc_mtc_writer_bytes() > TC_MTC_WRITER_BYTES ||
@@ -358,10 +359,9 @@ static inline bool tc_mtc_writer_init(tc_mtc_writer *writer) {
     return true;
 }
 
-/* Writes the messages of the next frame, as a flywheel gives it: 18 bytes where it begins a run, 8 where it goes on
- * one, and none for TC_GONE. It is `done` where there is room for 18, and `refused` where the numbers are none of a
- * frame; with less room nothing is written, and the writer stays as it was. The quarter frames of a frame are four, to
- * be sent a quarter of it apart. */
+/* Writes the messages of the next frame, as a flywheel gives it: 18 bytes if it begins a run, 8 if it goes on with one,
+ * and none for TC_GONE. It is `done` if there is room for 18; if there is less, nothing is written and nothing changes.
+ * It is `refused` if the numbers are no frame. Each frame has four quarter frames, to be sent a quarter of it apart. */
 static inline tc_given tc_mtc_writer_write(tc_mtc_writer *writer, const tc_frame *frame, uint8_t *bytes, size_t room) {
     tc_handle handle = {writer->state};
     return tc_mtc_writer_write_(&handle, frame, bytes, room);
@@ -373,11 +373,11 @@ static inline tc_given tc_mtc_writer_write(tc_mtc_writer *writer, const tc_frame
 enum { TC_MTC_FULL = 1, TC_MTC_QUARTER = 2 };
 typedef struct tc_mtc_event {
     uint32_t kind;      /* a full message, or eight quarter frames in a row */
-    uint32_t direction; /* of quarter frames: forward where their pieces rise */
+    uint32_t direction; /* of quarter frames: forward if their pieces rise */
     uint32_t fault;     /* 0, or why the address is no label: 1 hours, 2 minutes, 3 seconds, 4 frames, 5 dropped */
-    tc_label label;     /* where there is no fault */
+    tc_label label;     /* if there is no fault */
     uint64_t place;     /* that of the byte that completes it, from 0 over all bytes */
-} tc_mtc_event;         /* what says nothing of an event is 0 */
+} tc_mtc_event;         /* a field that says nothing of its kind of event is 0 */
 
 /* The library's own form of a reader. */
 size_t tc_mtc_reader_bytes(void);
@@ -398,7 +398,7 @@ static inline void tc_mtc_reader_start(tc_mtc_reader *reader) {
     tc_mtc_reader_start_(&handle);
 }
 
-/* Makes a reader, before its first byte. False where the library is of another version than this header. */
+/* Makes a reader, before its first byte. False if the library is of another version than this header. */
 static inline bool tc_mtc_reader_init(tc_mtc_reader *reader) {
     tc_handle handle;
     if (tc_abi() != TC_ABI || tc_mtc_reader_bytes() > TC_MTC_READER_BYTES ||
@@ -410,10 +410,9 @@ static inline bool tc_mtc_reader_init(tc_mtc_reader *reader) {
     return true;
 }
 
-/* Takes bytes of MIDI from the front, and writes the labels that they complete, in order, as long as there is room: a
- * room of 0 takes nothing and leaves the reader as it was. Messages of other kinds, and real-time bytes between, are
- * passed over. Call again with the bytes that are left while room is full. In whatever pieces the bytes come, the
- * labels are the same. `full` comes with 2 to the 62nd bytes. */
+ * with a room of 0 it takes nothing and leaves the reader as it was. Other messages, and real-time bytes between, are
+ * passed over. If made == room, bytes may be left: call again with those. In whatever pieces the bytes come, the labels
+ * are the same. It is `full` after 2 to the 62nd bytes. */
 static inline tc_taken tc_mtc_reader_read(tc_mtc_reader *reader, const uint8_t *bytes, size_t count,
                                           tc_mtc_event *events, size_t room) {
     tc_handle handle = {reader->state};
@@ -435,8 +434,9 @@ typedef struct tc_maker {
     TC_ALIGN(TC_MAKER_BOUNDARY) unsigned char state[TC_MAKER_BYTES];
 } tc_maker;
 
-/* Begins anew, and tells whether the shape is taken: cells of `from` ticks, and then each by `step` nearer to `to`.
- * Both lengths are 16 to 8388607, and 8 steps are not more than the lesser of them. Where not, nothing changes. */
+/* Begins anew, and tells whether the shape is taken: a first cell of `from` ticks, and each next one by `step` nearer
+ * to `to`. Both lengths are 16 to 8388607, and 8 steps are not more than the lesser of them. If the shape is not taken,
+ * nothing changes. */
 static inline bool tc_maker_start(tc_maker *maker, uint32_t from, uint32_t to, uint32_t step) {
     tc_handle handle = {maker->state};
     return tc_maker_start_(&handle, from, to, step);
@@ -453,9 +453,9 @@ static inline bool tc_maker_init(tc_maker *maker, uint32_t from, uint32_t to, ui
 }
 
 /* Writes the intervals of the cells of the first `count` bits, bit 0 first: one of a zero, and two of a one. A word has
- * 80, as tc_word_bits gives them. It is `done` where there is room for two a bit, and `refused` where there are more
- * than 128; with less room nothing is written, and the maker stays as it was. A reader locks at the first zero beside a
- * one, so before the first word a zero and a one may stand: two bits of the number 2. */
+ * 80, as tc_word_bits gives them. It is `done` if there is room for two intervals of each bit; if there is less,
+ * nothing is written and nothing changes. It is `refused` if there are more than 128 bits. A reader locks at the first
+ * zero beside a one, so put a zero and a one before the first word: two bits of the number 2. */
 static inline tc_given tc_maker_bits(tc_maker *maker, const tc_bits *bits, uint32_t count, uint32_t *ticks,
                                      size_t room) {
     tc_handle handle = {maker->state};
@@ -483,7 +483,7 @@ typedef struct tc_sound {
     TC_ALIGN(TC_SOUND_BOUNDARY) unsigned char state[TC_SOUND_BYTES];
 } tc_sound;
 
-/* Begins anew, with samples of this level, 0 to 32767, and tells whether it is taken. Where not, nothing changes. */
+/* Begins anew, with samples of this level, 0 to 32767, and tells whether it is taken. If it is not, nothing changes. */
 static inline bool tc_sound_start(tc_sound *sound, uint32_t level) {
     tc_handle handle = {sound->state};
     return tc_sound_start_(&handle, level);
@@ -499,10 +499,9 @@ static inline bool tc_sound_init(tc_sound *sound, uint32_t level) {
     return tc_sound_start_(&handle, level);
 }
 
-/* Takes intervals from the front, and writes as many samples of each as it has ticks, the first above zero and then by
- * turns, as long as there is room. The last interval may have samples that are still to come: they are written by the
- * next call, which may be given no interval. Where made < room nothing is left. A room of 0 takes nothing and leaves
- * the maker as it was. */
+ * of the first interval above zero, and then below and above by turns. Samples of the last interval may be left for the
+ * next call, which may be given no interval. If made < room, nothing is left. With a room of 0 it takes nothing and
+ * leaves the maker as it was. */
 static inline tc_sound_taken tc_sound_write(tc_sound *sound, const uint32_t *ticks, size_t count, int16_t *samples,
                                             size_t room) {
     tc_handle handle = {sound->state};

@@ -1,23 +1,25 @@
 """Linear time code, read from samples or from intervals of a tape, and lines of vertical interval time code, by proved
 code: the functions of tc.h, over ctypes.
 
-    import tc
+    import tc, wave
 
+    with wave.open("tape.wav") as sound:
+        samples = sound.readframes(sound.getnframes())
     for word in tc.words(samples, system=25):
         print(word.label, word.tick / 16)
 
-Samples are 16 bits wide, of one channel, in the machine's order of bytes: bytes, an array("h"), a memoryview, or what
-else has the buffer protocol. A tick is a part of a sample, of which a sample has `fineness`; tick 0 is at the first.
-Intervals are 32 bits wide, in the same forms or as whole numbers; a tick is their unit.
+Samples are 16 bits wide, of one channel, in the machine's order of bytes: bytes, an array("h"), a memoryview, or
+anything else with the buffer protocol. A tick is a part of a sample, which has `fineness` of them; tick 0 is at the
+first sample. Intervals are 32 bits wide, in the same forms or as whole numbers; a tick is their unit.
 
 A `Reader` takes samples, a `Tape` intervals, and both give words, refused words and breaks. A `Wheel` takes words and
-the time, and gives frames: those that were heard, and invented ones where none was. An `MtcWriter` makes MIDI Time Code
-of frames, and an `MtcReader` reads its bytes. `bits` gives the 80 bits of a word; a `Maker` makes intervals of bits,
-and a `Sound` samples of intervals. `line` reads a line of vertical interval time code from its runs, and `line_runs`
-makes these of a word.
+the time, and gives frames: those that were heard, and invented ones for those that were not. An `MtcWriter` makes MIDI
+Time Code of frames, and an `MtcReader` reads its bytes. `bits` gives the 80 bits of a word; a `Maker` makes intervals
+of bits, and a `Sound` samples of intervals. `line` reads a line of vertical interval time code from its runs, and
+`line_runs` makes these of a word.
 
-The library is what TC_LIBRARY names in the environment, else lib/libtc.so.1 beside this file's folder, else the
-loader's libtc.so.1. It needs nothing but Python.
+The library is what TC_LIBRARY names in the environment; else libtc.so.1 in lib/ beside this file's folder, or two
+folders above this one, as `make install` puts it; else the loader's libtc.so.1. Nothing but Python is needed.
 """
 
 from __future__ import annotations
@@ -81,13 +83,14 @@ class Settings:
     tolerance: Tolerance = Tolerance.NORMAL
     follows: Follows = Follows.HALF
     threshold: int = 250
-    """The threshold, or the least that it may fall to, in the unit of the sums: 1 to 524,272."""
+    """The threshold, or the least to which it falls, in units of a sum: 1 to 524,272."""
     fineness: int = 16
     """Ticks of a sample: 1 to 64."""
     smooth: int = 1
-    """Samples in a sum: 1 to 16."""
+    """What is read is the sum of this many latest samples: 1 to 16."""
     pace: int = 0
-    """0: an interval is read when it has ended; else as it passes, in pieces of so many ticks, 1 to 16,777,215."""
+    """0: an interval is read when it has ended, so a silence is told of when it is over. Else it is read as it passes,
+    in pieces of this many ticks, 1 to 16,777,215."""
 
 
 class Kind(enum.IntEnum):
@@ -112,7 +115,7 @@ class Word(NamedTuple):
     """A word of 80 bits that was read."""
 
     label: str
-    """The frame address, with a semicolon where drop-frame counting is told."""
+    """The frame address, with a semicolon if it is counted drop-frame."""
     backward: bool
     user: int
     """The user bits, group 1 as the least significant."""
@@ -150,16 +153,16 @@ class Frame(NamedTuple):
 
     kind: Kind
     label: str
-    """The frame address, and nothing where the time code is gone."""
+    """The frame address, and nothing if the time code is gone."""
     backward: bool
     joined: bool
-    """Whether a heard one goes on where the word before leads, after the frames invented in between."""
+    """Whether the label of a heard one is the next after the word before and the frames invented since."""
     step: int
     """How many labels an invented one lies after the word before, from 1 to the limit."""
     tick: int
     """Where it ends."""
     count: str
-    """Its count: 24, 25, 30 or 30d, and nothing where the time code is gone."""
+    """Its count: 24, 25, 30 or 30d, and nothing if the time code is gone."""
 
 
 class MtcLabel(NamedTuple):
@@ -168,7 +171,7 @@ class MtcLabel(NamedTuple):
     full: bool
     """Whether a full message has it, or eight quarter frames."""
     label: str
-    """The frame address, and nothing where it is refused."""
+    """The frame address, and nothing if it is refused."""
     backward: bool
     """Of quarter frames, whether their pieces fall."""
     fault: LabelFault | None
@@ -309,7 +312,7 @@ class _Given(ctypes.Structure):
 
 
 def _text(count: int, hours: int, minutes: int, seconds: int, frames: int) -> str:
-    """A frame address, with a semicolon where drop-frame counting is told."""
+    """A frame address, with a semicolon if it is counted drop-frame."""
     return f"{hours:02}:{minutes:02}:{seconds:02}{';' if count == 3 else ':'}{frames:02}"
 
 
@@ -317,11 +320,12 @@ _library: ctypes.CDLL | None = None
 
 
 def library() -> ctypes.CDLL:
-    """The library, loaded once. Raises OSError where there is none, or one of another version."""
+    """The library, loaded once. Raises OSError if there is none, or one of another version."""
     global _library
     if _library is None:
-        beside = os.path.join(os.path.dirname(os.path.dirname(os.path.realpath(__file__))), "lib", "libtc.so.1")
-        name = os.environ.get("TC_LIBRARY") or (beside if os.path.exists(beside) else "libtc.so.1")
+        here = os.path.dirname(os.path.realpath(__file__))
+        places = [os.path.normpath(os.path.join(here, place, "libtc.so.1")) for place in ("../lib", "../..")]
+        name = os.environ.get("TC_LIBRARY") or next(filter(os.path.exists, places), "libtc.so.1")
         loaded = ctypes.CDLL(name)
         loaded.tc_abi.restype = ctypes.c_uint32
         if loaded.tc_abi() != ABI:
@@ -413,7 +417,7 @@ class _Object:
 
 
 def _numbers(numbers: Iterable[int], told) -> list[int]:
-    """The numbers, where each is one of 32 bits."""
+    """The numbers, if each has 32 bits. Raises ValueError if one has not."""
     listed = list(numbers)
     if not all(isinstance(number, int) and 0 <= number < 1 << 32 for number in listed):
         raise ValueError(f"out of range: {told}")
@@ -426,7 +430,7 @@ class Reader(_Object):
     _name, _gives = "reader", _Event
 
     def __init__(self, settings: Settings | None = None, **numbers: int):
-        """Settings, or some of their fields by name. Raises ValueError where one is out of range."""
+        """Settings, or some of their fields by name. Raises ValueError if one is out of range."""
         self._settings = settings or Settings()
         if numbers:
             self._settings = Settings(**{**vars(self._settings), **numbers})
@@ -439,8 +443,8 @@ class Reader(_Object):
         return self._settings
 
     def write(self, samples) -> list[Event]:
-        """Takes all samples, and gives the events that they bring. Raises ValueError where these are no samples of 16
-        bits, and Full where the reader takes no more.
+        """Takes all samples, and gives the events that they bring. Raises ValueError if these are no samples of 16
+        bits, and Full if the reader takes no more.
         """
         view = memoryview(samples)
         if not view.c_contiguous or view.format not in ("h", "<h", "B", "b", "c") or view.nbytes % 2:
@@ -455,7 +459,7 @@ class Tape(_Object):
 
     def __init__(self, system: int = 25, tolerance: Tolerance = Tolerance.NORMAL, firm: bool = False):
         """Frames a second, 24, 25 or 30; how much cells may differ; and whether each word is asked for a witness,
-        another word's sync word beside it. Raises ValueError where one is out of range.
+        another word's sync word beside it. Raises ValueError if one is out of range.
         """
         self._make()
         told = (system, tolerance, int(firm))
@@ -463,7 +467,7 @@ class Tape(_Object):
 
     def write(self, intervals) -> list[Event]:
         """Takes all intervals, in ticks from 1 to 16,777,215, and gives the events that they bring. Raises ValueError
-        where one is none, when those before it are taken, and Full where the reader takes no more.
+        at a number that is no interval, when those before it are taken, and Full if the reader takes no more.
         """
         if not isinstance(intervals, (bytes, bytearray, memoryview, array.array)):
             listed = list(intervals)
@@ -474,13 +478,13 @@ class Tape(_Object):
         return _events_of(self, "write_", view, 4, 3)
 
     def last(self) -> list[Event]:
-        """What is told if the tape ends here, where words are asked for a witness. The reader may go on."""
+        """The events that come if the tape ends here: a word that still waits for its witness. The reader may go on."""
         made = self._call("last_", ctypes.byref(self._handle), self._given, ROOM)
         return [event.seen() for event in self._given[:made]]
 
 
 def _events_of(kept: _Object, what: str, view: memoryview, width: int, least: int) -> list:
-    """Has all that lies in a view taken, by calls that want room for so many events at least."""
+    """Has all that lies in a view taken, by calls that take nothing with room for fewer events than `least`."""
     held = (ctypes.c_char * view.nbytes).from_buffer_copy(view.cast("B"))
     brought: list = []
     at, count = 0, view.nbytes // width
@@ -498,23 +502,25 @@ def _events_of(kept: _Object, what: str, view: memoryview, width: int, least: in
 
 
 class Wheel(_Object):
-    """A flywheel: frames of the words that were heard, and where none was invented ones. Ticks do not fall."""
+    """A flywheel: frames of the words that were heard, and invented ones for those that were not. No tick that it is
+    told, of a word or of the time, may lie before an earlier one.
+    """
 
     _name, _gives = "wheel", _Frame
 
     def __init__(self, limit: int):
-        """So many frames are invented in a row at most, 0 to 255. Raises ValueError where it is out of range."""
+        """The most frames that are invented in a row, 0 to 255. Raises ValueError if it is out of range."""
         self._make()
         self._start(*_numbers([limit], limit), limit)
 
     def passed(self, tick: int) -> list[Frame]:
-        """The frames that are due at the tick. Raises ValueError where it lies before the latest one."""
+        """The frames that are due at the tick. Raises ValueError if it lies before the latest one."""
         if not 0 <= tick < 1 << 64:
             raise ValueError(f"no tick: {tick}")
         return self._frames("pass_", tick)
 
     def heard(self, word: Word) -> list[Frame]:
-        """The frames that are due before a word, and the word as one. Raises ValueError where it is no word, or ended
+        """The frames that are due before a word, and the word as one. Raises ValueError if it is no word, or ended
         before the latest tick.
         """
         heard = _Heard(_label_of(word.count, word.label), int(word.backward), word.tick, word.length)
@@ -525,14 +531,14 @@ class Wheel(_Object):
         while True:
             taken = self._call(what, ctypes.byref(self._handle), told, self._given, ROOM)
             if taken.refused:
-                raise ValueError("the tick lies before the latest one, or is none of a word's")
+                raise ValueError("the tick lies before the latest one, or the word is none")
             brought += [frame.seen() for frame in self._given[: taken.made]]
             if taken.done:
                 return brought
 
 
 class MtcWriter(_Object):
-    """Makes MIDI Time Code of frames: a full message where a run begins, and four quarter frames of each."""
+    """Makes MIDI Time Code of frames: a full message at the first of a run, and four quarter frames of each."""
 
     _name, _gives = "mtc_writer", ctypes.c_uint8
 
@@ -541,8 +547,8 @@ class MtcWriter(_Object):
         self._call("start_", ctypes.byref(self._handle))
 
     def write(self, frame: Frame) -> bytes:
-        """The bytes of the next frame: 18 where it begins a run, 8 where it goes on one, none where the time code is
-        gone. Raises ValueError where it is no frame.
+        """The bytes of the next frame: 18 if it begins a run, 8 if it goes on with one, none if the time code is gone.
+        Raises ValueError if it is no frame.
         """
         label = _label_of(frame.count, frame.label) if frame.kind != Kind.GONE else _Label()
         numbers = frame.kind, int(frame.backward), int(frame.joined), frame.step
@@ -563,7 +569,7 @@ class MtcReader(_Object):
         self._call("start_", ctypes.byref(self._handle))
 
     def write(self, data) -> list[MtcLabel]:
-        """Takes all bytes, and gives the labels that they complete. Raises ValueError where these are no bytes."""
+        """Takes all bytes, and gives the labels that they complete. Raises ValueError if these are no bytes."""
         view = memoryview(data)
         if not view.c_contiguous or view.itemsize != 1:
             raise ValueError("bytes are one behind another")
@@ -578,17 +584,17 @@ class Maker(_Object):
     """Two bits, a zero and a one, by which a reader locks: `maker.write(Maker.LEAD, 2)` before the first word."""
 
     def __init__(self, cell: int, to: int | None = None, step: int = 0):
-        """Cells of this length, 16 to 8,388,607, and then each by a step nearer to another length. Raises ValueError
-        where 8 steps are more than the lesser of both, or a length is out of range.
+        """A first cell of this length, 16 to 8,388,607, and each next one by a step nearer to another length. Raises
+        ValueError if 8 steps are more than the lesser of both, or a length is out of range.
         """
         self._make()
         shape = (cell, cell if to is None else to, step)
         self._start_with(_numbers(shape, shape), shape)
 
     def write(self, number: int, count: int = 80) -> list[int]:
-        """The intervals of so many bits of a number, bit 0 first, 128 at most: those of a word are `bits(..)`."""
+        """The intervals of the first `count` bits of a number, bit 0 first, 128 at most: `bits(..)` gives a word's."""
         if not 0 <= number < 1 << 128 or not 0 <= count <= 128:
-            raise ValueError(f"not so many bits: {count} of {number}")
+            raise ValueError(f"no {count} bits of a number: {number}")
         told, made = _Bits(number & (1 << 64) - 1, number >> 64), (ctypes.c_uint32 * 256)()
         given = self._call("bits_", ctypes.byref(self._handle), ctypes.byref(told), count, made, 256)
         return list(made[: given.made])
@@ -600,7 +606,7 @@ class Sound(_Object):
     _name, _gives = "sound", ctypes.c_int16
 
     def __init__(self, level: int):
-        """The level, 0 to 32,767. Raises ValueError where it is out of range."""
+        """The level, 0 to 32,767. Raises ValueError if it is out of range."""
         self._make()
         self._start(*_numbers([level], level), level)
 
@@ -620,8 +626,8 @@ class Sound(_Object):
 
 def bits(label: str, count: str, user: int = 0, flags: int = 0) -> int:
     """The 80 bits of a word as one number, of which bit 0 comes first in time: its label, its count, 24, 25, 30 or 30d,
-    its user bits, and its flags as `Word.flags` has them. An even number of the bits is 0. Raises ValueError where that
-    is no word.
+    its user bits, and its flags as `Word.flags` has them. An even number of the bits is 0. Raises ValueError if that is
+    no word.
     """
     told, found = _Word(_label_of(count, label), flags | 32 | (count == "30d"), *_numbers([user], user)), _Bits()
     if not 0 <= flags < 32 or not library().tc_word_bits(ctypes.byref(told), ctypes.byref(found)):
@@ -658,7 +664,7 @@ def line_runs(label: str, count: str, length: int, user: int = 0, flags: int = 0
 
 
 def _label_of(count: str, label: str) -> _Label:
-    """A frame address in numbers. Raises ValueError where the text is none."""
+    """A frame address in numbers. Raises ValueError if the text is none."""
     parts = [int(part) for part in label.replace(";", ":").split(":")]
     if len(parts) != 4 or count not in COUNTS:
         raise ValueError(f"no label: {label} of {count}")

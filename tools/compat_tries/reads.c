@@ -1,10 +1,10 @@
 /* The words of raw 16-bit samples, by libltc's calls: a line each, for tools/try_compat.
  *
- *     reads KIND PIECE APV < SAMPLES     KIND is u8, s16, u16, float or double: how the samples are handed over, in pieces
- *                                        of PIECE; APV is the samples of a frame, as the decoder is told
+ *     reads KIND PIECE APV < SAMPLES     KIND is u8, s16, u16, float or double: how the samples are handed over, PIECE
+ *                                        at once; APV is the samples of a frame, as the decoder is told
  *
- * A line has the place at which the word begins and ends, backward or not, its 10 bytes, its time and date, and the least
- * and the greatest sample of 8 bits. It is built against libltc, and runs on what the loader finds. */
+ * A line has the place at which the word begins and ends, backward or not, its 10 bytes, its time and date, and the
+ * least and the greatest sample of 8 bits. It is built against libltc, and runs on what the loader finds. */
 #include <ltc.h>
 #include <stdint.h>
 #include <stdio.h>
