@@ -163,8 +163,8 @@ static inline bool tc_tape_init(tc_tape *tape, const tc_tape_settings *settings)
 /* Takes intervals, in ticks from 1 to 16777215, from the front, and writes the events that they bring, in order, as
  * long as there is room for three more: with a room of 0, 1 or 2 it takes nothing, writes nothing, and leaves the
  * reader as it was. Behind the events that are made no element changes. If room - made < 3, intervals may be left: call
- * again with those. In whatever pieces the intervals come, the events are the same. If words need a witness, one that is
- * read backward is told 16 cells after its end. */
+ * again with those. In whatever pieces the intervals come, the events are the same. If words need a witness, one that
+ * is read backward is told 16 cells after its end. */
 static inline tc_tape_taken tc_tape_write(tc_tape *tape, const uint32_t *ticks, size_t count, tc_event *events,
                                           size_t room) {
     tc_handle handle = {tape->state};
@@ -311,8 +311,8 @@ static inline bool tc_wheel_init(tc_wheel *wheel, uint32_t limit) {
 }
 
 /* Tells the time: writes the frames that are due at the tick, as long as there is room. A frame is due half a length
- * after it should have been heard. No tick may lie before that of an earlier call, a word's tick included. With a room of
- * 0 nothing is written, and the flywheel stays as it was. */
+ * after it should have been heard. No tick may lie before that of an earlier call, a word's tick included. With a room
+ * of 0 nothing is written, and the flywheel stays as it was. */
 static inline tc_given tc_wheel_pass(tc_wheel *wheel, uint64_t tick, tc_frame *frames, size_t room) {
     tc_handle handle = {wheel->state};
     return tc_wheel_pass_(&handle, tick, frames, room);
@@ -410,6 +410,7 @@ static inline bool tc_mtc_reader_init(tc_mtc_reader *reader) {
     return true;
 }
 
+/* Takes bytes of MIDI from the front, and writes the labels that they complete, in order, as long as there is room:
  * with a room of 0 it takes nothing and leaves the reader as it was. Other messages, and real-time bytes between, are
  * passed over. If made == room, bytes may be left: call again with those. In whatever pieces the bytes come, the labels
  * are the same. It is `full` after 2 to the 62nd bytes. */
@@ -499,6 +500,7 @@ static inline bool tc_sound_init(tc_sound *sound, uint32_t level) {
     return tc_sound_start_(&handle, level);
 }
 
+/* Takes intervals from the front, and writes as many samples of each as it has ticks, as long as there is room: those
  * of the first interval above zero, and then below and above by turns. Samples of the last interval may be left for the
  * next call, which may be given no interval. If made < room, nothing is left. With a room of 0 it takes nothing and
  * leaves the maker as it was. */
