@@ -1,0 +1,14 @@
+mod AllSay
+mod CleanDrawing
+mod InCells
+mod InCores
+mod InHalves
+mod InPixels
+mod IsCarried
+mod Margins
+mod NoLess
+mod OfBits
+mod PairsCount
+mod Rest
+mod StepByStep
+mod Thresholds

@@ -1,0 +1,3 @@
+pub mod Alone
+pub mod Drawing
+pub mod Inside

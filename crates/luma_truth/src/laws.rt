@@ -1,0 +1,41 @@
+//! What follows from the definitions alone: from a clean drawing to its word.
+ghost use Rattle.std.specs.Prelude.{◌≡◌, ℕ, ◌+◌, ◌*◌, ◌≤◌, true, List};
+ghost use Rattle.luma_row.specs.declared.place.Place.{Place};
+ghost use Rattle.luma_row.specs.declared.row.CodeRow.{CodeRow};
+ghost use Rattle.luma_row.specs.Levels.{number_of, says_bits};
+ghost use Rattle.luma_row.specs.Light.{IsRow};
+ghost use Rattle.luma_row.specs.Row.{IsCode, LiesAt};
+ghost use Rattle.luma_truth.specs.Alone.{FallsNoLess, IsSummit, StandsAlone};
+ghost use Rattle.luma_truth.specs.Drawing.{Drawing, IsDrawn};
+ghost use Rattle.luma_truth.specs.Inside.{core, HasMargin, IsEnough, LiesInside};
+
+/// A row that is drawn says the word of its drawing, at a place inside.
+pub fn a_clean_drawing_says_its_word()
+    ensures says { (drawing : Drawing) (row : List ℕ) (code : CodeRow) → IsDrawn drawing row → IsCode row code
+        → LiesInside drawing code.place → HasMargin drawing code.place
+        → (says_bits code.levels ≡ true) × (number_of code.levels ≡ drawing.word) }
+    ensures carries { (drawing : Drawing) (row : List ℕ) (place : Place) → IsRow row → IsDrawn drawing row
+        → LiesAt row place → LiesInside drawing place → HasMargin drawing place
+        → (code : CodeRow) × IsCode row code × (code.place ≡ place) × (says_bits code.levels ≡ true)
+        × (number_of code.levels ≡ drawing.word) }
+{}
+
+/// The place of a word falls no less than the coarse place. So where it is a summit, it lies in a drawing that stands
+/// alone.
+pub fn a_drawing_that_stands_alone_is_found()
+    ensures falls { (row : List ℕ) (place : Place) (lies : LiesAt row place) → FallsNoLess row lies.coarse place }
+    ensures inside { (drawing : Drawing) (row : List ℕ) (place : Place) (lies : LiesAt row place) → IsSummit row place
+        → StandsAlone drawing row lies.coarse → LiesInside drawing place }
+{}
+
+/// How much is enough: noise is counted in halves of a level. Of two levels 12 apart, rounded, in cells with cores
+/// of 85 sixteenths, the darker may be 128 and no lighter; between 16 and 200 noise may be 19 levels and no more.
+pub fn the_margin_in_numbers()
+    ensures twentieth { (dark swing noise core : ℕ) → 85 ≤ core → 25 ≤ swing → dark + swing ≤ 255 → 10 * noise ≤ swing
+        → IsEnough dark swing noise core }
+    ensures rounded { (dark swing core : ℕ) → 85 ≤ core → 19 ≤ swing → dark + swing ≤ 255
+        → IsEnough dark swing 1 core }
+    ensures few_levels { IsEnough 128 12 1 85 × (IsEnough 129 12 1 85 → ⊥) }
+    ensures loud { IsEnough 16 184 38 85 × (IsEnough 16 184 39 85 → ⊥) }
+    ensures core_of_720 { core (record { first = 130; last = 9_250 }) ≡ 85 }
+{}
