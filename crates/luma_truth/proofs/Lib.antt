@@ -1,4 +1,5 @@
 mod AllSay
+mod BothEnds
 mod CleanDrawing
 mod InCells
 mod InCores

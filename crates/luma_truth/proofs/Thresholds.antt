@@ -59,7 +59,8 @@ weighed low high near next over under here there all no_over no_under a b c d =
 
 -- Behind the last pair: the last three middles, of which the first counts against.
 weighed_behind : (low high near next over under m6 m7 m8 rest gap : ℕ) → near ≡ 0 → under ≡ 0 → next ≡ over + 20
-    → over ≤ 17 → over + rest ≡ 20 → low + gap ≡ high → low ≤ 2 * m6 → 2 * m6 ≤ high → low ≤ 2 * m7 → 2 * m7 ≤ high → low ≤ 2 * m8 → 2 * m8 ≤ high
+    → over ≤ 17 → over + rest ≡ 20 → low + gap ≡ high → low ≤ 2 * m6 → 2 * m6 ≤ high
+    → low ≤ 2 * m7 → 2 * m7 ≤ high → low ≤ 2 * m8 → 2 * m8 ≤ high
     → (2 * (near * (m6 + 2 * m7 + m8) + next * (m7 + 2 * m8 + m8)) + 17 * low
     ≤ 2 * (over * (m6 + 2 * m7 + m8) + under * (m7 + 2 * m8 + m8)) + 97 * high)
     × (2 * (over * (m6 + 2 * m7 + m8) + under * (m7 + 2 * m8 + m8)) + 97 * low

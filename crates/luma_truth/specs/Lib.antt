@@ -1,3 +1,4 @@
 pub mod Alone
 pub mod Drawing
 pub mod Inside
+pub mod Near

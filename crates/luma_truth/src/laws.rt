@@ -8,6 +8,7 @@ ghost use Rattle.luma_row.specs.Row.{IsCode, LiesAt};
 ghost use Rattle.luma_truth.specs.Alone.{FallsNoLess, IsSummit, StandsAlone};
 ghost use Rattle.luma_truth.specs.Drawing.{Drawing, IsDrawn};
 ghost use Rattle.luma_truth.specs.Inside.{core, HasMargin, IsEnough, LiesInside};
+ghost use Rattle.luma_truth.specs.Near.{IsNear};
 
 /// A row that is drawn says the word of its drawing, at a place inside.
 pub fn a_clean_drawing_says_its_word()
@@ -26,6 +27,12 @@ pub fn a_drawing_that_stands_alone_is_found()
     ensures falls { (row : List ℕ) (place : Place) (lies : LiesAt row place) → FallsNoLess row lies.coarse place }
     ensures inside { (drawing : Drawing) (row : List ℕ) (place : Place) (lies : LiesAt row place) → IsSummit row place
         → StandsAlone drawing row lies.coarse → LiesInside drawing place }
+{}
+
+/// A place whose two ends are within a twelfth of a cell of the true ones lies inside.
+pub fn a_near_place_lies_inside()
+    ensures { (drawing : Drawing) (row : List ℕ) (place : Place) → IsRow row → IsDrawn drawing row
+        → IsNear drawing place → LiesInside drawing place }
 {}
 
 /// How much is enough: noise is counted in halves of a level. Of two levels 12 apart, rounded, in cells with cores
