@@ -6,6 +6,7 @@ mod InCores
 mod InHalves
 mod InPixels
 mod IsCarried
+mod LineOfAField
 mod Margins
 mod NoLess
 mod OfBits

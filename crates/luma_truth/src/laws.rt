@@ -1,5 +1,8 @@
 //! What follows from the definitions alone: from a clean drawing to its word.
-ghost use Rattle.std.specs.Prelude.{◌≡◌, ℕ, ◌+◌, ◌*◌, ◌≤◌, true, List};
+ghost use Rattle.std.specs.Prelude.{◌≡◌, ℕ, ◌+◌, ◌*◌, ◌<◌, ◌≤◌, true, List, ◌∷◌, ◌++◌, length};
+ghost use Rattle.luma_field.specs.Parts.{whole_parts};
+ghost use Rattle.luma_field.specs.Raster.{RasterSize};
+ghost use Rattle.luma_field.specs.Rows.{looked_at, SaysLines};
 ghost use Rattle.luma_row.specs.declared.place.Place.{Place};
 ghost use Rattle.luma_row.specs.declared.row.CodeRow.{CodeRow};
 ghost use Rattle.luma_row.specs.Levels.{number_of, says_bits};
@@ -9,6 +12,8 @@ ghost use Rattle.luma_truth.specs.Alone.{FallsNoLess, IsSummit, StandsAlone};
 ghost use Rattle.luma_truth.specs.Drawing.{Drawing, IsDrawn};
 ghost use Rattle.luma_truth.specs.Inside.{core, HasMargin, IsEnough, LiesInside};
 ghost use Rattle.luma_truth.specs.Near.{IsNear};
+
+use luma_row::laws::a_row_says_one_thing;
 
 /// A row that is drawn says the word of its drawing, at a place inside.
 pub fn a_clean_drawing_says_its_word()
@@ -20,6 +25,17 @@ pub fn a_clean_drawing_says_its_word()
         → (code : CodeRow) × IsCode row code × (code.place ≡ place) × (says_bits code.levels ≡ true)
         × (number_of code.levels ≡ drawing.word) }
 {}
+
+/// A field has the line of a clean drawing in one of the first 20 rows that are looked at.
+pub fn a_field_has_the_line_of_a_clean_drawing()
+    ensures { (drawing : Drawing) (raster : RasterSize) (field lines row : List ℕ) (before behind : List (List ℕ))
+        (place : Place) → IsRow row → IsDrawn drawing row → LiesAt row place → LiesInside drawing place
+        → HasMargin drawing place → looked_at raster (whole_parts raster.width field) ≡ before ++ (row ∷ behind)
+        → length before < 20 → SaysLines raster field lines
+        → (first rest : List ℕ) × (lines ≡ first ++ (drawing.word ∷ rest)) }
+{
+    a_row_says_one_thing();
+}
 
 /// The place of a word falls no less than the coarse place. So where it is a summit, it lies in a drawing that stands
 /// alone.

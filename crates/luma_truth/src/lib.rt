@@ -9,7 +9,8 @@
 //! What this crate promises, all of it by laws:
 //! - A row that is drawn says the word of the drawing, where the cores of the place lie in the cells of the
 //!   drawing and the drawing has its margin there (`specs/Drawing.antt`, `IsDrawn`; `specs/Inside.antt`,
-//!   `LiesInside` and `HasMargin`). It carries code, so its line is written.
+//!   `LiesInside` and `HasMargin`). It carries code, so a field has its line if it is one of the first 20 rows
+//!   that are looked at (`a_field_has_the_line_of_a_clean_drawing`).
 //! - Where cores are 85 sixteenths of a pixel or longer, as they are in rows of 720 pixels or more, noise
 //!   of a twentieth of the swing leaves a margin if the levels are 25 apart, and rounding if they are 19
 //!   apart. Levels of 100 and 112 have one too, if pixels are rounded.
