@@ -204,7 +204,7 @@ ends_at begin cell first apart bit is h =
 pub near_lies_inside : (drawing : Drawing) (row : List ℕ) (place : Place) → IsRow row → IsDrawn drawing row
     → IsNear drawing place → LiesInside drawing place
 near_lies_inside drawing row place row_is is near =
-    let narrow = is.narrow in
+    let narrow = is.of_row.narrow in
     let least = row_is.0 in
     let wide : 30000 ≤ drawing.cell = omega (arith, narrow, least) in
     let order = in_order drawing.cell drawing.begin place.first place.last near.first near.last in

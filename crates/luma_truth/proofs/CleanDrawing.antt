@@ -70,7 +70,7 @@ between_these drawing core cells lit = record {
 }
 
 pairs_of : (drawing : Drawing) (row : List ℕ) → IsDrawn drawing row → HasPairs drawing.word
-pairs_of drawing row is = record { ones = is.ones; zeros = is.zeros }
+pairs_of drawing row is = record { ones = is.of_row.ones; zeros = is.of_row.zeros }
 
 -- where there is a margin, the cores are long
 long_core : (dark swing noise core : ℕ) → 0 < swing → IsEnough dark swing noise core → 32 ≤ core
@@ -105,9 +105,9 @@ pub says_its_word : (drawing : Drawing) (row : List ℕ) (code : CodeRow) → Is
     → LiesInside drawing code.place → HasMargin drawing code.place
     → (says_bits code.levels ≡ true) × (number_of code.levels ≡ drawing.word)
 says_its_word drawing row code is read inside enough =
-    let say = levels_say drawing row code.place code.levels is inside enough (omega (arith, is.levels)) read.swing_is
-    read.heights_are in
-    (say.said, number_is drawing.word code.levels is.bits say.bits)
+    let some : 0 < drawing.swing = omega (arith, is.of_row.levels) in
+    let say = levels_say drawing row code.place code.levels is inside enough some read.swing_is read.heights_are in
+    (say.said, number_is drawing.word code.levels is.of_row.bits say.bits)
 
 -- the levels of the cells at a place
 abbrev levels_at : List ℕ → Place → Levels
@@ -119,7 +119,7 @@ code_at row place = record { place = place; levels = levels_at row place }
 count_at : (drawing : Drawing) (row : List ℕ) (place : Place) → IsDrawn drawing row → LiesInside drawing place
     → HasMargin drawing place → counts place (cells_of row place) ≡ true
 count_at drawing row place is inside enough =
-    let some : 0 < drawing.swing = omega (arith, is.levels) in
+    let some : 0 < drawing.swing = omega (arith, is.of_row.levels) in
     let reading = reading_of drawing row place is inside enough some in
     let between = between_these drawing (core place) (cells_of row place) (are_lit drawing row place reading) in
     let pairs = pairs_of drawing row is in
@@ -129,7 +129,7 @@ count_at drawing row place is inside enough =
     (zero_least drawing (core place)) (zero_most drawing (core place)) (cells_of row place) place between pairs
     (apart_enough drawing (core place) some enough)
     (six_levels drawing.dark drawing.swing drawing.noise (core place) (apart place) (swing (cells_of row place))
-    is.levels enough refl least)
+    is.of_row.levels enough refl least)
 
 -- a row whose word lies in a drawing carries code, which says the word
 pub carries_its_word : (drawing : Drawing) (row : List ℕ) (place : Place) → IsRow row → IsDrawn drawing row

@@ -35,7 +35,7 @@ ends_in_row : (drawing : Drawing) (row : List ℕ) (bit end : ℕ) → IsDrawn d
 ends_in_row drawing row bit end is h before =
     let few : bit + 1 ≤ 90 = omega arith in
     let m = mul-le-mul_left drawing.cell few in
-    let within = is.within in
+    let within = is.of_row.within in
     omega (arith, m, within)
 
 -- the parts of the core of a bit

@@ -51,12 +51,12 @@ midst : (drawing : Drawing) (row : List ℕ) (bit : ℕ) → IsDrawn drawing row
     → (pixel : ℕ) × (pixel < length row) × (share drawing pixel bit + 0 ≡ 10240)
 midst drawing row bit is row_is h =
     let pixel = (edge drawing bit + 10239) / 10240 in
-    let narrow = is.narrow in
+    let narrow = is.of_row.narrow in
     let least = row_is.0 in
     let wide : 20480 ≤ drawing.cell = omega (arith, narrow, least) in
     let few : bit + 1 ≤ 90 = omega arith in
     let m = mul-le-mul_left drawing.cell few in
-    let within = is.within in
+    let within = is.of_row.within in
     let after : edge drawing bit ≤ 10240 * pixel = omega arith in
     let before : 10240 * pixel + 10240 ≤ edge drawing (bit + 1) = omega (arith, wide) in
     (pixel, omega (arith, m, within, before), whole_pixel drawing pixel bit after before)
@@ -65,12 +65,13 @@ pub contrast_is : (drawing : Drawing) (row : List ℕ) (core : ℕ) → IsDrawn 
     → 204 * (drawing.dark + drawing.noise * (core + 1)) + 2299 * drawing.swing ≤ 70 * (drawing.swing * core)
     → has_contrast row ≡ true
 contrast_is drawing row core is row_is enough =
-    let some = is.levels in
+    let some = is.of_row.levels in
     let left = eight_left drawing.dark drawing.swing drawing.noise core some enough in
     let one = midst drawing row 0 is row_is (omega arith) in
     let nought = midst drawing row 1 is row_is (omega arith) in
-    let light = bright_pixel drawing row one.0 0 0 is one.1 (omega arith) (is.ones 0 (omega arith)) one.2 in
-    let dark = dark_pixel drawing row nought.0 1 0 is nought.1 (omega arith) (is.zeros 0 (omega arith)) nought.2 in
+    let light = bright_pixel drawing row one.0 0 0 is one.1 (omega arith) (is.of_row.ones 0 (omega arith)) one.2 in
+    let zero_is = is.of_row.zeros 0 (omega arith) in
+    let dark = dark_pixel drawing row nought.0 1 0 is nought.1 (omega arith) zero_is nought.2 in
     let high = max_at 0 row one.0 in
     let low = min_at 255 row nought.0 nought.1 in
     let apart : 8 ≤ lightest row - darkest row = omega (arith, light, dark, high, low, left) in

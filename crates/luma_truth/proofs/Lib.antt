@@ -12,5 +12,7 @@ mod NoLess
 mod OfBits
 mod PairsCount
 mod Rest
+mod Rounded
 mod StepByStep
+mod TenHours
 mod Thresholds

@@ -1,7 +1,8 @@
 -- A row that is among the first 20 that are looked at is among the first 20 that carry code, if it carries any; and so
 -- is its line among the first 20 lines, since each row before it has one at most.
 use Rattle.std.proofs.Common.{◌≡◌, ℕ, zero, suc, ◌+◌, ◌<◌, ◌≤◌, Bool, true, false, cond, List}
-use Rattle.std.proofs.Common.{[], ◌∷◌, ◌++◌, length, take, Option, Some, None, refl, ap, subst, ◌∙◌, append_assoc, length-append, arith}
+use Rattle.std.proofs.Common.{[], ◌∷◌, ◌++◌, length, take, Option, Some, None}
+use Rattle.std.proofs.Common.{refl, ap, subst, ◌∙◌, append_assoc, length-append, arith}
 use Rattle.std.specs.List.{flat_map, AllZip}
 use Rattle.std.proofs.lemmas.Grind.{flat_map-append}
 use Rattle.std.proofs.lemmas.List.Concat.{flat_map-cons}

@@ -9,9 +9,10 @@ ghost use Rattle.luma_row.specs.Levels.{number_of, says_bits};
 ghost use Rattle.luma_row.specs.Light.{IsRow};
 ghost use Rattle.luma_row.specs.Row.{IsCode, LiesAt};
 ghost use Rattle.luma_truth.specs.Alone.{FallsNoLess, IsSummit, StandsAlone};
-ghost use Rattle.luma_truth.specs.Drawing.{Drawing, IsDrawn};
+ghost use Rattle.luma_truth.specs.Drawing.{rounded, Drawing, FitsARow, IsDrawn};
 ghost use Rattle.luma_truth.specs.Inside.{core, HasMargin, IsEnough, LiesInside};
 ghost use Rattle.luma_truth.specs.Near.{IsNear};
+ghost use Rattle.luma_truth.specs.Worked.{ten_hours};
 
 use luma_row::laws::a_row_says_one_thing;
 
@@ -24,6 +25,17 @@ pub fn a_clean_drawing_says_its_word()
         → LiesAt row place → LiesInside drawing place → HasMargin drawing place
         → (code : CodeRow) × IsCode row code × (code.place ≡ place) × (says_bits code.levels ≡ true)
         × (number_of code.levels ≡ drawing.word) }
+{}
+
+/// A row whose pixels are rounded is drawn, with noise of half a level. So is one of 720 pixels with the label
+/// `10:00:00:00`, from pixel 18 on and between the levels 16 and 200. The place that the program finds of it lies near
+/// the true one, which is 408 and 10,008, and has a margin.
+pub fn a_rounded_row_is_drawn()
+    ensures rounded { (drawing : Drawing) (width : ℕ) → FitsARow drawing width → 1 ≤ drawing.noise
+        → IsDrawn drawing (rounded drawing width) }
+    ensures fits { FitsARow ten_hours 720 }
+    ensures near { IsNear ten_hours (record { first = 408; last = 10_016 }) }
+    ensures enough { HasMargin ten_hours (record { first = 408; last = 10_016 }) }
 {}
 
 /// A field has the line of a clean drawing in one of the first 20 rows that are looked at.
