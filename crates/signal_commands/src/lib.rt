@@ -35,7 +35,7 @@ mod wav_ltc;
 mod wav_path;
 
 pub use luma_lines::LINE_LENGTH;
-pub use luma_vitc::{pixels_are_lawful, read_pixels};
+pub use luma_vitc::{pixels_are_lawful, pixels_are_told, read_pixels};
 pub use mtc_read::{MAX_BYTES, midi_is_lawful, read_midi};
 pub use pcm_ltc::{MAX_SAMPLES, slice_sound};
 pub use pcm_path::hear_path;

@@ -32,7 +32,7 @@ pub fn read_pixels<S: Source, K: Sink>(
 }
 
 /// What is told of `luma-vitc` holds: the file that it writes is read as the lines of its rows.
-fn pixels_are_told(run: &LumaRun)
+pub fn pixels_are_told(run: &LumaRun)
     ensures { IsTold (told_luma_vitc run.now) }
 {
     let _system = run.system();

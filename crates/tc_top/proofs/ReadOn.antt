@@ -10,10 +10,14 @@ use Rattle.interval_file.specs.declared.header.IntervalHeader.{IntervalHeader}
 use Rattle.interval_file.specs.Grammar.{IsFile}
 use Rattle.interval_file.specs.Recording.{Recording, recording_of}
 use Rattle.tc_job.specs.declared.job.Job.{Job}
-use Rattle.tc_job.specs.declared.job.Job.TheVariants.{LtcMtc, LtcJam, LtcPcm, Number, LabelOf, Labels, Help}
+use Rattle.tc_job.specs.declared.job.Job.TheVariants.{LtcMtc, LtcJam, LtcPcm, LumaVitc, Number, LabelOf, Labels}
+use Rattle.tc_job.specs.declared.job.Job.TheVariants.{Help}
 use Rattle.tc_job.specs.Jam.{Jamming}
 use Rattle.tc_job.specs.LabelRun.{LabelRunning}
+use Rattle.tc_job.specs.LumaRun.{LumaReading}
 use Rattle.tc_command.specs.Meaning.{Meaning, IsInput}
+use Rattle.tc_command.specs.Told.{IsTold}
+use Rattle.signal_commands.specs.LumaVitc.{told_luma_vitc}
 use Rattle.label_command.specs.AnsweredAgain.{IsAnsweredAgain}
 use Rattle.label_command.specs.Labels.{along_labels}
 use Rattle.interval_engine.specs.Along.{IsWholeOf}
@@ -23,6 +27,7 @@ use Rattle.tc_top.specs.Promises.{IsReadOn}
 use Rattle.tc_top.proofs.FormsWritten.{FormsLaws, tells_the_forms}
 use Rattle.tc_top.proofs.LabelsHeard.{HaveLabels}
 use Rattle.tc_top.proofs.NamedAgain.{LabelsLaws, named_again, numbered_by_text}
+use Rattle.tc_top.proofs.ReadAsFields.{read_as_fields, AnswersLaws}
 use Rattle.tc_top.proofs.SentIsRead.{AreReadBack, sends_the_frames}
 use Rattle.tc_top.proofs.SlicedAgain.{SoundLaws, sliced_again}
 
@@ -35,6 +40,7 @@ pub record ReadOnLaws : Type 1 where
   pub numbers : LabelsLaws
   pub forms : FormsLaws
   pub sound : SoundLaws
+  pub answers : AnswersLaws
   pub again : (run : LabelRunning) (bytes written : List ℕ) → IsInput (along_labels run) bytes
       → Meaning.output (along_labels run) bytes written → IsAnsweredAgain run bytes written
 
@@ -52,14 +58,17 @@ copy_is_reported : ReadOnLaws → (j : Jamming) (pulled written : List ℕ) → 
 copy_is_reported laws j pulled written = λ clean text few output.
     reported laws _ _ written _ clean.file clean.read text few output
 
-pub read_on : ReadOnLaws → (job : Job) → ((level : ℕ) → job ≡ LtcPcm level → level < 2 ^ 15) → IsReadOn job
-read_on laws (LtcMtc flight) level = λ pulled written are input output.
+pub read_on : ReadOnLaws → (job : Job) → ((level : ℕ) → job ≡ LtcPcm level → level < 2 ^ 15)
+    → ((luma : LumaReading) → job ≡ LumaVitc luma → IsTold (told_luma_vitc luma)) → IsReadOn job
+read_on laws (LtcMtc flight) level told = λ pulled written are input output.
     sends_the_frames laws.back laws.labels flight pulled written output
-read_on laws (LtcJam jam) level = λ pulled written are input output. copy_is_reported laws jam pulled written
-read_on laws (LtcPcm size) level = λ pulled written are input output.
+read_on laws (LtcJam jam) level told = λ pulled written are input output. copy_is_reported laws jam pulled written
+read_on laws (LtcPcm size) level told = λ pulled written are input output.
     sliced_again laws.sound size (level size refl) pulled written are input output
-read_on laws (Number label) level = λ pulled written are input output. named_again laws.numbers label pulled written
-read_on laws (LabelOf label) level = λ pulled written are input output. numbered_by_text label pulled written
-read_on laws (Labels run) level = λ pulled written are input output. laws.again run pulled written input output
-read_on laws Help level = λ pulled written are input output. tells_the_forms laws.forms written output.1
-read_on laws job level = λ pulled written are input output. tt
+read_on laws (LumaVitc luma) level told = λ pulled written are input output.
+    read_as_fields laws.answers luma (told luma refl) pulled written are input output
+read_on laws (Number label) level told = λ pulled written are input output. named_again laws.numbers label pulled written
+read_on laws (LabelOf label) level told = λ pulled written are input output. numbered_by_text label pulled written
+read_on laws (Labels run) level told = λ pulled written are input output. laws.again run pulled written input output
+read_on laws Help level told = λ pulled written are input output. tells_the_forms laws.forms written output.1
+read_on laws job level told = λ pulled written are input output. tt

@@ -2,6 +2,7 @@ pub mod Answer
 pub mod CleanCopy
 pub mod Commands
 pub mod Exit
+pub mod FieldsAgain
 pub mod FormsTyped
 pub mod LabelsAgain
 pub mod Promises

@@ -1,24 +1,29 @@
 //! What a further command makes of what a job wrote is what is promised of it. Read next: `laws`.
 ghost use Rattle.std.specs.Prelude.{◌≡◌, ℕ, ◌<◌, ◌^◌};
+ghost use Rattle.tc_command.specs.Told.{IsTold};
 ghost use Rattle.tc_job.specs.declared.job.Job.{Job};
+ghost use Rattle.tc_job.specs.LumaRun.{LumaReading};
+ghost use Rattle.signal_commands.specs.LumaVitc.{told_luma_vitc};
 ghost use Rattle.tc_top.specs.Promises.{IsReadOn};
 
 use direction_reader::laws::a_list_has_one_list_of_events;
 use frame_commands::laws::what_is_heard_has_labels_of_its_system;
 use interval_file::laws::{a_file_is_read_as_it_was_written, bytes_are_read_as_the_text_says};
 use label_command::laws::answers_are_answered_again;
+use line_file::laws::{bytes_have_answers, bytes_have_one_list_of_answers};
 use pcm_front::laws::{
     a_sound_is_sliced_at_a_threshold_that_follows, a_sound_is_sliced_into_its_intervals,
     samples_are_read_as_they_were_written, sums_of_one_are_the_samples,
 };
 use quarter_frame::laws::what_is_sent_is_read_back;
+use signal_commands::pixels_are_told;
 use tc_address::laws::number_and_label_are_inverse;
 use tc_job::Job;
 use tc_words::laws::{each_command_has_its_usage, each_form_is_taken};
 
 /// What is sent is read as the frames of the file, the report of a copy is that of its frames, what is sounded is
-/// sliced into its intervals again, what is told of labels and of commands is taken as words, and what is answered to
-/// labels is answered again.
+/// sliced into its intervals again, the lines of a picture are read as its fields, what is told of labels and of
+/// commands is taken as words, and what is answered to labels is answered again.
 pub(crate) fn it_is_read_on(job: &Job)
     ensures { IsReadOn job.now }
 {
@@ -35,7 +40,10 @@ pub(crate) fn it_is_read_on(job: &Job)
     a_sound_is_sliced_at_a_threshold_that_follows();
     sums_of_one_are_the_samples();
     answers_are_answered_again();
+    bytes_have_answers();
+    bytes_have_one_list_of_answers();
     has_a_level_of_samples(job);
+    has_told_pixels(job);
 }
 
 /// The level of made sound is one of a sample.
@@ -44,5 +52,14 @@ fn has_a_level_of_samples(job: &Job)
 {
     if let Job::LtcPcm { level } = job {
         let _level = level.level();
+    }
+}
+
+/// What is told of the pixels of a job holds.
+fn has_told_pixels(job: &Job)
+    ensures { (luma : LumaReading) → job.now ≡ Job.LumaVitc luma → IsTold (told_luma_vitc luma) }
+{
+    if let Job::LumaVitc { run } = job {
+        pixels_are_told(run);
     }
 }

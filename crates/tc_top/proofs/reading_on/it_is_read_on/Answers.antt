@@ -26,5 +26,9 @@ returns c = read_on (record {
     followed = c.a_sound_is_sliced_at_a_threshold_that_follows.ensures.follow;
     behind = c.a_sound_is_sliced_at_a_threshold_that_follows.ensures.behind;
   };
+  answers = record {
+    some = c.bytes_have_answers.ensures;
+    one = c.bytes_have_one_list_of_answers.ensures;
+  };
   again = c.answers_are_answered_again.ensures.again;
-}) c.args.job.now c.has_a_level_of_samples.ensures
+}) c.args.job.now c.has_a_level_of_samples.ensures c.has_told_pixels.ensures

@@ -1,0 +1,78 @@
+-- A drawing with a margin has contrast, and its sync pairs count: so the row carries code.
+use Rattle.std.proofs.Common.{◌≡◌, ℕ, zero, suc, ◌+◌, ◌-◌, ◌*◌, ◌/◌, ◌<◌, ◌≤◌, ◌⊎◌, inl, inr}
+use Rattle.std.proofs.Common.{true, List, [], ◌∷◌, length, get_or, min, max, arith}
+use Rattle.std.specs.List.{fold}
+use Rattle.std.proofs.Math.Nat.{mul-le-mul_left}
+use Rattle.std.proofs.lemmas.Bool.Decides.{nat_tests}
+use Rattle.luma_row.specs.Light.{IsRow}
+use Rattle.luma_row.specs.Row.{darkest, has_contrast, lightest}
+use Rattle.luma_truth.specs.Drawing.{edge, share, Drawing, IsDrawn}
+use Rattle.luma_truth.proofs.InPixels.{bright_pixel, dark_pixel}
+
+max_from : (a : ℕ) (xs : List ℕ) → a ≤ fold max a xs
+max_from a [] = omega arith
+max_from a (x ∷ xs) = let rest = max_from (max a x) xs in omega (arith, rest)
+
+max_at : (a : ℕ) (xs : List ℕ) (k : ℕ) → get_or xs k 0 ≤ fold max a xs
+max_at a [] k = omega arith
+max_at a (x ∷ xs) zero = let rest = max_from (max a x) xs in omega (arith, rest)
+max_at a (x ∷ xs) (suc k) = max_at (max a x) xs k
+
+min_from : (a : ℕ) (xs : List ℕ) → fold min a xs ≤ a
+min_from a [] = omega arith
+min_from a (x ∷ xs) = let rest = min_from (min a x) xs in omega (arith, rest)
+
+min_at : (a : ℕ) (xs : List ℕ) (k : ℕ) → k < length xs → fold min a xs ≤ get_or xs k 0
+min_at a [] k h = absurd (omega arith)
+min_at a (x ∷ xs) zero h = let rest = min_from (min a x) xs in omega (arith, rest)
+min_at a (x ∷ xs) (suc k) h = min_at (min a x) xs k (omega arith)
+
+-- a pixel in the midst of a cell
+whole_pixel : (drawing : Drawing) (pixel bit : ℕ) → edge drawing bit ≤ 10240 * pixel
+    → 10240 * pixel + 10240 ≤ edge drawing (bit + 1) → share drawing pixel bit + 0 ≡ 10240
+unfolding share
+whole_pixel drawing pixel bit a b = omega arith
+
+-- a margin leaves 8 levels beside the noise
+eight_left : (dark swing noise core : ℕ) → 12 ≤ swing
+    → 204 * (dark + noise * (core + 1)) + 2299 * swing ≤ 70 * (swing * core) → noise + 8 ≤ swing
+eight_left dark swing noise core some enough =
+    let cases : (noise + 8 ≤ swing) ⊎ (swing ≤ noise + 7) = grind arith in
+    elim cases [
+      | inl h ↦ h
+      | inr loud ↦
+          let m = mul-le-mul_left (core + 1) loud in
+          let n = mul-le-mul_left core some in
+          absurd (omega (arith, m, n))
+    ]
+
+-- a pixel in a cell
+midst : (drawing : Drawing) (row : List ℕ) (bit : ℕ) → IsDrawn drawing row → IsRow row → bit < 90
+    → (pixel : ℕ) × (pixel < length row) × (share drawing pixel bit + 0 ≡ 10240)
+midst drawing row bit is row_is h =
+    let pixel = (edge drawing bit + 10239) / 10240 in
+    let narrow = is.of_row.narrow in
+    let least = row_is.0 in
+    let wide : 20480 ≤ drawing.cell = omega (arith, narrow, least) in
+    let few : bit + 1 ≤ 90 = omega arith in
+    let m = mul-le-mul_left drawing.cell few in
+    let within = is.of_row.within in
+    let after : edge drawing bit ≤ 10240 * pixel = omega arith in
+    let before : 10240 * pixel + 10240 ≤ edge drawing (bit + 1) = omega (arith, wide) in
+    (pixel, omega (arith, m, within, before), whole_pixel drawing pixel bit after before)
+
+pub contrast_is : (drawing : Drawing) (row : List ℕ) (core : ℕ) → IsDrawn drawing row → IsRow row
+    → 204 * (drawing.dark + drawing.noise * (core + 1)) + 2299 * drawing.swing ≤ 70 * (drawing.swing * core)
+    → has_contrast row ≡ true
+contrast_is drawing row core is row_is enough =
+    let some = is.of_row.levels in
+    let left = eight_left drawing.dark drawing.swing drawing.noise core some enough in
+    let one = midst drawing row 0 is row_is (omega arith) in
+    let nought = midst drawing row 1 is row_is (omega arith) in
+    let light = bright_pixel drawing row one.0 0 0 is one.1 (omega arith) (is.of_row.ones 0 (omega arith)) one.2 in
+    let zero_is = is.of_row.zeros 0 (omega arith) in
+    let dark = dark_pixel drawing row nought.0 1 0 is nought.1 (omega arith) zero_is nought.2 in
+    let high = max_at 0 row one.0 in
+    let low = min_at 255 row nought.0 nought.1 in
+    let apart : 8 ≤ lightest row - darkest row = omega (arith, light, dark, high, low, left) in
+    grind (arith, nat_tests)

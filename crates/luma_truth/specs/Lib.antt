@@ -1,0 +1,5 @@
+pub mod Alone
+pub mod Drawing
+pub mod Inside
+pub mod Near
+pub mod Worked

@@ -1,0 +1,76 @@
+//! What follows from the definitions alone: from a clean drawing to its word.
+ghost use Rattle.std.specs.Prelude.{◌≡◌, ℕ, ◌+◌, ◌*◌, ◌<◌, ◌≤◌, true, List, ◌∷◌, ◌++◌, length};
+ghost use Rattle.luma_field.specs.Parts.{whole_parts};
+ghost use Rattle.luma_field.specs.Raster.{RasterSize};
+ghost use Rattle.luma_field.specs.Rows.{looked_at, SaysLines};
+ghost use Rattle.luma_row.specs.declared.place.Place.{Place};
+ghost use Rattle.luma_row.specs.declared.row.CodeRow.{CodeRow};
+ghost use Rattle.luma_row.specs.Levels.{number_of, says_bits};
+ghost use Rattle.luma_row.specs.Light.{IsRow};
+ghost use Rattle.luma_row.specs.Row.{IsCode, LiesAt};
+ghost use Rattle.luma_truth.specs.Alone.{FallsNoLess, IsSummit, StandsAlone};
+ghost use Rattle.luma_truth.specs.Drawing.{rounded, Drawing, FitsARow, IsDrawn};
+ghost use Rattle.luma_truth.specs.Inside.{core, HasMargin, IsEnough, LiesInside};
+ghost use Rattle.luma_truth.specs.Near.{IsNear};
+ghost use Rattle.luma_truth.specs.Worked.{ten_hours};
+
+use luma_row::laws::a_row_says_one_thing;
+
+/// A row that is drawn says the word of its drawing, at a place inside.
+pub fn a_clean_drawing_says_its_word()
+    ensures says { (drawing : Drawing) (row : List ℕ) (code : CodeRow) → IsDrawn drawing row → IsCode row code
+        → LiesInside drawing code.place → HasMargin drawing code.place
+        → (says_bits code.levels ≡ true) × (number_of code.levels ≡ drawing.word) }
+    ensures carries { (drawing : Drawing) (row : List ℕ) (place : Place) → IsRow row → IsDrawn drawing row
+        → LiesAt row place → LiesInside drawing place → HasMargin drawing place
+        → (code : CodeRow) × IsCode row code × (code.place ≡ place) × (says_bits code.levels ≡ true)
+        × (number_of code.levels ≡ drawing.word) }
+{}
+
+/// A row whose pixels are rounded is drawn, with noise of half a level. So is one of 720 pixels with the label
+/// `10:00:00:00`, from pixel 18 on and between the levels 16 and 200. The place that the program finds of it lies near
+/// the true one, which is 408 and 10,008, and has a margin.
+pub fn a_rounded_row_is_drawn()
+    ensures rounded { (drawing : Drawing) (width : ℕ) → FitsARow drawing width → 1 ≤ drawing.noise
+        → IsDrawn drawing (rounded drawing width) }
+    ensures fits { FitsARow ten_hours 720 }
+    ensures near { IsNear ten_hours (record { first = 408; last = 10_016 }) }
+    ensures enough { HasMargin ten_hours (record { first = 408; last = 10_016 }) }
+{}
+
+/// A field has the line of a clean drawing in one of the first 20 rows that are looked at.
+pub fn a_field_has_the_line_of_a_clean_drawing()
+    ensures { (drawing : Drawing) (raster : RasterSize) (field lines row : List ℕ) (before behind : List (List ℕ))
+        (place : Place) → IsRow row → IsDrawn drawing row → LiesAt row place → LiesInside drawing place
+        → HasMargin drawing place → looked_at raster (whole_parts raster.width field) ≡ before ++ (row ∷ behind)
+        → length before < 20 → SaysLines raster field lines
+        → (first rest : List ℕ) × (lines ≡ first ++ (drawing.word ∷ rest)) }
+{
+    a_row_says_one_thing();
+}
+
+/// The place of a word falls no less than the coarse place. So where it is a summit, it lies in a drawing that stands
+/// alone.
+pub fn a_drawing_that_stands_alone_is_found()
+    ensures falls { (row : List ℕ) (place : Place) (lies : LiesAt row place) → FallsNoLess row lies.coarse place }
+    ensures inside { (drawing : Drawing) (row : List ℕ) (place : Place) (lies : LiesAt row place) → IsSummit row place
+        → StandsAlone drawing row lies.coarse → LiesInside drawing place }
+{}
+
+/// A place whose two ends are within a twelfth of a cell of the true ones lies inside.
+pub fn a_near_place_lies_inside()
+    ensures { (drawing : Drawing) (row : List ℕ) (place : Place) → IsRow row → IsDrawn drawing row
+        → IsNear drawing place → LiesInside drawing place }
+{}
+
+/// How much is enough: noise is counted in halves of a level. Of two levels 12 apart, rounded, in cells with cores
+/// of 85 sixteenths, the darker may be 128 and no lighter; between 16 and 200 noise may be 19 levels and no more.
+pub fn the_margin_in_numbers()
+    ensures twentieth { (dark swing noise core : ℕ) → 85 ≤ core → 25 ≤ swing → dark + swing ≤ 255 → 10 * noise ≤ swing
+        → IsEnough dark swing noise core }
+    ensures rounded { (dark swing core : ℕ) → 85 ≤ core → 19 ≤ swing → dark + swing ≤ 255
+        → IsEnough dark swing 1 core }
+    ensures few_levels { IsEnough 128 12 1 85 × (IsEnough 129 12 1 85 → ⊥) }
+    ensures loud { IsEnough 16 184 38 85 × (IsEnough 16 184 39 85 → ⊥) }
+    ensures core_of_720 { core (record { first = 130; last = 9_250 }) ≡ 85 }
+{}
