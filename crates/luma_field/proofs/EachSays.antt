@@ -10,6 +10,7 @@ use Rattle.luma_row.specs.Cells.{cells_of, counts, swing}
 use Rattle.luma_row.specs.Choice.{IsFirstBest}
 use Rattle.luma_row.specs.Climb.{halved, neighbour, worth, Climbs, Moves, Refines}
 use Rattle.luma_row.specs.Coarse.{best_at, sum_at, IsCoarse}
+use Rattle.luma_row.specs.Earliest.{earliest as earliest_place}
 use Rattle.luma_row.specs.Heights.{heights_of}
 use Rattle.luma_row.specs.Row.{has_contrast, IsCode, LiesAt}
 use Rattle.luma_row.specs.Width.{distance, earliest, end, grain, narrowest, start, widest}
@@ -150,12 +151,14 @@ a_row_says one row =
     elim (either (has_contrast row)) [
       | inr even ↦ (None, λ code is. cc (even, is.contrast))
       | inl contrast ↦ elim (more_or_not (9 * EVEN) coarse.0) [
-        | inl more ↦ says_at one row fine.0 contrast (record {
+        | inl more ↦ says_at one row (earliest_place row fine.0) contrast (record {
           coarse = coarse.1;
           sum = coarse.0;
           is_coarse = coarse.2;
           falls = more;
+          deepest = fine.0;
           fine = fine.1;
+          earliest_is = refl;
         })
         | inr flat ↦ (
           None,

@@ -1,16 +1,17 @@
--- Each move goes to a place that fits and falls more, or stays: so the place of a word falls no less than the coarse
--- one.
+-- Each move goes to a place that fits and falls more, or stays: so the place with the deepest falls falls no less than
+-- the coarse one.
 use Rattle.std.proofs.Common.{◌≡◌, ℕ, zero, suc, ◌*◌, ◌<◌, ◌==◌, ◌⊎◌, inl, inr}
 use Rattle.std.proofs.Common.{Bool, true, false, cond, List, length, refl, ap, sym, subst, ◌∙◌, arith}
 use Rattle.std.proofs.lemmas.Bool.Decides.{nat_tests}
 use Rattle.luma_row.specs.declared.place.Place.{Place}
 use Rattle.luma_row.specs.Climb.{halved, neighbour, worth, Climbs, Moves, Refines}
+use Rattle.luma_row.specs.Earliest.{earlier, earliest_within, fits_nearly}
 use Rattle.luma_row.specs.Place.{fits, score}
 use Rattle.luma_row.specs.Row.{LiesAt}
 use Rattle.luma_row.specs.Width.{grain}
 use Rattle.luma_truth.specs.Drawing.{Drawing}
 use Rattle.luma_truth.specs.Inside.{LiesInside}
-use Rattle.luma_truth.specs.Alone.{FallsNoLess, IsSummit, StandsAlone}
+use Rattle.luma_truth.specs.Alone.{FallsNoLess, IsSummit, StandsAlone, StandsFirst}
 
 either : (b : Bool) → (b ≡ true) ⊎ (b ≡ false)
 either true = inl refl
@@ -81,10 +82,22 @@ refines_on row step (suc steps) from to refines =
     then_on row from refines.0 to (refines_on row step steps from refines.0 refines.1)
     (climbs_on row (halved step steps) 6 refines.0 to refines.2)
 
-pub place_falls : (row : List ℕ) (place : Place) (lies : LiesAt row place) → FallsNoLess row lies.coarse place
-place_falls row place lies = refines_on row (2 * grain (length row)) 8 lies.coarse place lies.fine
+pub place_falls : (row : List ℕ) (place : Place) (lies : LiesAt row place) → FallsNoLess row lies.coarse lies.deepest
+place_falls row place lies = refines_on row (2 * grain (length row)) 8 lies.coarse lies.deepest lies.fine
+
+-- where the word fits at no place before it, it is the earliest
+none_before : (row : List ℕ) (place : Place) (cells : ℕ) → ((less : ℕ) → less < cells
+    → fits_nearly row place (earlier place (suc less)) ≡ false) → earliest_within row place cells ≡ place
+unfolding earliest_within
+none_before row place zero none = refl
+none_before row place (suc cells) none =
+    rw (none cells (omega arith))
+    (none_before row place cells (λ (less : ℕ) (below : less < cells). none less (omega (arith, below))))
 
 -- so it lies in a drawing that stands alone
-pub lies_inside : (drawing : Drawing) (row : List ℕ) (place : Place) (lies : LiesAt row place) → IsSummit row place
-    → StandsAlone drawing row lies.coarse → LiesInside drawing place
-lies_inside drawing row place lies top alone = alone place (place_falls row place lies) top
+pub lies_inside : (drawing : Drawing) (row : List ℕ) (place : Place) (lies : LiesAt row place)
+    → IsSummit row lies.deepest → StandsAlone drawing row lies.coarse → StandsFirst row lies.deepest
+    → LiesInside drawing place
+lies_inside drawing row place lies top alone first =
+    let there = lies.earliest_is ∙ none_before row lies.deepest 8 first in
+    subst (LiesInside drawing) (sym there) (alone lies.deepest (place_falls row place lies) top)

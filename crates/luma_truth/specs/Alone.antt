@@ -1,7 +1,8 @@
 -- Places at which a word may be found, and a drawing that is the only one.
-use Rattle.std.specs.Prelude.{◌≡◌, ℕ, ◌<◌, ◌≤◌, ◌⊎◌, true, List, length}
+use Rattle.std.specs.Prelude.{◌≡◌, ℕ, suc, ◌<◌, ◌≤◌, ◌⊎◌, true, false, List, length}
 use Rattle.luma_row.specs.declared.place.Place.{Place}
 use Rattle.luma_row.specs.Climb.{worth}
+use Rattle.luma_row.specs.Earliest.{earlier, fits_nearly}
 use Rattle.luma_row.specs.Place.{fits, score}
 use Rattle.luma_truth.specs.Drawing.{Drawing}
 use Rattle.luma_truth.specs.Inside.{LiesInside}
@@ -19,3 +20,7 @@ IsSummit row place = (number : ℕ) → number < 9 → worth row place 1 number 
 abbrev pub StandsAlone : Drawing → List ℕ → Place → Type 0
 StandsAlone drawing row coarse = (other : Place) → FallsNoLess row coarse other → IsSummit row other
     → LiesInside drawing other
+
+-- at none of the places up to eight cells earlier the word fits nearly as well
+abbrev pub StandsFirst : List ℕ → Place → Type 0
+StandsFirst row place = (cells : ℕ) → cells < 8 → fits_nearly row place (earlier place (suc cells)) ≡ false

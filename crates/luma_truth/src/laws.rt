@@ -8,7 +8,7 @@ ghost use Rattle.luma_row.specs.declared.row.CodeRow.{CodeRow};
 ghost use Rattle.luma_row.specs.Levels.{number_of, says_bits};
 ghost use Rattle.luma_row.specs.Light.{IsRow};
 ghost use Rattle.luma_row.specs.Row.{IsCode, LiesAt};
-ghost use Rattle.luma_truth.specs.Alone.{FallsNoLess, IsSummit, StandsAlone};
+ghost use Rattle.luma_truth.specs.Alone.{FallsNoLess, IsSummit, StandsAlone, StandsFirst};
 ghost use Rattle.luma_truth.specs.Drawing.{rounded, Drawing, FitsARow, IsDrawn};
 ghost use Rattle.luma_truth.specs.Inside.{core, HasMargin, IsEnough, LiesInside};
 ghost use Rattle.luma_truth.specs.Near.{IsNear};
@@ -49,12 +49,14 @@ pub fn a_field_has_the_line_of_a_clean_drawing()
     a_row_says_one_thing();
 }
 
-/// The place of a word falls no less than the coarse place. So where it is a summit, it lies in a drawing that stands
-/// alone.
+/// The place with the deepest falls falls no less than the coarse place. So if it is a summit, it lies in a drawing that
+/// stands alone; and if the word fits nowhere earlier, that is the place of the word.
 pub fn a_drawing_that_stands_alone_is_found()
-    ensures falls { (row : List ℕ) (place : Place) (lies : LiesAt row place) → FallsNoLess row lies.coarse place }
-    ensures inside { (drawing : Drawing) (row : List ℕ) (place : Place) (lies : LiesAt row place) → IsSummit row place
-        → StandsAlone drawing row lies.coarse → LiesInside drawing place }
+    ensures falls { (row : List ℕ) (place : Place) (lies : LiesAt row place)
+        → FallsNoLess row lies.coarse lies.deepest }
+    ensures inside { (drawing : Drawing) (row : List ℕ) (place : Place) (lies : LiesAt row place)
+        → IsSummit row lies.deepest → StandsAlone drawing row lies.coarse → StandsFirst row lies.deepest
+        → LiesInside drawing place }
 {}
 
 /// A place whose two ends are within a twelfth of a cell of the true ones lies inside.

@@ -1,4 +1,4 @@
-use Rattle.std.proofs.Common.{◌≡◌, ◌+◌, sym, subst, ◌∙◌, arith}
+use Rattle.std.proofs.Common.{sym, subst, ◌∙◌, arith}
 use Rattle.luma_row.specs.KeptPlace.{IsInRow}
 use Rattle.luma_row.proofs.PlacesTried.{it_fits, it_fits_not, within_none}
 use Rattle.luma_row.proofs.earliest.earliest.Goals as goal
