@@ -102,8 +102,9 @@ static inline bool tc_reader_init(tc_reader *reader, const tc_settings *settings
 }
 
 /* Takes samples from the front, and writes the events that they bring, in order, as long as there is room for two more:
- * a room of 0 or 1 takes nothing. Behind the events that are made no event is changed. Call again with the samples that
- * are left while room - made < 2. In whatever pieces the samples come, the events are the same. */
+ * a room of 0 or 1 takes nothing, writes nothing and leaves the reader as it was. Behind the events that are made no
+ * event is changed. Call again with the samples that are left while room - made < 2. In whatever pieces the samples
+ * come, the events are the same. */
 static inline tc_taken tc_reader_write_s16(tc_reader *reader, const int16_t *samples, size_t count, tc_event *events,
                                            size_t room) {
     tc_handle handle = {reader->state};
@@ -159,9 +160,10 @@ static inline bool tc_tape_init(tc_tape *tape, const tc_tape_settings *settings)
 }
 
 /* Takes intervals, in ticks from 1 to 16777215, from the front, and writes the events that they bring, in order, as
- * long as there is room for three more: a room of 0, 1 or 2 takes nothing. Behind the events that are made no event is
- * changed. Call again with the intervals that are left while room - made < 3. In whatever pieces the intervals come,
- * the events are the same. Where it asks for witnesses, a word that is read backward is told 16 cells after its end. */
+ * long as there is room for three more: a room of 0, 1 or 2 takes nothing, writes nothing and leaves the reader as it
+ * was. Behind the events that are made no event is changed. Call again with the intervals that are left while room -
+ * made < 3. In whatever pieces the intervals come, the events are the same. Where it asks for witnesses, a word that is
+ * read backward is told 16 cells after its end. */
 static inline tc_tape_taken tc_tape_write(tc_tape *tape, const uint32_t *ticks, size_t count, tc_event *events,
                                           size_t room) {
     tc_handle handle = {tape->state};
@@ -285,13 +287,15 @@ static inline bool tc_wheel_init(tc_wheel *wheel, uint32_t limit) {
 }
 
 /* Tells the time: writes the frames that are due at the tick, as long as there is room. A frame is due half a length
- * after it should have been heard. Ticks do not fall from call to call, those of words too. */
+ * after it should have been heard. Ticks do not fall from call to call, those of words too. A room of 0 writes nothing
+ * and leaves the flywheel as it was. */
 static inline tc_given tc_wheel_pass(tc_wheel *wheel, uint64_t tick, tc_frame *frames, size_t room) {
     tc_handle handle = {wheel->state};
     return tc_wheel_pass_(&handle, tick, frames, room);
 }
 
-/* Tells of a word: writes the frames that are due before it, and then it, as long as there is room. */
+/* Tells of a word: writes the frames that are due before it, and then it, as long as there is room. A room of 0 writes
+ * nothing and leaves the flywheel as it was. */
 static inline tc_given tc_wheel_hear(tc_wheel *wheel, const tc_heard *word, tc_frame *frames, size_t room) {
     tc_handle handle = {wheel->state};
     return tc_wheel_hear_(&handle, word, frames, room);
@@ -327,12 +331,14 @@ static inline bool tc_mtc_writer_init(tc_mtc_writer *writer) {
         return false;
     }
     tc_mtc_writer_at(writer->state, &handle);
+    tc_mtc_writer_start_(&handle);
     return true;
 }
 
 /* Writes the messages of the next frame, as a flywheel gives it: 18 bytes where it begins a run, 8 where it goes on
  * one, and none for TC_GONE. It is `done` where there is room for 18, and `refused` where the numbers are none of a
- * frame. The quarter frames of a frame are four, to be sent a quarter of it apart. */
+ * frame; with less room nothing is written, and the writer stays as it was. The quarter frames of a frame are four, to
+ * be sent a quarter of it apart. */
 static inline tc_given tc_mtc_writer_write(tc_mtc_writer *writer, const tc_frame *frame, uint8_t *bytes, size_t room) {
     tc_handle handle = {writer->state};
     return tc_mtc_writer_write_(&handle, frame, bytes, room);
@@ -377,13 +383,14 @@ static inline bool tc_mtc_reader_init(tc_mtc_reader *reader) {
         return false;
     }
     tc_mtc_reader_at(reader->state, &handle);
+    tc_mtc_reader_start_(&handle);
     return true;
 }
 
 /* Takes bytes of MIDI from the front, and writes the labels that they complete, in order, as long as there is room: a
- * room of 0 takes nothing. Messages of other kinds, and real-time bytes between, are passed over. Call again with the
- * bytes that are left while room is full. In whatever pieces the bytes come, the labels are the same. `full` comes with
- * 2 to the 62nd bytes. */
+ * room of 0 takes nothing and leaves the reader as it was. Messages of other kinds, and real-time bytes between, are
+ * passed over. Call again with the bytes that are left while room is full. In whatever pieces the bytes come, the
+ * labels are the same. `full` comes with 2 to the 62nd bytes. */
 static inline tc_taken tc_mtc_reader_read(tc_mtc_reader *reader, const uint8_t *bytes, size_t count,
                                           tc_mtc_event *events, size_t room) {
     tc_handle handle = {reader->state};
@@ -424,8 +431,8 @@ static inline bool tc_maker_init(tc_maker *maker, uint32_t from, uint32_t to, ui
 
 /* Writes the intervals of the cells of the first `count` bits, bit 0 first: one of a zero, and two of a one. A word has
  * 80, as tc_word_bits gives them. It is `done` where there is room for two a bit, and `refused` where there are more
- * than 128. A reader locks at the first zero beside a one, so before the first word a zero and a one may stand: two
- * bits of the number 2. */
+ * than 128; with less room nothing is written, and the maker stays as it was. A reader locks at the first zero beside a
+ * one, so before the first word a zero and a one may stand: two bits of the number 2. */
 static inline tc_given tc_maker_bits(tc_maker *maker, const tc_bits *bits, uint32_t count, uint32_t *ticks,
                                      size_t room) {
     tc_handle handle = {maker->state};
@@ -471,7 +478,8 @@ static inline bool tc_sound_init(tc_sound *sound, uint32_t level) {
 
 /* Takes intervals from the front, and writes as many samples of each as it has ticks, the first above zero and then by
  * turns, as long as there is room. The last interval may have samples that are still to come: they are written by the
- * next call, which may be given no interval. Where made < room nothing is left. */
+ * next call, which may be given no interval. Where made < room nothing is left. A room of 0 takes nothing and leaves
+ * the maker as it was. */
 static inline tc_sound_taken tc_sound_write(tc_sound *sound, const uint32_t *ticks, size_t count, int16_t *samples,
                                             size_t room) {
     tc_handle handle = {sound->state};

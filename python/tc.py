@@ -300,6 +300,7 @@ def _describe(loaded: ctypes.CDLL) -> None:
         made.restype, made.argtypes = None, [ctypes.c_void_p, place]
         started = getattr(loaded, f"tc_{name}_start_")
         started.restype = None if name.startswith("mtc") else ctypes.c_bool
+    loaded.tc_mtc_writer_start_.argtypes = loaded.tc_mtc_reader_start_.argtypes = [place]
     loaded.tc_reader_start_.argtypes = [place, ctypes.POINTER(_Settings)]
     loaded.tc_reader_write_s16_.restype = _Taken
     loaded.tc_reader_write_s16_.argtypes = [place, ctypes.c_void_p, size, events, size]
@@ -491,6 +492,7 @@ class MtcWriter(_Object):
 
     def __init__(self) -> None:
         self._make()
+        self._call("start_", ctypes.byref(self._handle))
 
     def write(self, frame: Frame) -> bytes:
         """The bytes of the next frame: 18 where it begins a run, 8 where it goes on one, none where the time code is
@@ -512,6 +514,7 @@ class MtcReader(_Object):
 
     def __init__(self) -> None:
         self._make()
+        self._call("start_", ctypes.byref(self._handle))
 
     def write(self, data) -> list[MtcLabel]:
         """Takes all bytes, and gives the labels that they complete. Raises ValueError where these are no bytes."""

@@ -73,6 +73,12 @@ went_on old new n ticks samples is left h =
           ∙ ap (λ (k : ℕ). samples ++ replicate k (level_on old.up old.level)) left ∙ h.all;
     })
 
+-- where none was written it is as it was
+pub untouched : (old new : MadeSound) (made : ℕ) → made ≡ 0 → new ≡ record old { rest = new.rest }
+    → made + new.rest ≡ 0 + old.rest → new ≡ old
+untouched old new made none is left =
+    let e : new.rest ≡ old.rest = omega (arith, none, left) in is ∙ ap (λ (n : ℕ). record old { rest = n }) e
+
 -- and stand behind those that were written before
 pub further : (old new : MadeSound) (made next : ℕ) (ticks : List ℕ) (given now after : List ℤ) → made ≤ next
     → new ≡ record old { rest = new.rest } → next + new.rest ≡ made + old.rest

@@ -53,6 +53,7 @@ impl SoundMaker {
             → StandsFor self.new (front ++ take result.0 ticks.now) (given ++ take result.1 samples.new) }
         ensures rest { drop result.1 samples.new ≡ drop result.1 samples.old }
         ensures all { result.1 < length samples.old → (result.0 ≡ length ticks.now) × (self.new.rest ≡ 0) }
+        ensures few { length samples.old ≡ 0 → (result.0 ≡ 0) × (result.1 ≡ 0) × (self.new ≡ self.old) }
     {
         let mut at = 0;
         let mut made = self.go_on(samples, 0);

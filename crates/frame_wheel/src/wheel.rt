@@ -33,6 +33,7 @@ impl FrameWheel {
     /// One that has heard no word, and invents so many frames in a row at most.
     pub fn new(limit: u8) -> FrameWheel
         ensures limit { result.wheel.limit ≡ limit }
+        ensures tick { result.tick ≡ 0 }
         ensures stands { StandsFor result [] [] }
     {
         FrameWheel {

@@ -1,5 +1,5 @@
 //! The functions of a reader that C calls. Read next: `label`.
-ghost use Rattle.std.specs.Prelude.{◌≡◌, ◌+◌, ◌≤◌, [], length, take, drop, true, false};
+ghost use Rattle.std.specs.Prelude.{◌≡◌, ◌+◌, ◌≤◌, ◌<◌, [], length, take, drop, true, false};
 ghost use Rattle.std.specs.Align.{type_align};
 ghost use Rattle.std.specs.Mem.{type_size};
 ghost use Rattle.sound_reader.specs.declared.settings.SoundSettings.{SoundSettings};
@@ -77,6 +77,8 @@ pub extern "C" fn tc_reader_write_s16_(
     ensures rest { drop result.made events.new ≡ drop result.made events.old }
     ensures all { result.made + 2 ≤ length events.old → is_full handle.new.value ≡ false
         → (result.used ≡ length samples.now) × IsSettled handle.new.value }
+    ensures few { length events.old < 2 → (result.used ≡ 0) × (result.made ≡ 0)
+        × (handle.new.value ≡ handle.old.value) }
     ensures full { result.full ≡ is_full handle.new.value }
     ensures place { handle.new.at ≡ handle.old.at }
 {

@@ -68,6 +68,8 @@ pub extern "C" fn tc_maker_bits_(
     ensures room { result.done ≡ true → 2 * count ≤ length ticks.old }
     ensures rest { drop result.made ticks.new ≡ drop result.made ticks.old }
     ensures same { result.done ≡ false → (handle.new.value ≡ handle.old.value) × (result.made ≡ 0) }
+    ensures few { length ticks.old < 2 * count → (result.made ≡ 0) × (result.done ≡ false)
+        × (handle.new.value ≡ handle.old.value) }
     ensures place { handle.new.at ≡ handle.old.at }
 {
     if count > MAX_BITS {

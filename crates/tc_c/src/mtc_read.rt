@@ -18,6 +18,7 @@ pub(crate) fn read_mtc(reader: &mut MtcReader, bytes: &[u8], events: &mut [TcMtc
     ensures goes { MtcGoes reader.old reader.new (take result.used bytes.now) (take result.made events.new) }
     ensures rest { drop result.made events.new ≡ drop result.made events.old }
     ensures all { result.made < length events.old → result.full ≡ false → result.used ≡ length bytes.now }
+    ensures few { length events.old ≡ 0 → (result.used ≡ 0) × (result.made ≡ 0) × (reader.new ≡ reader.old) }
     ensures full { result.full ≡ is_full_of_bytes reader.new }
 {
     let before = reader.bytes();
@@ -52,6 +53,7 @@ fn read_on(reader: &mut MtcReader, bytes: &[u8], events: &mut [TcMtcEvent]) -> (
     ensures goes { MtcGoes reader.old reader.new (take result.0 bytes.now) (take result.1 events.new) }
     ensures rest { drop result.1 events.new ≡ drop result.1 events.old }
     ensures all { result.1 < length events.old → result.0 ≡ length bytes.now }
+    ensures few { length events.old ≡ 0 → (result.0 ≡ 0) × (result.1 ≡ 0) × (reader.new ≡ reader.old) }
 {
     let mut at = 0;
     let mut made = 0;

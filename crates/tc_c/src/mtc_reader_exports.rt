@@ -52,6 +52,8 @@ pub extern "C" fn tc_mtc_reader_read_(
         (take result.made events.new) }
     ensures rest { drop result.made events.new ≡ drop result.made events.old }
     ensures all { result.made < length events.old → result.full ≡ false → result.used ≡ length bytes.now }
+    ensures few { length events.old ≡ 0 → (result.used ≡ 0) × (result.made ≡ 0)
+        × (handle.new.value ≡ handle.old.value) }
     ensures full { result.full ≡ is_full_of_bytes handle.new.value }
     ensures place { handle.new.at ≡ handle.old.at }
 {

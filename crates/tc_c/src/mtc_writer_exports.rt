@@ -57,6 +57,8 @@ pub extern "C" fn tc_mtc_writer_write_(
     ensures made { result.made ≤ 18 }
     ensures rest { drop result.made bytes.new ≡ drop result.made bytes.old }
     ensures same { result.done ≡ false → (handle.new.value ≡ handle.old.value) × (result.made ≡ 0) }
+    ensures few { length bytes.old < 18 → (result.made ≡ 0) × (result.done ≡ false)
+        × (handle.new.value ≡ handle.old.value) }
     ensures place { handle.new.at ≡ handle.old.at }
 {
     let Some(frame) = frame.meaning() else {

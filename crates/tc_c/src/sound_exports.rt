@@ -67,6 +67,8 @@ pub extern "C" fn tc_sound_write_(
     ensures rest { drop result.made samples.new ≡ drop result.made samples.old }
     ensures all { result.made < length samples.old
         → (result.used ≡ length ticks.now) × (handle.new.value.rest ≡ 0) }
+    ensures few { length samples.old ≡ 0 → (result.used ≡ 0) × (result.made ≡ 0)
+        × (handle.new.value ≡ handle.old.value) }
     ensures place { handle.new.at ≡ handle.old.at }
 {
     let (used, made) = handle.maker().sound.write(ticks, samples);

@@ -67,6 +67,8 @@ pub extern "C" fn tc_tape_write_(
     ensures rest { drop result.made events.new ≡ drop result.made events.old }
     ensures all { result.made + 3 ≤ length events.old → result.full ≡ false → result.refused ≡ false
         → result.used ≡ length intervals.now }
+    ensures few { length events.old < 3 → (result.used ≡ 0) × (result.made ≡ 0)
+        × (handle.new.value ≡ handle.old.value) }
     ensures full { result.full ≡ is_full handle.new.value }
     ensures refused { result.refused ≡ begins_with_none (drop result.used intervals.now) }
     ensures place { handle.new.at ≡ handle.old.at }

@@ -37,6 +37,7 @@ pub(crate) fn write_tape(
     ensures rest { drop result.made events.new ≡ drop result.made events.old }
     ensures all { result.made + 3 ≤ length events.old → result.full ≡ false → result.refused ≡ false
         → result.used ≡ length intervals.now }
+    ensures few { length events.old < 3 → (result.used ≡ 0) × (result.made ≡ 0) × (tape.new ≡ tape.old) }
     ensures full { result.full ≡ is_full tape.new }
     ensures refused { result.refused ≡ begins_with_none (drop result.used intervals.now) }
 {

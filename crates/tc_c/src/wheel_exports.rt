@@ -36,6 +36,7 @@ pub extern "C" fn tc_wheel_boundary() -> usize
 #[unsafe(no_mangle)]
 pub extern "C" fn tc_wheel_start_(handle: &mut TcWheel, limit: u32) -> bool
     ensures limit { result ≡ true → handle.new.value.wheel.limit ≡ limit }
+    ensures tick { result ≡ true → handle.new.value.tick ≡ 0 }
     ensures stands { result ≡ true → StandsFor handle.new.value [] [] }
     ensures only { (result ≡ true) ↔ (limit ≤ 255) }
     ensures refused { result ≡ false → handle.new.value ≡ handle.old.value }
@@ -59,7 +60,10 @@ pub extern "C" fn tc_wheel_pass_(handle: &mut TcWheel, tick: u64, frames: &mut [
     ensures same { result.refused ≡ true → (handle.new.value ≡ handle.old.value) × (result.made ≡ 0)
         × (result.done ≡ false) }
     ensures all { result.refused ≡ false → result.made < length frames.old → result.done ≡ true }
+    ensures few { length frames.old ≡ 0 → (result.made ≡ 0) × (result.done ≡ false)
+        × (handle.new.value ≡ handle.old.value) }
     ensures tick { result.done ≡ true → handle.new.value.tick ≡ tick }
+    ensures told { result.refused ≡ false → 1 ≤ length frames.old → handle.new.value.tick ≡ tick }
     ensures place { handle.new.at ≡ handle.old.at }
 {
     let kept = handle.wheel();
@@ -92,7 +96,10 @@ pub extern "C" fn tc_wheel_hear_(
     ensures same { result.refused ≡ true → (handle.new.value ≡ handle.old.value) × (result.made ≡ 0)
         × (result.done ≡ false) }
     ensures all { result.refused ≡ false → result.made < length frames.old → result.done ≡ true }
+    ensures few { length frames.old ≡ 0 → (result.made ≡ 0) × (result.done ≡ false)
+        × (handle.new.value ≡ handle.old.value) }
     ensures tick { result.done ≡ true → handle.new.value.tick ≡ word.now.tick }
+    ensures told { result.refused ≡ false → 1 ≤ length frames.old → handle.new.value.tick ≡ word.now.tick }
     ensures place { handle.new.at ≡ handle.old.at }
 {
     let Some(word) = word.meaning() else {

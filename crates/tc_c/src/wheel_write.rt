@@ -18,7 +18,9 @@ pub(crate) fn pass(wheel: &mut FrameWheel, tick: u64, frames: &mut [TcFrame]) ->
     ensures goes { WheelGoes wheel.old wheel.new [] result.done (take result.made frames.new) }
     ensures rest { drop result.made frames.new ≡ drop result.made frames.old }
     ensures all { result.made < length frames.old → result.done ≡ true }
+    ensures few { length frames.old ≡ 0 → (result.made ≡ 0) × (result.done ≡ false) × (wheel.new ≡ wheel.old) }
     ensures tick { result.done ≡ true → wheel.new.tick ≡ tick }
+    ensures told { 1 ≤ length frames.old → wheel.new.tick ≡ tick }
     ensures idle { result.done ≡ true → has_frame_due wheel.new.wheel tick ≡ false }
     ensures taken { result.refused ≡ false }
 {
@@ -56,7 +58,9 @@ pub(crate) fn hear(wheel: &mut FrameWheel, word: &HeardWord, frames: &mut [TcFra
     ensures before { result.done ≡ false → WheelGoes wheel.old wheel.new [] false (take result.made frames.new) }
     ensures rest { drop result.made frames.new ≡ drop result.made frames.old }
     ensures all { result.made < length frames.old → result.done ≡ true }
+    ensures few { length frames.old ≡ 0 → (result.made ≡ 0) × (result.done ≡ false) × (wheel.new ≡ wheel.old) }
     ensures tick { result.done ≡ true → wheel.new.tick ≡ word.now.tick }
+    ensures told { 1 ≤ length frames.old → wheel.new.tick ≡ word.now.tick }
     ensures taken { result.refused ≡ false }
 {
     let passed = pass(wheel, word.tick, frames);

@@ -30,6 +30,7 @@ pub(crate) fn write(reader: &mut SoundReader, samples: &[i16], events: &mut [TcE
     ensures rest { drop result.made events.new ≡ drop result.made events.old }
     ensures all { result.made + 2 ≤ length events.old → is_full reader.new ≡ false
         → (result.used ≡ length samples.now) × IsSettled reader.new }
+    ensures few { length events.old < 2 → (result.used ≡ 0) × (result.made ≡ 0) × (reader.new ≡ reader.old) }
     ensures full { result.full ≡ is_full reader.new }
 {
     let mut at = 0;

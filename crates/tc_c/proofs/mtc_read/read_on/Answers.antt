@@ -12,6 +12,7 @@ reading-init c = record {
   made = omega arith;
   count = omega arith;
   goes = goes_nowhere HasTold c_mtc_event c.args.reader.now;
+  few = λ none. (refl, refl, refl);
   rest = refl;
 }
 
@@ -27,6 +28,7 @@ reading-preserved c =
           (take c.put_mtc-made.result c.put_mtc-made.new.events) (events_of event) c.reading.invariant.goes
           (told_on c.reading.reader c.take-count.new.self _ (events_of event) c.take-count.ensures.stands
           c.take-count.ensures.gives) c.put_mtc-made.ensures.writes;
+      few = λ none. absurd (omega (arith, none, c.reading-test.true, c.reading.auto.events));
       rest = rest_on c.reading.made (length (events_of event)) c.put_mtc-made.result c.args.events.now
           c.reading.events c.put_mtc-made.new.events c.put_mtc-made.ensures.count c.reading.invariant.rest
           c.put_mtc-made.ensures.rest;

@@ -8,6 +8,7 @@ invariant-reading l = record {
   made : l.made ≤ length l.events;
   count : l.reader.bytes ≡ l.fn.reader.bytes + l.at;
   goes : MtcGoes l.fn.reader l.reader (take l.at l.bytes) (take l.made l.events);
+  few : length l.fn.events ≡ 0 → (l.at ≡ 0) × (l.made ≡ 0) × (l.reader ≡ l.fn.reader);
   rest : drop l.made l.events ≡ drop l.made l.fn.events;
 }
 

@@ -13,6 +13,7 @@ writing-init c = record {
   made = omega arith;
   settings = refl;
   goes = goes_nowhere StandsFor c_told c.args.tape.now;
+  few = λ lt. (refl, refl, refl);
   rest = refl;
 }
 
@@ -27,6 +28,7 @@ writing-preserved c =
           c.read-count.result.0 c.args.intervals.now (take c.writing.made c.writing.events)
           (take c.put_all-last.result c.put_all-last.new.events) (firm_list told) c.writing.invariant.goes
           c.read-count.ensures.brings c.put_all-last.ensures.writes;
+      few = λ lt. absurd (omega (arith, lt, c.writing-test.true, c.writing.auto.events));
       rest = rest_on c.writing.made (length (firm_list told)) c.put_all-last.result c.args.events.now
           c.writing.events c.put_all-last.new.events c.put_all-last.ensures.count c.writing.invariant.rest
           c.put_all-last.ensures.rest;

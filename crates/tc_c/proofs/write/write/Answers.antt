@@ -13,6 +13,7 @@ writing-init c = record {
   made = omega arith;
   settings = refl;
   goes = goes_nowhere StandsFor c_event c.args.reader.now;
+  few = λ lt. (refl, refl, refl);
   rest = refl;
 }
 
@@ -31,6 +32,7 @@ writing-preserved c =
           (written_on StandsFor c_event (take c.writing.made c.writing.events)
           (take c.put-first.result c.put-first.new.events) (take c.put-second.result c.put-second.new.events)
           (listed brought.first) (listed brought.second) c.put-first.ensures.writes c.put-second.ensures.writes);
+      few = λ lt. absurd (omega (arith, lt, c.writing-test.true, c.writing.auto.events));
       rest = rest_on c.put-first.result (length (listed brought.second)) c.put-second.result c.args.events.now
           c.put-first.new.events c.put-second.new.events c.put-second.ensures.count
           (rest_on c.writing.made (length (listed brought.first)) c.put-first.result c.args.events.now

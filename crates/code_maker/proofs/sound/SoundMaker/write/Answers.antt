@@ -1,6 +1,6 @@
 use Rattle.std.proofs.Common.{[], ◌+◌, ◌-◌, ◌++◌, ◌∙◌, refl, ap, append-nil, take, arith}
 use Rattle.code_maker.specs.Sound.{MadeSound}
-use Rattle.code_maker.proofs.SamplesOn.{begun_at, from_nothing, further, rest_on}
+use Rattle.code_maker.proofs.SamplesOn.{begun_at, from_nothing, further, rest_on, untouched}
 use Rattle.code_maker.proofs.sound.SoundMaker.write.Goals as goal
 
 -- what was still to be written is written
@@ -12,6 +12,11 @@ writing-init c =
       at = omega arith;
       made = omega (arith, c.go_on-made.ensures.most, c.go_on-made.auto.samples);
       level = ap (λ (s : MadeSound). s.level) c.go_on-made.ensures.new;
+      few = λ none. (
+        refl,
+        untouched c.args.self.now new made (omega (arith, none, c.go_on-made.ensures.most))
+            c.go_on-made.ensures.new c.go_on-made.ensures.left,
+      );
       done = λ lt. c.go_on-made.ensures.done (omega (arith, lt, c.go_on-made.auto.samples));
       goes = λ front given h. from_nothing new front c.args.ticks.now (given ++ take made c.go_on-made.new.samples)
           (further c.args.self.now new 0 made front given [] (take made c.go_on-made.new.samples) (omega arith)
@@ -33,6 +38,7 @@ writing-preserved c =
       made = omega (arith, c.go_on-made-in-writing.ensures.most, c.go_on-made-in-writing.auto.samples);
       level = ap (λ (s : MadeSound). s.level) c.go_on-made-in-writing.ensures.new
           ∙ ap (λ (s : MadeSound). s.level) c.begin.ensures ∙ c.writing.invariant.level;
+      few = λ none. absurd (omega (arith, none, c.if-made-samples.true, c.writing.auto.samples));
       done = λ lt.
           c.go_on-made-in-writing.ensures.done (omega (arith, lt, c.go_on-made-in-writing.auto.samples));
       goes = λ front given h.
