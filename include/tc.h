@@ -1,5 +1,5 @@
-/* tc.h: linear time code, read from samples or from the intervals of a tape, its words, frames and labels, by proved
- * code, as functions for C11 and C++17.
+/* tc.h: linear time code, read from samples or from the intervals of a tape, its words, frames and labels, and lines of
+ * vertical interval time code, by proved code, as functions for C11 and C++17.
  *
  * No function here allocates, keeps global state, waits, prints or ends the process. What an object keeps, a reader or
  * a flywheel, lies in the caller's memory, and its size is fixed: memcpy takes a copy that goes on from the same place,
@@ -215,6 +215,29 @@ bool tc_word_bits(const tc_word *word, tc_bits *bits);
  * tc_event; and TC_NO_BITS where there is no such system, or a bit above 79 is set. */
 enum { TC_NO_SYNC = 10, TC_NO_BITS = 11 };
 uint32_t tc_bits_word(uint32_t system, const tc_bits *bits, tc_word *word);
+
+/* ---- vertical interval time code: the runs of a line of picture, and its word */
+
+/* Why a line says no word, beside the faults of its fields: a run is more than a quarter of a cell from each whole
+ * number of cells, or the line has more than 90 cells with it; a sync pair is not 1 and 0; or the check fails. */
+enum { TC_LINE_RUN = 13, TC_LINE_TOO_LONG = 14, TC_LINE_SYNC_PAIR = 15, TC_LINE_CHECK = 16 };
+enum { TC_FIELD_MARK = 32 };
+typedef struct tc_line {
+    size_t place;   /* of a fault: the run, or the sync pair, from 0; or the residue of the check, 0 to 7 */
+    uint32_t fault; /* 0 where the line says a word, or else its first fault: one of these, in this order, and behind
+                       them one of the fields, 1 to 9, as in tc_event */
+    tc_word word;   /* the word; among its flags TC_FIELD_MARK, the field mark, has the place of TC_BALANCED */
+} tc_line;          /* what says nothing of a line is 0 */
+
+/* Reads a line of `length` ticks, of a picture of 25 or 30 frames, from its runs in ticks: high and low by turns, the
+ * first the high one of bit 0, the last the last high one. A cell lasts 1/115 of the line. False where there is no such
+ * system, the length is not 460 to 65535, or the count is even or above 89, and then nothing changes. */
+bool tc_line_read(uint32_t system, uint32_t length, const uint16_t *runs, size_t count, tc_line *line);
+
+/* Writes the runs of the line of `length` ticks that says the word, and gives how many these are, 89 at most: they are
+ * read as the word. Cell i begins at tick i times the length by 115, rounded down. 0 where the numbers are none of a
+ * word at 25 or 30 frames, the length is not 460 to 65535, or the room is below 89, and then nothing changes. */
+size_t tc_line_runs(const tc_word *word, uint32_t length, uint16_t *runs, size_t room);
 
 /* ---- a flywheel: words and time in, frames out. Where no word comes, it invents frames at the pace and in the
  * direction of the last one, up to a limit */

@@ -1,4 +1,5 @@
-"""Linear time code, read from samples or from intervals of a tape by proved code: the functions of tc.h, over ctypes.
+"""Linear time code, read from samples or from intervals of a tape, and lines of vertical interval time code, by proved
+code: the functions of tc.h, over ctypes.
 
     import tc
 
@@ -12,7 +13,8 @@ Intervals are 32 bits wide, in the same forms or as whole numbers; a tick is the
 A `Reader` takes samples, a `Tape` intervals, and both give words, refused words and breaks. A `Wheel` takes words and
 the time, and gives frames: those that were heard, and invented ones where none was. An `MtcWriter` makes MIDI Time Code
 of frames, and an `MtcReader` reads its bytes. `bits` gives the 80 bits of a word; a `Maker` makes intervals of bits,
-and a `Sound` samples of intervals.
+and a `Sound` samples of intervals. `line` reads a line of vertical interval time code from its runs, and `line_runs`
+makes these of a word.
 
 The library is what TC_LIBRARY names in the environment, else lib/libtc.so.1 beside this file's folder, else the
 loader's libtc.so.1. It needs nothing but Python.
@@ -50,7 +52,9 @@ class Follows(enum.IntEnum):
 
 
 class Fault(enum.IntEnum):
-    """Why a word is refused: the first of its fields that no label has, or that it has no witness."""
+    """Why a word is refused: the first of its fields that no label has, or that it has no witness. A line has others
+    before those of its fields: a run that is no whole number of cells, or too many cells; a sync pair; or the check.
+    """
 
     FRAME_UNITS = 1
     FRAMES = 2
@@ -62,6 +66,10 @@ class Fault(enum.IntEnum):
     HOURS = 8
     DROPPED_LABEL = 9
     ALONE = 12
+    RUN = 13
+    TOO_LONG = 14
+    SYNC_PAIR = 15
+    CHECK = 16
 
 
 @dataclass(frozen=True)
@@ -168,6 +176,29 @@ class MtcLabel(NamedTuple):
     """That of the byte that completes it, from 0 over all bytes."""
 
 
+class LineWord(NamedTuple):
+    """What a line of vertical interval time code says."""
+
+    label: str
+    """The frame address, with a semicolon where drop-frame counting is told."""
+    user: int
+    """The user bits, group 1 as the least significant."""
+    flags: int
+    """Bit 0 is the drop-frame flag; then colour framing, and the three binary group flags."""
+    mark: bool
+    """The field mark: not set in the first field of a frame, set in the second."""
+    count: str
+    """Its count: 25, 30 or 30d."""
+
+
+class RefusedLine(NamedTuple):
+    """A line that says no word."""
+
+    fault: Fault
+    place: int
+    """That of the run or of the sync pair, from 0, or the residue of the check; 0 of a fault of the fields."""
+
+
 class Full(Exception):
     """A reader was given as many samples, or intervals, as it takes."""
 
@@ -254,6 +285,17 @@ class _Word(ctypes.Structure):
     _fields_ = [("label", _Label), ("flags", ctypes.c_uint32), ("user", ctypes.c_uint32)]
 
 
+class _Line(ctypes.Structure):
+    _fields_ = [("place", ctypes.c_size_t), ("fault", ctypes.c_uint32), ("word", _Word)]
+
+    def seen(self) -> LineWord | RefusedLine:
+        if self.fault:
+            return RefusedLine(Fault(self.fault), self.place)
+        label, flags = self.word.label, self.word.flags
+        text = _text(label.count, label.hours, label.minutes, label.seconds, label.frames)
+        return LineWord(text, self.word.user, flags & 31, bool(flags >> 5), COUNTS[label.count])
+
+
 class _Bits(ctypes.Structure):
     _fields_ = [("low", ctypes.c_uint64), ("high", ctypes.c_uint64)]
 
@@ -315,6 +357,10 @@ def _describe(loaded: ctypes.CDLL) -> None:
     numbers, ticks = ctypes.c_uint32, ctypes.POINTER(ctypes.c_uint32)
     loaded.tc_word_bits.restype = ctypes.c_bool
     loaded.tc_word_bits.argtypes = [ctypes.POINTER(_Word), ctypes.POINTER(_Bits)]
+    loaded.tc_line_runs.restype = size
+    loaded.tc_line_runs.argtypes = [ctypes.POINTER(_Word), numbers, ctypes.POINTER(ctypes.c_uint16), size]
+    loaded.tc_line_read.restype = ctypes.c_bool
+    loaded.tc_line_read.argtypes = [numbers, numbers, ctypes.c_void_p, size, ctypes.POINTER(_Line)]
     loaded.tc_maker_start_.argtypes = [place, numbers, numbers, numbers]
     loaded.tc_maker_bits_.restype = _Given
     loaded.tc_maker_bits_.argtypes = [place, ctypes.POINTER(_Bits), numbers, ticks, size]
@@ -581,6 +627,34 @@ def bits(label: str, count: str, user: int = 0, flags: int = 0) -> int:
     if not 0 <= flags < 32 or not library().tc_word_bits(ctypes.byref(told), ctypes.byref(found)):
         raise ValueError(f"no word: {label} of {count}, user {user}, flags {flags}")
     return found.low + (found.high << 64)
+
+
+def line(system: int, length: int, runs: Iterable[int]) -> LineWord | RefusedLine:
+    """What a line of vertical interval time code says, of a picture of 25 or 30 frames, or its first fault. The line
+    lasts `length` ticks, 460 to 65,535, and a cell 1/115 of it. Its runs are in ticks, 0 to 65,535: high and low by
+    turns, from the high one of bit 0 to the last high one. Raises ValueError where there are no such lines, or where
+    there is an even number of runs, or more than 89.
+    """
+    listed, told = list(runs), (system, length)
+    if not all(isinstance(run, int) and 0 <= run < 1 << 16 for run in listed):
+        raise ValueError(f"no runs: {listed}")
+    held, found = array.array("H", [*listed, 0]), _Line()
+    place = ctypes.c_void_p(held.buffer_info()[0])
+    if not library().tc_line_read(*_numbers(told, told), place, len(listed), ctypes.byref(found)):
+        raise ValueError(f"no line of {length} ticks and {len(listed)} runs at {system} frames")
+    return found.seen()
+
+
+def line_runs(label: str, count: str, length: int, user: int = 0, flags: int = 0, mark: bool = False) -> list[int]:
+    """The runs, in ticks, of the line of `length` ticks that says a word: its label, its count, 25, 30 or 30d, its user
+    bits, its flags as `LineWord.flags` has them, and its field mark. Raises ValueError where there is no such line.
+    """
+    told = _Word(_label_of(count, label), flags | 32 * mark | (count == "30d"), *_numbers([user], user))
+    runs = (ctypes.c_uint16 * 89)()
+    made = library().tc_line_runs(ctypes.byref(told), *_numbers([length], length), runs, 89) if 0 <= flags < 32 else 0
+    if not made:
+        raise ValueError(f"no line of {length} ticks: {label} of {count}, user {user}, flags {flags}")
+    return list(runs[:made])
 
 
 def _label_of(count: str, label: str) -> _Label:

@@ -2,6 +2,9 @@
 
 import array
 import os
+import random
+import struct
+import subprocess
 import sys
 import threading
 import unittest
@@ -186,6 +189,101 @@ class Midi(unittest.TestCase):
             self.assertEqual(tc.MtcReader().write(data), [tc.MtcLabel(True, "", False, fault, 9)])
         with self.assertRaises(ValueError):
             tc.MtcReader().write(array.array("h", [1]))
+
+
+@unittest.skipUnless(os.path.exists(TC), "bin/tc is not built")
+class Lines(unittest.TestCase):
+    LENGTH = 1_000
+
+    @classmethod
+    def setUpClass(cls):
+        words = ["vitc-make", "30d", "09:59:59;28", "4", str(cls.LENGTH)]
+        cls.header, cls.lines = lines_in(subprocess.run([TC, *words], stdout=subprocess.PIPE, check=True).stdout)
+
+    def said(self, lines):
+        """What vitc-read says of lines, each of a field of its own."""
+        fields = b"".join(struct.pack(f">BB{len(runs)}H", 1, len(runs), *runs) for runs in lines)
+        read = subprocess.run([TC, "vitc-read"], input=self.header + fields, stdout=subprocess.PIPE, check=True).stdout
+        return [text.split(" ", 2)[2] for text in read.decode().splitlines()[:-1]]
+
+    def test_lines_say_their_words(self):
+        words = [tc.line(30, self.LENGTH, runs) for runs in self.lines]
+        labels = ["09:59:59;28", "09:59:59;29", "10:00:00;00", "10:00:00;01"]
+        self.assertEqual([word.label for word in words], [label for label in labels for _ in range(4)])
+        self.assertEqual([word.mark for word in words], [False, False, True, True] * 4)
+        self.assertEqual({(word.count, word.flags, word.user) for word in words}, {("30d", 1, 0)})
+        self.assertEqual([told_of(word) for word in words], self.said(self.lines))
+
+    def test_damaged_lines_have_the_faults_of_the_program(self):
+        chance, damaged = random.Random(7), []
+        for runs in self.lines * 40:
+            runs, at = list(runs), chance.randrange(len(runs))
+            runs[at] = max(1, runs[at] + chance.choice((-20, -9, -3, -2, 2, 3, 9, 18, 40, 900)))
+            if at + 1 < len(runs) and chance.random() < 0.6:
+                runs[at + 1] = max(1, sum(self.lines[0][at : at + 2]) - runs[at])
+            damaged.append(runs[: chance.choice((len(runs), len(runs), 1, 7))])
+        told = [told_of(tc.line(30, self.LENGTH, runs)) for runs in damaged]
+        self.assertEqual(told, self.said(damaged))
+        kinds = {text.removeprefix("nothing ").split(" ")[0] for text in told}
+        self.assertGreaterEqual(kinds, {"word", "run", "too-long", "sync-pair", "check"})
+
+    def test_what_is_made_is_read(self):
+        for label, mark, runs in zip(["09:59:59;28", "10:00:00;01"], [False, True], [self.lines[0], self.lines[-1]]):
+            self.assertEqual(tc.line_runs(label, "30d", self.LENGTH, mark=mark), list(runs))
+        for count, system, label in (("25", 25, "23:59:59:24"), ("30", 30, "19:47:58:29"), ("30d", 30, "19:47:58;23")):
+            for user, flags, mark in ((0xFCE0BA6D, 0b11110, False), (0, 0b01010, True), (0xFFFFFFFF, 0, True)):
+                word = tc.LineWord(label, user, flags | (count == "30d"), mark, count)
+                for length in (460, 1_716, 65_535):
+                    runs = tc.line_runs(label, count, length, user, flags, mark)
+                    self.assertEqual(tc.line(system, length, runs), word)
+        for label, count, length, user, flags in (
+            ("10:00:00:00", "24", 1_000, 0, 0),
+            ("10:00:00:25", "25", 1_000, 0, 0),
+            ("10:00:00:00", "25", 459, 0, 0),
+            ("10:00:00:00", "25", 65_536, 0, 0),
+            ("10:00:00:00", "25", 1_000, 1 << 32, 0),
+            ("10:00:00:00", "30", 1_000, 0, 1),
+            ("10:00:00:00", "25", 1_000, 0, 32),
+        ):
+            with self.assertRaises(ValueError):
+                tc.line_runs(label, count, length, user, flags)
+
+    def test_what_is_no_line_is_refused(self):
+        runs = self.lines[0]
+        for system, length in ((30, 460), (25, 65_535)):
+            tc.line(system, length, runs)
+        for system, length, wrong in (
+            (24, 1_000, runs),
+            (30, 459, runs),
+            (30, 65_536, runs),
+            (30, 1_000, runs[:-1]),
+            (30, 1_000, []),
+            (30, 1_000, [9] * 91),
+            (30, 1_000, [65_536]),
+            (-1, 1_000, runs),
+        ):
+            with self.assertRaises(ValueError):
+                tc.line(system, length, wrong)
+
+
+def lines_in(data):
+    """The header of a line file, and the runs of its lines."""
+    lines, at = [], 12
+    while at < len(data):
+        count, at = data[at], at + 1
+        for _ in range(count):
+            lines.append(struct.unpack_from(f">{data[at]}H", data, at + 1))
+            at += 1 + 2 * data[at]
+    return data[:12], lines
+
+
+def told_of(line):
+    """The words of vitc-read for what a line says."""
+    if isinstance(line, tc.LineWord):
+        flags = "".join(str(line.flags >> place & 1) for place in range(5))
+        return f"word {line.label} user {line.user:08x} flags {flags} mark {int(line.mark)}"
+    name = line.fault.name.lower().replace("_", "-")
+    return f"nothing {name}" + (f" {line.place}" if line.fault >= tc.Fault.RUN else "")
 
 
 @unittest.skipUnless(os.path.exists(TC), "bin/tc is not built")

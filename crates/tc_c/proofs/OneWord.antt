@@ -6,10 +6,12 @@ use Rattle.tc_address.specs.declared.system.System.{System}
 use Rattle.tc_address.specs.declared.count.Count.TheVariants.{C24, C25, C30, Drop30}
 use Rattle.tc_address.specs.Label.{Address, address}
 use Rattle.tc_bits.specs.declared.flags.Flags.{Flags}
-use Rattle.tc_bits.specs.Fields.{FieldValues, agrees, field_values}
+use Rattle.tc_bits.specs.Fields.{FieldValues, IsFields, agrees, field_values}
 use Rattle.ltc_word.specs.declared.word.LtcWord.{LtcWord}
+use Rattle.vitc_line.specs.declared.word.VitcWord.{VitcWord}
 use Rattle.tc_c.specs.CEvent.{count_number}
 use Rattle.tc_c.specs.CLabel.{MeansLabel}
+use Rattle.tc_c.specs.CLine.{c_line_word, MeansLineWord}
 use Rattle.tc_c.specs.CWord.{MeansWord, flags_in}
 use Rattle.tc_c.specs.declared.label.TcLabel.{TcLabel}
 use Rattle.tc_c.specs.declared.word.TcWord.{TcWord}
@@ -78,3 +80,20 @@ system_in other (Some system) = system
 
 pub same_system : (a b : System) → Some a ≡ Some b → a ≡ b
 same_system a b e = ap (system_in a) e
+
+-- a word of a line as one of 80 bits, whose balance is the field mark
+abbrev pub as_ltc : VitcWord → LtcWord
+as_ltc word = word_with word.fields word.field_mark
+
+-- and back
+abbrev pub as_vitc : LtcWord → VitcWord
+as_vitc word = record { fields = word.fields; field_mark = word.balanced }
+
+-- the numbers mean both alike
+pub means_as_ltc : (numbers : TcWord) (word : VitcWord) → MeansLineWord numbers word → MeansWord numbers (as_ltc word)
+means_as_ltc numbers word means =
+    record { fields = means.fields; label = means.label; flags = means.flags; user = means.user }
+
+pub one_line_word : (numbers : TcWord) (a b : VitcWord) → MeansLineWord numbers a → MeansLineWord numbers b → a ≡ b
+one_line_word numbers a b p q =
+    ap as_vitc (one_word numbers (as_ltc a) (as_ltc b) (means_as_ltc numbers a p) (means_as_ltc numbers b q))

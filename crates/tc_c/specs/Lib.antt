@@ -1,6 +1,7 @@
 pub mod CEvent
 pub mod CFrame
 pub mod CLabel
+pub mod CLine
 pub mod CMtc
 pub mod CSettings
 pub mod CWord

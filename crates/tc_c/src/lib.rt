@@ -1,4 +1,4 @@
-//! Readers, a flywheel and MIDI Time Code as functions for C, and words, their bits and labels.
+//! Readers, a flywheel and MIDI Time Code as functions for C, and words, their bits, lines and labels.
 //!
 //! A program in C gives memory for an object, settings in numbers and samples, intervals, words or bytes, and
 //! gets events or frames in numbers. All that an object keeps lies in the caller's memory, at one place and of one
@@ -28,6 +28,9 @@
 //!   (`laws`).
 //! - `tc_word_bits` gives the bits that spell the word which the numbers mean (`specs/CWord.antt`,
 //!   `MeansWord`), and `tc_bits_word` the word that bits spell, or the number of their first fault.
+//! - `tc_line_read` gives what a line of vertical interval time code says, of its runs: its word, or its first fault
+//!   (`specs/CLine.antt`, `c_line`). `tc_line_runs` writes the runs of the line of a word, for exactly the numbers
+//!   that mean one (`MeansLineWord`), and they are read as that word (`laws`).
 //! - `tc_label_number`, `tc_label_at` and `tc_label_advance` are the numbers, labels and steps of a day, for
 //!   exactly the numbers that mean a label (`specs/CLabel.antt`, `MeansLabel`).
 //!
@@ -37,9 +40,9 @@
 //! Read `event`, `settings`, `kept`, `write`, `handle`, `opening` and `exports`, in this order; of a tape `told`,
 //! `tape_settings` and the other files of its name, of a flywheel `heard`, `frame`, `given` and the files of its
 //! name, and of MIDI Time Code `mtc_event` and the files of its name; then the files of a maker and of a sound,
-//! and `label`, `label_exports`, `word` and `word_exports`, and the files of specs/ beside them. `sound_reader`,
-//! `tape_reader`, `frame_wheel`, `quarter_frame`, `mtc_reader`, `code_maker`, `ltc_word` and `tc_address` are
-//! what is called.
+//! and `label`, `label_exports`, `word`, `word_exports`, `line`, `line_runs` and `line_exports`, and the files of
+//! specs/ beside them. `sound_reader`, `tape_reader`, `frame_wheel`, `quarter_frame`, `mtc_reader`, `code_maker`,
+//! `ltc_word`, `vitc_reader` and `tc_address` are what is called.
 #![tactic(auto)]
 
 mod event;
@@ -52,6 +55,9 @@ mod kept;
 mod label;
 mod label_exports;
 pub mod laws;
+mod line;
+mod line_exports;
+mod line_runs;
 mod maker_exports;
 mod maker_handle;
 mod maker_kept;
@@ -96,6 +102,7 @@ pub use handle::TcReader;
 pub use heard::TcHeard;
 pub use kept::KeptReader;
 pub use label::TcLabel;
+pub use line::TcLine;
 pub use maker_handle::TcMaker;
 pub use maker_kept::KeptMaker;
 pub use mtc_event::TcMtcEvent;

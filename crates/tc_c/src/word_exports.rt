@@ -1,4 +1,4 @@
-//! The functions of words that C calls. Read next: `laws`.
+//! The functions of words that C calls. Read next: `line`.
 ghost use Rattle.std.specs.Prelude.{◌≡◌, ◌^◌, ◌<◌, ◌≤◌, Some, true, false};
 ghost use Rattle.tc_address.specs.declared.system.System.{System};
 ghost use Rattle.tc_address.specs.Count.{system_with};
