@@ -4,6 +4,7 @@ use crate::frames::{Frame, frames, jam, lines, midi, spans};
 use crate::intervals::{File, MOST_RATE, convert, read};
 use crate::labels::{Count, Label, Way};
 use crate::lines::{Base, Printed, along_text};
+use crate::luma::{self, Raster};
 use crate::made::{Striping, load, stripe};
 use crate::run::{End, Run};
 use crate::sound::{Slicing, Threshold, make, slice, slice_track};
@@ -114,6 +115,7 @@ pub fn run(words: &[String], input: &[u8]) -> Run {
         "mtc-read" => Words::of(words, 0, 0).map(|_| mtc::read(input)),
         "vitc-read" => Words::of(words, 0, 0).map(|_| vitc::read(input)),
         "vitc-make" => line_file(words),
+        "luma-vitc" => pixels(words, input),
         "chase" => script(words, input),
         "number" => numbered(words),
         "label" => labelled(words),
@@ -315,6 +317,15 @@ fn line_file(words: &[String]) -> Read<Run> {
     let label = w.label(count)?;
     let (frames, length) = (w.number(1, 1_000_000)?, w.number(460, 65_535)?);
     Ok(Run { output: vitc::make(&label, frames, length), end: End::Done })
+}
+
+fn pixels(words: &[String], input: &[u8]) -> Read<Run> {
+    let mut w = Words::of(words, 5, 5)?;
+    let system = w.value(|word| ["25", "30"].contains(&word).then(|| word.parse().expect("it is a number")))?;
+    let (width, height) = (w.number(360, 4_096)? as usize, w.number(1, 4_096)? as usize);
+    let first = w.number(0, height as u64 - 1)? as usize;
+    let rows = w.number(1, 40.min(height - first) as u64)? as usize;
+    Ok(luma::read(&Raster { system, width, height, first, rows }, input))
 }
 
 fn script(words: &[String], input: &[u8]) -> Read<Run> {
