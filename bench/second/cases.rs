@@ -1,10 +1,10 @@
 //! Cases: the words of a run and its input, made from a number.
-use crate::drawn;
 use crate::draws::Draws;
 use crate::frames::{played, word_bits};
 use crate::intervals::{MOST_TICKS, header, spell};
 use crate::labels::{COUNTS, Count, Label, Way};
 use crate::noisy;
+use crate::pictures;
 use crate::vitc::{file_header, line_bits, runs_of, spell_line};
 
 pub struct Case {
@@ -21,13 +21,11 @@ const COMMANDS: [&str; 19] = [
 pub fn case(seed: u64, number: u64) -> Case {
     let d = &mut Draws::of(seed, number);
     // (by its number, so that each other case is the one that its seed and number were before)
-    if number % 20 == 9 {
-        let mut case = noisy::case(d);
-        spoil(&mut case.input, d);
-        return case;
-    }
-    if number % 20 == 14 {
-        let mut case = drawn::case(d);
+    if number % 20 == 9 || number % 20 == 14 {
+        let mut case = if number % 20 == 9 { noisy::case(d) } else { pictures::case(d) };
+        if number % 20 == 14 && d.one_in(25) {
+            spoil_words(&mut case.words, d);
+        }
         spoil(&mut case.input, d);
         return case;
     }
@@ -95,7 +93,7 @@ fn count(d: &mut Draws) -> Count {
 }
 
 /// A label, often near midnight or a minute in which labels are dropped.
-fn label(count: Count, d: &mut Draws) -> Label {
+pub fn label(count: Count, d: &mut Draws) -> Label {
     let day = count.day();
     match d.below(4) {
         0 => Label::at(count, d.below(40)),

@@ -1,16 +1,9 @@
-//! Vertical interval code in rows of gray pixels.
+//! `luma-vitc`: the code in rows of gray pixels, as lines of a line file.
 use crate::run::{End, Run};
 use crate::vitc::{file_header, spell_line};
 
-const PAIRS: usize = 9;
-const BITS: usize = 90;
-const LINE_TICKS: u64 = 1_840;
-const CELL_TICKS: u64 = 16;
-const MOST_LINES: usize = 20;
-const MOST_FIELDS: usize = 100_000_000;
-
-/// Which rows of which fields are looked at.
-pub struct Picture {
+/// How fields lie in bytes, and which of their rows are looked at.
+pub struct Raster {
     pub system: u64,
     pub width: usize,
     pub height: usize,
@@ -18,45 +11,50 @@ pub struct Picture {
     pub rows: usize,
 }
 
-/// Where a word lies: where the 1 of its first sync pair ends, and that of its ninth.
+/// Where the 1 of the first sync pair ends, and that of the ninth, in sixteenths of a pixel.
 #[derive(Clone, Copy, PartialEq)]
 struct Place {
-    first: i64,
-    ninth: i64,
+    u: i64,
+    v: i64,
 }
 
-impl Place {
-    /// Where so many eighths of a cell of the word end.
-    fn eighths(self, many: i64) -> i64 {
-        (640 * self.first + (many - 8) * (self.ninth - self.first)).div_euclid(640)
-    }
+/// What the cells of a row say: the swing of its sync pairs, and how high each bit is above the threshold.
+#[derive(Clone)]
+struct Levels {
+    swing: i64,
+    heights: Vec<i64>,
 }
 
-/// A row, and the light up to each of its pixels.
+/// A row that carries code.
+struct Found {
+    row: usize,
+    place: Place,
+    levels: Levels,
+}
+
+/// A row, with the light up to each sixteenth of a pixel.
 struct Row {
-    width: i64,
-    pixels: Vec<i64>,
     light: Vec<i64>,
+    width: i64,
 }
 
 impl Row {
     fn of(pixels: &[u8]) -> Row {
-        let pixels: Vec<i64> = pixels.iter().map(|pixel| i64::from(*pixel)).collect();
         let mut light = vec![0];
-        for pixel in &pixels {
-            light.push(light[light.len() - 1] + 16 * pixel);
+        for pixel in pixels {
+            for _ in 0..16 {
+                light.push(light[light.len() - 1] + *pixel as i64);
+            }
         }
-        Row { width: pixels.len() as i64, pixels, light }
+        Row { light, width: pixels.len() as i64 }
     }
 
-    /// The light up to a place. Before the row there is none, and behind it all is dark.
+    /// The light up to a place: behind the row nothing more comes.
     fn up_to(&self, place: i64) -> i64 {
-        let place = place.clamp(0, 16 * self.width);
-        let (pixel, part) = ((place / 16) as usize, place % 16);
-        self.light[pixel] + self.pixels.get(pixel).map_or(0, |level| part * level)
+        self.light[(place.max(0) as usize).min(self.light.len() - 1)]
     }
 
-    fn fall(&self, from: i64, at: i64, to: i64) -> i64 {
+    fn fall(&self, at: i64, from: i64, to: i64) -> i64 {
         2 * self.up_to(at) - self.up_to(from) - self.up_to(to)
     }
 
@@ -72,57 +70,48 @@ impl Row {
         16 * self.width + 4 * self.grain()
     }
 
-    fn has_contrast(&self) -> bool {
-        let (least, most) = (self.pixels.iter().min(), self.pixels.iter().max());
-        least.zip(most).is_some_and(|(least, most)| most - least >= 8)
-    }
-
-    /// The sum of the nine falls at whole pixels.
-    fn coarse_sum(&self, first: i64, distance: i64) -> i64 {
-        let cell = self.ten_cells() / 10;
-        let falls = (0..PAIRS as i64).map(|pair| {
-            let at = 16 * ((first + 8) / 16 + (distance * pair / 8 + 8) / 16);
-            self.fall(at - cell, at, at + cell)
-        });
-        falls.sum()
-    }
-
+    /// The best place at whole pixels, if anything falls there.
     fn coarse(&self) -> Option<Place> {
-        let (eight, mut best) = (8 * self.ten_cells(), (0, None));
-        let mut distance = eight * 95 / 100;
-        while distance <= eight * 105 / 100 {
-            let mut first = 95 * self.ten_cells() / 1_000;
-            while first + 89 * distance / 80 <= self.end() {
-                let sum = self.coarse_sum(first, distance);
-                if sum > best.0 {
-                    best = (sum, Some(Place { first, ninth: first + distance }));
+        let (ten, grain) = (self.ten_cells(), self.grain());
+        let mut best: Option<(i64, Place)> = None;
+        let mut apart = 95 * (8 * ten) / 100;
+        while apart <= 105 * (8 * ten) / 100 {
+            let mut u = 95 * ten / 1_000;
+            while u + 89 * apart / 80 <= self.end() {
+                let sum = (0..9).map(|j| self.fall_at((u + 8) / 16 + (apart * j / 8 + 8) / 16)).sum();
+                if best.is_none_or(|(most, _)| sum > most) {
+                    best = Some((sum, Place { u, v: u + apart }));
                 }
-                first += self.grain();
+                u += grain;
             }
-            distance += 2 * self.grain();
+            apart += 2 * grain;
         }
-        best.1
+        best.filter(|(sum, _)| *sum > 0).map(|(_, place)| place)
+    }
+
+    fn fall_at(&self, pixel: i64) -> i64 {
+        let reach = self.ten_cells() / 10;
+        self.fall(16 * pixel, 16 * pixel - reach, 16 * pixel + reach)
+    }
+
+    fn sum(&self, place: Place) -> i64 {
+        (0..9).map(|j| self.fall(place.at(80 * j + 8), place.at(80 * j), place.at(80 * j + 16))).sum()
     }
 
     fn fits(&self, place: Place) -> bool {
-        let long = place.ninth - place.first;
-        long > 0 && long <= 80 * place.first && place.first + 89 * long / 80 <= self.end()
+        let apart = place.v - place.u;
+        apart > 0 && apart <= 80 * place.u && place.u + 89 * apart / 80 <= self.end()
     }
 
-    fn fine_sum(&self, place: Place) -> i64 {
-        let ends = |eighths| place.eighths(eighths);
-        (0..PAIRS as i64).map(|j| self.fall(ends(80 * j), ends(80 * j + 8), ends(80 * j + 16))).sum()
-    }
-
-    /// The best of nine places, the first of equal ones.
-    fn better(&self, place: Place, step: i64) -> Place {
-        let mut best = (self.fine_sum(place), place);
-        for first in [0, -step, step] {
-            for ninth in [0, -step, step] {
-                let beside = Place { first: place.first + first, ninth: place.ninth + ninth };
-                if self.fits(beside) && self.fine_sum(beside) > best.0 {
-                    best = (self.fine_sum(beside), beside);
-                }
+    /// The best of a place and the eight around it; of equal ones the first.
+    fn best_around(&self, place: Place, step: i64) -> Place {
+        let moves = [0, -step, step];
+        let around = moves.iter().flat_map(|du| moves.map(|dv| Place { u: place.u + du, v: place.v + dv }));
+        let mut best = (self.sum(place), place);
+        for other in around.filter(|other| self.fits(*other)) {
+            let sum = self.sum(other);
+            if sum > best.0 {
+                best = (sum, other);
             }
         }
         best.1
@@ -132,134 +121,136 @@ impl Row {
         let mut step = 2 * self.grain();
         for _ in 0..8 {
             for _ in 0..6 {
-                place = self.better(place, step);
+                place = self.best_around(place, step);
             }
             step /= 2;
         }
         place
     }
 
-    /// The place, or the earliest up to eight cells before it that falls nearly as deep.
+    /// The place, or the earliest up to eight cells before it whose falls lack half a fall of it at most.
     fn earliest(&self, place: Place) -> Place {
-        let own = self.fine_sum(place).max(0);
-        let falls_nearly = |other: &Place| self.fits(*other) && own - self.fine_sum(*other).max(0) <= own / 18;
+        let own = self.sum(place).max(0);
         let earlier = |cells| {
-            let less = cells * (place.ninth - place.first) / 80;
-            Place { first: place.first - less, ninth: place.ninth - less }
+            let less = cells * (place.v - place.u) / 80;
+            Place { u: place.u - less, v: place.v - less }
         };
-        (1..=8).rev().map(earlier).filter(|other| other.first > 0).find(falls_nearly).unwrap_or(place)
+        let falls_nearly = |other: &Place| self.fits(*other) && own - self.sum(*other).max(0) <= own / 18;
+        (1..=8).rev().map(earlier).filter(|other| other.u > 0).find(falls_nearly).unwrap_or(place)
     }
 
-    /// The code that the row carries, if it carries any.
-    fn code(&self) -> Option<Code> {
-        let place = self.has_contrast().then(|| self.coarse()).flatten().map(|coarse| self.fine(coarse))?;
-        let place = self.earliest(place);
-        let cell = |i: usize| {
-            let before = 8 * i as i64;
-            self.up_to(place.eighths(before + 7)) - self.up_to(place.eighths(before + 1))
-        };
-        let cells: Vec<i64> = (0..BITS).map(cell).collect();
-        let swings: Vec<i64> = (0..PAIRS).map(|pair| cells[10 * pair] - cells[10 * pair + 1]).collect();
-        let swing: i64 = swings.iter().sum();
-        let swung = swings.iter().filter(|one| 72 * **one >= swing).count();
-        let is_code = 160 * swing >= 81 * (place.ninth - place.first) && swung >= 7;
-        is_code.then(|| Code { place, swing, heights: heights(&cells) })
+    fn cells(&self, place: Place) -> Vec<i64> {
+        (0..90).map(|i| self.up_to(place.at(8 * i + 7)) - self.up_to(place.at(8 * i + 1))).collect()
     }
 }
 
-/// How far the light of each cell is above its threshold.
+impl Place {
+    /// Where so many eighths of a cell of the word end.
+    fn at(self, eighths: i64) -> i64 {
+        let apart = self.v - self.u;
+        (640 * self.u + eighths * apart - 8 * apart) / 640
+    }
+}
+
+/// The height of each bit above a threshold between the smoothed middles of two pairs.
 fn heights(cells: &[i64]) -> Vec<i64> {
-    let middle = |pair: i64| {
-        let pair = pair.clamp(0, PAIRS as i64 - 1) as usize;
-        cells[10 * pair] + cells[10 * pair + 1]
+    let middle = |j: usize| cells[10 * j] + cells[10 * j + 1];
+    let smooth: Vec<i64> =
+        (0..9).map(|j: usize| middle(j.saturating_sub(1)) + 2 * middle(j) + middle((j + 1).min(8))).collect();
+    let height = |i: usize| {
+        let p = if i == 0 { 0 } else { ((2 * i - 1) / 20).min(7) };
+        let (bit, pair) = (2 * i as i64, 20 * p as i64);
+        160 * cells[i] - (pair + 21 - bit) * smooth[p] - (bit - pair - 1) * smooth[p + 1]
     };
-    let smoothed = |pair: i64| middle(pair - 1) + 2 * middle(pair) + middle(pair + 1);
-    let height = |(bit, light): (usize, &i64)| {
-        let twice = 2 * bit as i64;
-        let pair = ((twice - 1).div_euclid(20)).clamp(0, PAIRS as i64 - 2);
-        160 * light - (20 * pair + 21 - twice) * smoothed(pair) - (twice - 20 * pair - 1) * smoothed(pair + 1)
-    };
-    cells.iter().enumerate().map(height).collect()
+    (0..90).map(height).collect()
 }
 
-/// What a row says: where its word lies, the swing of its sync pairs, and the heights of its bits.
-struct Code {
-    place: Place,
-    swing: i64,
-    heights: Vec<i64>,
+/// Where a word lies in a row that carries code, and what its cells say.
+fn read_row(pixels: &[u8]) -> Option<(Place, Levels)> {
+    let (dark, light) = (pixels.iter().min()?, pixels.iter().max()?);
+    if light - dark < 8 {
+        return None;
+    }
+    let row = Row::of(pixels);
+    let place = row.earliest(row.fine(row.coarse()?));
+    let cells = row.cells(place);
+    let swings: Vec<i64> = (0..9).map(|j| cells[10 * j] - cells[10 * j + 1]).collect();
+    let swing: i64 = swings.iter().sum();
+    let many = swings.iter().filter(|one| 72 * **one >= swing).count();
+    let carries = 160 * swing >= 81 * (place.v - place.u) && many >= 7;
+    carries.then(|| (place, Levels { swing, heights: heights(&cells) }))
 }
 
-impl Code {
-    /// The bits, if bit 0 is 1 and each is clear.
+impl Levels {
+    /// The bits, if each is clear and the first is 1.
     fn line(&self) -> Option<Vec<bool>> {
         let is_clear = self.heights.iter().all(|height| 9 * height.abs() >= 10 * self.swing);
         (is_clear && self.heights[0] > 0).then(|| self.heights.iter().map(|height| *height > 0).collect())
     }
 
-    fn firm(&self, bit: usize) -> Option<bool> {
-        let height = self.heights[bit];
-        (9 * height.abs() >= 40 * self.swing).then_some(height > 0)
+    fn is_firm(&self, bit: usize) -> bool {
+        9 * self.heights[bit].abs() >= 40 * self.swing
     }
 
-    /// Whether no bit is firm in both and another one in each.
-    fn agrees(&self, other: &Code) -> bool {
-        (0..BITS).all(|bit| self.firm(bit).zip(other.firm(bit)).map_or(true, |(one, two)| one == two))
+    fn contradicts(&self, other: &Levels) -> bool {
+        (0..90).any(|bit| {
+            let differ = (self.heights[bit] > 0) != (other.heights[bit] > 0);
+            differ && self.is_firm(bit) && other.is_firm(bit)
+        })
     }
 
-    fn with(&self, other: &Code) -> Code {
-        let heights = self.heights.iter().zip(&other.heights).map(|(one, two)| one + two).collect();
-        Code { place: self.place, swing: self.swing + other.swing, heights }
+    fn with(&self, other: &Levels) -> Levels {
+        let heights = self.heights.iter().zip(&other.heights).map(|(a, b)| a + b).collect();
+        Levels { swing: self.swing + other.swing, heights }
     }
 }
 
-/// The lines that some rows of a field say.
-fn lines(rows: &[&[u8]]) -> Vec<Vec<bool>> {
-    let grain = rows.first().map_or(0, |row| Row::of(row).grain());
-    let codes = rows.iter().enumerate().filter_map(|(at, row)| Row::of(row).code().map(|code| (at, code)));
-    let codes: Vec<(usize, Code)> = codes.take(MOST_LINES).collect();
-    let mut lines: Vec<Option<Vec<bool>>> = codes.iter().map(|(_, code)| code.line()).collect();
-    for (place, (at, code)) in codes.iter().enumerate() {
-        for (beside, other) in &codes[place + 1..] {
-            let near = |one: i64, two: i64| (one - two).abs() <= 4 * grain;
-            let are_near = near(code.place.first, other.place.first) && near(code.place.ninth, other.place.ninth);
-            if beside - at <= 4 && are_near && code.agrees(other) {
-                lines.push(code.with(other).line());
-            }
-        }
-    }
-    lines.into_iter().flatten().take(MOST_LINES).collect()
+/// Two rows are read as one.
+fn are_one(a: &Found, b: &Found, grain: i64) -> bool {
+    let far = (a.place.u - b.place.u).abs().max((a.place.v - b.place.v).abs());
+    b.row - a.row <= 4 && far <= 4 * grain && !a.levels.contradicts(&b.levels)
 }
 
-/// The runs of a line, in ticks, to its last high one.
-fn runs(line: &[bool]) -> Vec<u64> {
-    let many = line.iter().rposition(|bit| *bit).map_or(0, |last| last + 1);
-    let mut runs: Vec<u64> = Vec::new();
-    for (at, bit) in line[..many].iter().enumerate() {
-        match runs.last_mut().filter(|_| line[at - 1] == *bit) {
-            Some(run) => *run += CELL_TICKS,
-            None => runs.push(CELL_TICKS),
+/// The lines of a field.
+fn lines(raster: &Raster, field: &[u8]) -> Vec<Vec<bool>> {
+    let looked_at = field.chunks(raster.width).skip(raster.first).take(raster.rows).enumerate();
+    let carrying = looked_at.filter_map(|(row, pixels)| read_row(pixels).map(|(place, levels)| Found { row, place, levels }));
+    let found: Vec<Found> = carrying.take(20).collect();
+    let grain = 16 * raster.width as i64 / 720;
+    let mut lines: Vec<Vec<bool>> = found.iter().filter_map(|one| one.levels.line()).collect();
+    for (k, a) in found.iter().enumerate() {
+        for b in found[k + 1..].iter().filter(|b| are_one(a, b, grain)) {
+            lines.extend(a.levels.with(&b.levels).line());
         }
+    }
+    lines.truncate(20);
+    lines
+}
+
+/// The runs of bits up to the last 1, in cells of 16 ticks.
+fn runs(bits: &[bool]) -> Vec<u64> {
+    let last = bits.iter().rposition(|bit| *bit).expect("bit 0 is 1");
+    let mut runs: Vec<u64> = vec![0];
+    for at in 0..=last {
+        if at > 0 && bits[at] != bits[at - 1] {
+            runs.push(0);
+        }
+        *runs.last_mut().expect("there is one") += 16;
     }
     runs
 }
 
-/// The line file of the fields of a picture.
-pub fn read(picture: &Picture, fields: &[u8]) -> Run {
-    let mut output = file_header(picture.system, LINE_TICKS);
-    let size = picture.width * picture.height;
-    for (at, field) in fields.chunks(size).enumerate() {
-        if at == MOST_FIELDS {
-            return Run { output, end: End::Limit };
-        }
-        if field.len() < size {
-            return Run { output, end: End::at_byte("truncated", fields.len() as u64) };
-        }
-        let rows: Vec<&[u8]> = field.chunks(picture.width).skip(picture.first).take(picture.rows).collect();
-        let lines = lines(&rows);
+/// The line file of fields.
+pub fn read(raster: &Raster, input: &[u8]) -> Run {
+    let mut output = file_header(raster.system, 1_840);
+    let size = raster.width * raster.height;
+    for field in input.chunks_exact(size) {
+        let lines = lines(raster, field);
         output.push(lines.len() as u8);
-        for line in &lines {
-            spell_line(&runs(line), &mut output);
+        for line in lines {
+            spell_line(&runs(&line), &mut output);
         }
     }
-    Run { output, end: End::Done }
+    let is_cut = input.len() % size != 0;
+    Run { output, end: if is_cut { End::at_byte("truncated", input.len() as u64) } else { End::Done } }
 }

@@ -4,7 +4,6 @@
 mod cases;
 mod cells;
 mod chase;
-mod drawn;
 mod draws;
 mod fields;
 mod frames;
@@ -16,6 +15,7 @@ mod made;
 mod midi;
 mod noisy;
 mod path;
+mod pictures;
 mod run;
 mod sound;
 mod vitc;

@@ -4,10 +4,11 @@ use crate::frames::{Frame, frames, jam, lines, midi, spans};
 use crate::intervals::{File, MOST_RATE, convert, read};
 use crate::labels::{Count, Label, Way};
 use crate::lines::{Base, Printed, along_text};
+use crate::luma::{self, Raster};
 use crate::made::{Striping, load, stripe};
 use crate::run::{End, Run};
 use crate::sound::{Slicing, Threshold, make, slice, slice_track};
-use crate::{chase, luma, midi as mtc, path, vitc};
+use crate::{chase, midi as mtc, path, vitc};
 
 /// The words of a tolerance behind a command along frames.
 #[derive(Clone, Copy)]
@@ -114,7 +115,7 @@ pub fn run(words: &[String], input: &[u8]) -> Run {
         "mtc-read" => Words::of(words, 0, 0).map(|_| mtc::read(input)),
         "vitc-read" => Words::of(words, 0, 0).map(|_| vitc::read(input)),
         "vitc-make" => line_file(words),
-        "luma-vitc" => pictured(words, input),
+        "luma-vitc" => pixels(words, input),
         "chase" => script(words, input),
         "number" => numbered(words),
         "label" => labelled(words),
@@ -318,18 +319,13 @@ fn line_file(words: &[String]) -> Read<Run> {
     Ok(Run { output: vitc::make(&label, frames, length), end: End::Done })
 }
 
-fn pictured(words: &[String], input: &[u8]) -> Read<Run> {
+fn pixels(words: &[String], input: &[u8]) -> Read<Run> {
     let mut w = Words::of(words, 5, 5)?;
-    let system = w.value(|word| match word {
-        "25" => Some(25),
-        "30" => Some(30),
-        _ => None,
-    })?;
-    let (width, height) = (w.number(360, 4_096)?, w.number(1, 4_096)?);
-    let first = w.number(0, height - 1)?;
-    let rows = w.number(1, 40.min(height - first))?;
-    let [width, height, first, rows] = [width, height, first, rows].map(|number| number as usize);
-    Ok(luma::read(&luma::Picture { system, width, height, first, rows }, input))
+    let system = w.value(|word| ["25", "30"].contains(&word).then(|| word.parse().expect("it is a number")))?;
+    let (width, height) = (w.number(360, 4_096)? as usize, w.number(1, 4_096)? as usize);
+    let first = w.number(0, height as u64 - 1)? as usize;
+    let rows = w.number(1, 40.min(height - first) as u64)? as usize;
+    Ok(luma::read(&Raster { system, width, height, first, rows }, input))
 }
 
 fn script(words: &[String], input: &[u8]) -> Read<Run> {
