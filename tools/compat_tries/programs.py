@@ -94,10 +94,11 @@ def told(labels, wanted):
     return f"{len(wanted.intersection(labels))}{f'+{others}' if others else ''}"
 
 
-def rising(labels):
-    """Whether each label is the next one, of 30 a second."""
+def runs(labels):
+    """How many labels there are, and in how many runs of 30 a second: a run ends where jackd came too late."""
     places = [((int(h) * 60 + int(m)) * 60 + int(s)) * 30 + int(f) for h, m, s, f in (it.split(":") for it in labels)]
-    return all(after == before + 1 for before, after in zip(places, places[1:]))
+    ends = sum(after != before + 1 for before, after in zip(places, places[1:]))
+    return f"{len(labels)}/{ends + 1}"
 
 
 def try_programs(place, tc, sounds, wave):
@@ -133,4 +134,4 @@ def try_programs(place, tc, sounds, wave):
                 print("Ardour: not tried, for want of ardour7-lua")
                 return
             played = [generated(tc, room, side) for side in both]
-            row("Ardour's generator", [f"{len(labels)}{'' if rising(labels) else '!'}" for labels in played])
+            row("Ardour's generator, words/runs of them", [runs(labels) for labels in played])
