@@ -9,6 +9,9 @@ from typing import NamedTuple
 from .runs import FAULTS
 
 MOST_INPUT = 1 << 16
+MOST_WITH_FAULTS = 6
+FIRST_FAULTS = [(fault, number) for fault in ("read-fails", "write-fails") for number in (0, 1, 2, 5)]
+FIRST_FAULTS += [("read-pieces", 3), ("write-pieces", 2), ("no-memory", 0)]
 
 
 class Case(NamedTuple):
@@ -116,6 +119,16 @@ def of_the_conformance(top, program):
             except (OSError, ValueError, subprocess.SubprocessError):
                 continue
             found.append(Case(tuple(word.encode() for word in cells[1].split()), given[:MOST_INPUT]))
+    return found
+
+
+def with_faults(them):
+    """The first cases of each command that read, with its first reads and writes failing, and in pieces."""
+    count, found = {}, []
+    for case in them:
+        count[case.command()] = count.get(case.command(), 0) + bool(case.input)
+        if case.input and count[case.command()] <= MOST_WITH_FAULTS:
+            found += [case._replace(fault=fault, number=number) for fault, number in FIRST_FAULTS]
     return found
 
 
