@@ -111,14 +111,3 @@ def jumps(order, texts, those):
             if words and words[0][0] == "j" and words[0] != "jmp" and to and behind - order[place] in (2, 6):
                 found.append(Jump(order[place], behind, int(to[1], 16), number))
     return found
-
-
-def places(program, them):
-    """Where these addresses stand in the file."""
-    segments = []
-    for line in said("readelf", "-lW", program).splitlines():
-        row = re.match(r" +LOAD +(0x\w+) (0x\w+) 0x\w+ (0x\w+)", line)
-        if row:
-            offset, address, size = (int(one, 16) for one in row.groups())
-            segments.append((address, address + size, offset - address))
-    return [next(at + by for first, end, by in segments if first <= at < end) for at in them]

@@ -1,24 +1,25 @@
 // Runs a program again and again, each time with other words and another input, and tells what a run was the first to
 // reach: basic blocks, and the two ways of conditional jumps. Part of bench/guided, which says how and why.
 //
-//     runs PROGRAM POINTS REACHED MOST-OUTPUT SECONDS
+// It is loaded before the program (LD_PRELOAD), and stops it before its own code begins. Each run is a child of the
+// program at this place, with the words in place of its own.
 //
-// PROGRAM and PROGRAM.ways are copies of the program that only this process runs. POINTS has a line for each block,
-// `b` with its address and its place in the file, and then one for each conditional jump, `j` with the same and the
-// address behind it. REACHED is a file with a byte for each block and then two for each jump, taken and not taken,
-// shared with the other jobs.
+// An INT3 stands in memory at the beginning of each block that no run has reached. A run that comes there gets a
+// signal, notes the block, puts the byte back, and goes on; and before the next run the byte is put back for good. So a
+// block costs one signal in its life, and all other runs are at full speed. In some runs there stands one at each jump
+// too that has not gone both ways: there the flags say which way it goes. A jump may cost a run a few signals.
 //
-// An INT3 stands at the beginning of each block that no run has reached. A run that comes there stops, is put right,
-// and goes on; and the copy is put right for good. So a block costs one stop in its life, and all other runs are at
-// full speed. In the second copy there stands one at each jump too that has not gone both ways: there the flags say
-// which way it goes. A jump may stop a run a few times, so this copy is run now and then.
+// GUIDED has the name of the list of blocks and jumps, that of the map of what was reached, the most bytes of an
+// output, the seconds that a run may take, and the descriptors on which runs are asked for and told of. A line of the
+// list is `b` and the address of a block, or `j`, the address of a jump and the one behind it. The map has a byte for
+// each block and two for each jump, taken and not taken, and is shared with the other jobs.
 //
-// Asked on standard input, in numbers of 32 bits: whether the second copy is run, how the system calls are to fail
-// and by which number, the count of words, each word and then the input, with their lengths before them. Told on
-// standard output: how the run ended (exit, signal, too long), with which number, whether a call was made to fail,
-// the count of new places of REACHED and these, and what was written to standard output and standard error, with its
-// lengths.
+// Asked are, in numbers of 32 bits: whether jumps are looked at, which calls fail and by which number, the count of
+// words, each word and then the input, with their lengths before them. Told are: how the run ended (exit, signal, too
+// long), with which number, whether a call was made to fail, the count of new places of the map and these, and what was
+// written to standard output and standard error, with its lengths.
 #define _GNU_SOURCE
+#include <elf.h>
 #include <errno.h>
 #include <fcntl.h>
 #include <signal.h>
@@ -26,126 +27,152 @@
 #include <stdio.h>
 #include <stdlib.h>
 #include <string.h>
+#include <sys/auxv.h>
 #include <sys/mman.h>
-#include <sys/personality.h>
-#include <sys/ptrace.h>
 #include <sys/resource.h>
 #include <sys/syscall.h>
 #include <sys/time.h>
-#include <sys/user.h>
 #include <sys/wait.h>
+#include <ucontext.h>
 #include <unistd.h>
 
 enum { EXITED, KILLED, TOO_LONG };
-enum { NO_FAULT, READ_PIECES, READ_FAILS, WRITE_FAILS, WRITE_PIECES, NO_MEMORY, FAULTS };
-enum { INT3 = 0xcc, WALL_SECONDS = 60, STOPS = 6 };
+enum { NO_FAULT, READ_PIECES, READ_FAILS, WRITE_FAILS, WRITE_PIECES, NO_MEMORY };
+enum { INT3 = 0xcc, WALL_SECONDS = 60, STOPS = 6, PAGE = 4096 };
 
 // A block, or a conditional jump.
 struct point {
-    uint64_t address, place, behind;
-    uint32_t reached; // its first place there
-    int is_jump;
-    unsigned char code[6];
-    unsigned char is_open; // nothing stands there any more
-    uint32_t stops; // how often it has stopped this run
+    uint64_t address, behind; // in memory
+    uint32_t reached;         // its first place in the map
+    unsigned char is_jump, byte, is_set, stops;
+};
+
+// What a run tells of itself.
+struct told {
+    uint32_t is_faulted, count, places[];
 };
 
 static struct point *points;
-static uint32_t point_count, reached_count;
+static uint32_t point_count, reached_count, most_output, seconds;
 static int32_t *block_at, *jump_at; // by address, from the first one on
-static uint64_t first_address, address_span, entry;
+static uint64_t first_address, address_span, bias;
 static unsigned char *reached;
-static char *program, *with_ways;
-static int input_file, output_file, note_file;
-static uint32_t most_output, seconds;
-static volatile sig_atomic_t running; // the process that runs, for the alarm
-static volatile sig_atomic_t is_late;
-static uint32_t *new_places, new_count;
+static struct told *told;
+static int asked, telling, input_file, output_file, note_file;
+static volatile sig_atomic_t running, is_late;
+
+// How the calls of this run fail; it is one of the runs if it is asked to be.
+static int is_run;
+static uint32_t fault, fault_number;
+static uint64_t draws;
 
 static void fails(const char *what)
 {
-    fprintf(stderr, "bench/guided: %s: %s\n", what, strerror(errno));
-    exit(1);
+    dprintf(2, "bench/guided: %s: %s\n", what, strerror(errno));
+    _exit(1);
 }
 
-static void late(int signal)
+// The calls of the program, some of which fail.
+
+static size_t piece(size_t asked)
 {
-    (void)signal;
-    is_late = 1;
-    if (running > 0)
-        kill(running, SIGKILL);
+    draws = draws * 6364136223846793005ull + 1442695040888963407ull;
+    size_t drawn = 1 + (draws >> 33) % (1ull << (fault_number % 13));
+    told->is_faulted = 1;
+    return drawn < asked ? drawn : asked;
 }
 
-// The blocks, the copy and what other jobs share.
+// Whether this call is the one that fails, or one behind it.
+static int is_refused(uint32_t kind)
+{
+    if (!is_run || fault != kind)
+        return 0;
+    if (fault_number > 0) {
+        fault_number--;
+        return 0;
+    }
+    told->is_faulted = 1;
+    return 1;
+}
+
+ssize_t read(int file, void *room, size_t size)
+{
+    if (file == 0 && is_refused(READ_FAILS)) {
+        errno = EIO;
+        return -1;
+    }
+    if (is_run && file == 0 && fault == READ_PIECES)
+        size = piece(size);
+    return syscall(SYS_read, file, room, size);
+}
+
+ssize_t write(int file, const void *bytes, size_t size)
+{
+    if (file == 1 && is_refused(WRITE_FAILS)) {
+        errno = ENOSPC;
+        return -1;
+    }
+    if (is_run && file == 1 && fault == WRITE_PIECES)
+        size = piece(size);
+    return syscall(SYS_write, file, bytes, size);
+}
+
+ssize_t __write(int file, const void *bytes, size_t size)
+{
+    return write(file, bytes, size);
+}
+
+extern void *__libc_malloc(size_t);
+extern void *__libc_realloc(void *, size_t);
+
+void *malloc(size_t size)
+{
+    return is_refused(NO_MEMORY) ? NULL : __libc_malloc(size);
+}
+
+void *realloc(void *room, size_t size)
+{
+    return is_refused(NO_MEMORY) ? NULL : __libc_realloc(room, size);
+}
+
+// The blocks and jumps.
 
 static void list_points(const char *name)
 {
     FILE *list = fopen(name, "r");
-    unsigned long long address, place, behind;
+    unsigned long long address, behind, last = 0;
     uint32_t room = 0;
     char kind;
     if (!list)
         fails(name);
-    while (fscanf(list, " %c %llx %llx %llx", &kind, &address, &place, &behind) == 4) {
+    first_address = UINT64_MAX;
+    while (fscanf(list, " %c %llx %llx", &kind, &address, &behind) == 3) {
         if (point_count == room) {
             room = room ? 2 * room : 4096;
             points = realloc(points, room * sizeof *points);
             if (!points)
                 fails("memory");
         }
-        int is_jump = kind == 'j';
-        points[point_count++] = (struct point){ address, place, behind, reached_count, is_jump, { 0 }, 0, 0 };
-        reached_count += is_jump ? 2 : 1;
+        address += bias;
+        points[point_count++] = (struct point){ address, behind + bias, reached_count, kind == 'j', 0, 0, 0 };
+        reached_count += kind == 'j' ? 2 : 1;
+        first_address = address < first_address ? address : first_address;
+        last = address > last ? address : last;
     }
     fclose(list);
-    if (!point_count) {
-        errno = EINVAL;
-        fails("no blocks");
-    }
+    address_span = point_count ? last - first_address + 1 : 0;
 }
 
-static void find_by_address(void)
+static int32_t *by_address(int is_jump)
 {
-    uint64_t last = 0;
-    first_address = UINT64_MAX;
-    for (uint32_t i = 0; i < point_count; i++) {
-        first_address = points[i].address < first_address ? points[i].address : first_address;
-        last = points[i].address > last ? points[i].address : last;
-    }
-    address_span = last - first_address + 1;
-    block_at = malloc(address_span * sizeof *block_at);
-    jump_at = malloc(address_span * sizeof *jump_at);
-    new_places = malloc(reached_count * sizeof *new_places);
-    if (!block_at || !jump_at || !new_places)
+    int32_t *at = malloc((address_span + 1) * sizeof *at);
+    if (!at)
         fails("memory");
-    memset(block_at, 0xff, address_span * sizeof *block_at);
-    memset(jump_at, 0xff, address_span * sizeof *jump_at);
+    memset(at, 0xff, address_span * sizeof *at);
     for (uint32_t i = 0; i < point_count; i++)
-        (points[i].is_jump ? jump_at : block_at)[points[i].address - first_address] = i;
-}
-
-// Opens a copy to write: for a moment after a run it may still be busy.
-static int copy_to_write(const char *name)
-{
-    for (int tries = 0; tries < 1000; tries++) {
-        int file = open(name, O_RDWR | O_CLOEXEC);
-        if (file >= 0 || errno != ETXTBSY)
-            return file;
-        usleep(1000);
-    }
-    fails(name);
-    return -1;
-}
-
-static void set_byte(int file, const struct point *point, unsigned char byte)
-{
-    if (pwrite(file, &byte, 1, point->place) != 1)
-        fails("the copy of the program");
-}
-
-static int is_open(const struct point *point)
-{
-    return reached[point->reached] && (!point->is_jump || reached[point->reached + 1]);
+        if (points[i].is_jump == is_jump)
+            at[points[i].address - first_address] = i;
+    return at;
 }
 
 static int32_t found(const int32_t *at, uint64_t address)
@@ -154,173 +181,35 @@ static int32_t found(const int32_t *at, uint64_t address)
     return place < address_span ? at[place] : -1;
 }
 
-static void patch_copies(void)
+static int is_done(const struct point *point)
 {
-    int file = copy_to_write(program), ways = copy_to_write(with_ways);
-    if (pread(file, &entry, sizeof entry, 24) != sizeof entry)
-        fails(program);
-    for (uint32_t i = 0; i < point_count; i++)
-        if (pread(file, points[i].code, sizeof points[i].code, points[i].place) < 1)
-            fails(program);
-    for (uint32_t i = 0; i < point_count; i++) {
-        if ((points[i].is_open = is_open(&points[i])))
-            continue;
-        set_byte(ways, &points[i], INT3);
-        if (!points[i].is_jump)
-            set_byte(file, &points[i], INT3);
-    }
-    close(file);
-    close(ways);
+    return reached[point->reached] && (!point->is_jump || reached[point->reached + 1]);
 }
 
-// Puts the copies right where something was reached, by this job or by others.
-static void put_right(void)
+static void set_byte(const struct point *point, unsigned char byte)
 {
-    int file = -1, ways = -1;
+    *(volatile unsigned char *)point->address = byte;
+}
+
+// Puts INT3 where something is still to be reached, and the program's own bytes everywhere else.
+static void set_points(int with_jumps)
+{
     for (uint32_t i = 0; i < point_count; i++) {
         struct point *point = &points[i];
-        point->stops = 0;
-        if (point->is_open || !is_open(point))
+        unsigned char is_set = !is_done(point) && (with_jumps || !point->is_jump);
+        if (is_set == point->is_set)
             continue;
-        if (file < 0) {
-            file = copy_to_write(program);
-            ways = copy_to_write(with_ways);
-        }
+        point->is_set = is_set;
         int32_t other = found(point->is_jump ? block_at : jump_at, point->address);
-        if (!point->is_jump)
-            set_byte(file, point, point->code[0]);
-        if (other < 0 || is_open(&points[other]))
-            set_byte(ways, point, point->code[0]);
-        point->is_open = 1;
+        if (is_set || other < 0 || !points[other].is_set)
+            set_byte(point, is_set ? INT3 : point->byte);
     }
-    if (file >= 0) {
-        close(file);
-        close(ways);
-    }
-}
-
-// The run.
-
-// How far from its addresses in the file the program lies in memory.
-static uint64_t bias_of(pid_t child)
-{
-    char name[64];
-    uint64_t pair[2], bias = 0;
-    snprintf(name, sizeof name, "/proc/%d/auxv", child);
-    int file = open(name, O_RDONLY | O_CLOEXEC);
-    if (file < 0)
-        fails(name);
-    while (read(file, pair, sizeof pair) == sizeof pair)
-        if (pair[0] == 9) // AT_ENTRY
-            bias = pair[1] - entry;
-    close(file);
-    return bias;
-}
-
-static unsigned char poke(pid_t child, uint64_t address, unsigned char byte)
-{
-    uint64_t whole = address & ~7ull;
-    errno = 0;
-    long word = ptrace(PTRACE_PEEKTEXT, child, whole, 0);
-    if (errno)
-        return byte;
-    unsigned char *bytes = (unsigned char *)&word;
-    unsigned char before = bytes[address - whole];
-    bytes[address - whole] = byte;
-    ptrace(PTRACE_POKETEXT, child, whole, word);
-    return before;
-}
-
-static void limit(int resource, rlim_t most)
-{
-    struct rlimit both = { most, most };
-    setrlimit(resource, &both);
-}
-
-static pid_t begin(char *name, char **words)
-{
-    static char *nothing[] = { "LC_ALL=C", NULL };
-    pid_t child = vfork();
-    if (child != 0)
-        return child;
-    personality(ADDR_NO_RANDOMIZE);
-    limit(RLIMIT_FSIZE, most_output);
-    limit(RLIMIT_CORE, 0);
-    struct rlimit processor = { seconds, seconds + 1 };
-    setrlimit(RLIMIT_CPU, &processor);
-    signal(SIGXFSZ, SIG_IGN);
-    dup2(input_file, 0);
-    dup2(output_file, 1);
-    dup2(note_file, 2);
-    ptrace(PTRACE_TRACEME, 0, 0, 0);
-    execve(name, words, nothing);
-    _exit(127);
-}
-
-// What is done to the system calls of a run.
-struct fault {
-    uint32_t kind, number, happened;
-    uint64_t draws;
-    int is_inside; // a call has begun
-    int is_refused; // and is to fail
-    long answer;
-};
-
-static uint64_t draw(struct fault *fault)
-{
-    fault->draws = fault->draws * 6364136223846793005ull + 1442695040888963407ull;
-    return fault->draws >> 33;
-}
-
-// The pieces that a number asks for: up to 1, 2, 4 and so on bytes.
-static uint64_t piece(struct fault *fault, uint64_t asked)
-{
-    uint64_t drawn = 1 + draw(fault) % (1ull << (fault->number % 13));
-    return drawn < asked ? drawn : asked;
-}
-
-static int is_for_memory(const struct user_regs_struct *now)
-{
-    uint64_t call = now->orig_rax;
-    return (call == SYS_mmap && (int)now->r8 == -1) || call == SYS_mremap || (call == SYS_brk && now->rdi);
-}
-
-// At the beginning of a call: whether it is to be another one, or to fail.
-static void at_call(pid_t child, struct fault *fault, struct user_regs_struct *now)
-{
-    int reads = now->orig_rax == SYS_read && now->rdi == 0, writes = now->orig_rax == SYS_write && now->rdi == 1;
-    if ((fault->kind == READ_PIECES && reads) || (fault->kind == WRITE_PIECES && writes)) {
-        now->rdx = piece(fault, now->rdx);
-        fault->happened = 1;
-        ptrace(PTRACE_SETREGS, child, 0, now);
-        return;
-    }
-    if (!((fault->kind == READ_FAILS && reads) || (fault->kind == WRITE_FAILS && writes)
-          || (fault->kind == NO_MEMORY && is_for_memory(now))))
-        return;
-    if (fault->number > 0) {
-        fault->number--;
-        return;
-    }
-    fault->answer = fault->kind == READ_FAILS ? -EIO : fault->kind == WRITE_FAILS ? -ENOSPC : -ENOMEM;
-    fault->is_refused = fault->happened = 1;
-    now->orig_rax = -1;
-    ptrace(PTRACE_SETREGS, child, 0, now);
-}
-
-static void at_answer(pid_t child, struct fault *fault, struct user_regs_struct *now)
-{
-    if (!fault->is_refused)
-        return;
-    fault->is_refused = 0;
-    now->rax = fault->answer;
-    ptrace(PTRACE_SETREGS, child, 0, now);
 }
 
 static void reach(uint32_t place)
 {
     if (!__atomic_exchange_n(&reached[place], 1, __ATOMIC_RELAXED))
-        new_places[new_count++] = place;
+        told->places[told->count++] = place;
 }
 
 // Whether a conditional jump is taken, by the low four bits of its code.
@@ -332,107 +221,92 @@ static int is_taken(unsigned char condition, unsigned long flags)
     return is[condition >> 1 & 7] ^ (condition & 1);
 }
 
-// Goes the way of a conditional jump, and tells whether it is to be passed at full speed from now on.
-static int at_jump(struct point *point, struct user_regs_struct *now, uint64_t bias)
+// Goes the way of a conditional jump.
+static void at_jump(struct point *point, greg_t *now)
 {
-    int is_long = point->code[0] == 0x0f;
+    const unsigned char *code = (const unsigned char *)point->address;
+    int is_long = point->byte == 0x0f;
     int32_t by;
-    memcpy(&by, point->code + 2, sizeof by);
-    int taken = is_taken(is_long ? point->code[1] : point->code[0], now->eflags);
-    now->rip = bias + point->behind + (taken ? is_long ? by : (signed char)point->code[1] : 0);
+    memcpy(&by, code + 2, sizeof by);
+    int taken = is_taken(is_long ? code[1] : point->byte, now[REG_EFL]);
+    now[REG_RIP] = point->behind + (taken ? is_long ? by : (signed char)code[1] : 0);
     reach(point->reached + !taken);
-    return ++point->stops >= STOPS || is_open(point);
+    if (++point->stops >= STOPS || is_done(point))
+        set_byte(point, point->byte);
 }
 
-// A stop at an INT3: a block is reached, or a jump is at its way.
-static int at_point(pid_t child, uint64_t bias, int by_ways, struct user_regs_struct *now)
+static void at_point(int number, siginfo_t *info, void *context)
 {
-    uint64_t here = now->rip - 1;
-    int32_t block = found(block_at, here - bias), jump = by_ways ? found(jump_at, here - bias) : -1;
-    if (block < 0 && jump < 0)
-        return 0;
+    greg_t *now = ((ucontext_t *)context)->uc_mcontext.gregs;
+    uint64_t here = now[REG_RIP] - 1;
+    int32_t block = found(block_at, here), jump = found(jump_at, here);
+    (void)info;
     if (block >= 0)
         reach(points[block].reached);
-    if (jump < 0) {
-        now->rip--;
-        poke(child, here, points[block].code[0]);
-    } else if (at_jump(&points[jump], now, bias)) {
-        poke(child, here, points[jump].code[0]);
+    if (jump >= 0 && points[jump].is_set) {
+        at_jump(&points[jump], now);
+    } else if (block >= 0) {
+        set_byte(&points[block], points[block].byte);
+        now[REG_RIP] = here;
+    } else {
+        signal(number, SIG_DFL);
     }
-    ptrace(PTRACE_SETREGS, child, 0, now);
-    return 1;
 }
 
-static void follow(pid_t child, int by_ways, struct fault *fault, uint32_t *how, uint32_t *code)
+// The program in memory.
+
+// How far from its addresses in the file it lies, and its code made writable.
+static void open_program(void)
 {
-    uint64_t bias = 0;
-    int is_known = 0, give = 0, state;
-    unsigned char at_entry = INT3;
-    enum __ptrace_request go = PTRACE_CONT;
-    for (;;) {
-        if (waitpid(child, &state, 0) < 0) {
-            if (errno == EINTR)
-                continue;
-            fails("waitpid");
-        }
-        if (WIFEXITED(state) || WIFSIGNALED(state))
-            break;
-        int stop = WSTOPSIG(state);
-        struct user_regs_struct now;
-        give = 0;
-        if (!is_known) {
-            // the stop at its very beginning
-            is_known = 1;
-            ptrace(PTRACE_SETOPTIONS, child, 0, PTRACE_O_EXITKILL | PTRACE_O_TRACESYSGOOD);
-            bias = bias_of(child);
-            if (fault->kind != NO_FAULT)
-                at_entry = poke(child, bias + entry, INT3);
-        } else if (ptrace(PTRACE_GETREGS, child, 0, &now) < 0) {
+    const Elf64_Phdr *parts = (const Elf64_Phdr *)getauxval(AT_PHDR);
+    uint64_t count = getauxval(AT_PHNUM);
+    for (uint64_t i = 0; i < count; i++)
+        if (parts[i].p_type == PT_PHDR)
+            bias = (uint64_t)parts - parts[i].p_vaddr;
+    for (uint64_t i = 0; i < count; i++) {
+        if (parts[i].p_type != PT_LOAD || !(parts[i].p_flags & PF_X))
             continue;
-        } else if (stop == (SIGTRAP | 0x80)) {
-            fault->is_inside = !fault->is_inside;
-            if (fault->is_inside)
-                at_call(child, fault, &now);
-            else
-                at_answer(child, fault, &now);
-        } else if (stop == SIGTRAP && fault->kind != NO_FAULT && now.rip - 1 == bias + entry) {
-            // the loader is done: from here on calls may fail
-            poke(child, now.rip - 1, at_entry);
-            now.rip--;
-            ptrace(PTRACE_SETREGS, child, 0, &now);
-            go = PTRACE_SYSCALL;
-        } else if (!(stop == SIGTRAP && at_point(child, bias, by_ways, &now))) {
-            give = stop;
-        }
-        ptrace(go, child, 0, give);
+        uint64_t to = bias + parts[i].p_vaddr + parts[i].p_memsz;
+        uint64_t from = (bias + parts[i].p_vaddr) & ~(uint64_t)(PAGE - 1);
+        if (mprotect((void *)from, to - from, PROT_READ | PROT_WRITE | PROT_EXEC) < 0)
+            fails("the program's code");
     }
-    *how = WIFSIGNALED(state) ? KILLED : EXITED;
-    *code = WIFSIGNALED(state) ? WTERMSIG(state) : WEXITSTATUS(state);
-    if (is_late || (*how == KILLED && *code == SIGXCPU))
-        *how = TOO_LONG;
 }
 
-static void run(int by_ways, char **words, struct fault *fault, uint32_t *how, uint32_t *code)
+static void share(const char *name)
 {
-    struct itimerval wall = { { 0, 0 }, { WALL_SECONDS, 0 } }, none = { { 0, 0 }, { 0, 0 } };
-    new_count = 0;
-    is_late = 0;
-    pid_t child = begin(by_ways ? with_ways : program, words);
-    if (child < 0)
-        fails("vfork");
-    running = child;
-    setitimer(ITIMER_REAL, &wall, NULL);
-    follow(child, by_ways, fault, how, code);
-    running = 0;
-    setitimer(ITIMER_REAL, &none, NULL);
+    int file = open(name, O_RDWR | O_CLOEXEC);
+    reached = file < 0 ? MAP_FAILED : mmap(NULL, reached_count + 1, PROT_READ | PROT_WRITE, MAP_SHARED, file, 0);
+    size_t size = sizeof *told + (size_t)reached_count * sizeof told->places[0];
+    told = mmap(NULL, size, PROT_READ | PROT_WRITE, MAP_SHARED | MAP_ANONYMOUS, -1, 0);
+    if (reached == MAP_FAILED || told == MAP_FAILED)
+        fails(name);
+    close(file);
+    input_file = memfd_create("input", MFD_CLOEXEC);
+    output_file = memfd_create("output", MFD_CLOEXEC);
+    note_file = memfd_create("note", MFD_CLOEXEC);
+    if (input_file < 0 || output_file < 0 || note_file < 0)
+        fails("a file in memory");
+}
+
+static void late(int signal)
+{
+    (void)signal;
+    is_late = 1;
+    if (running > 0)
+        kill(running, SIGKILL);
 }
 
 // What is asked and told.
 
-static void get(void *room, uint32_t size)
+static void get(void *room, size_t size)
 {
-    if (size && fread(room, size, 1, stdin) != 1)
-        exit(0);
+    for (size_t done = 0; done < size;) {
+        ssize_t given = syscall(SYS_read, asked, (char *)room + done, size - done);
+        if (given <= 0)
+            _exit(0);
+        done += given;
+    }
 }
 
 static uint32_t number(void)
@@ -452,24 +326,24 @@ static char *bytes(uint32_t *size)
     return room;
 }
 
-static void tell(const void *from, uint32_t size)
+static void tell(const void *from, size_t size)
 {
-    if (size && fwrite(from, size, 1, stdout) != 1)
-        exit(1);
-}
-
-static void tell_number(uint32_t value)
-{
-    tell(&value, sizeof value);
+    for (size_t done = 0; done < size;) {
+        ssize_t taken = syscall(SYS_write, telling, (const char *)from + done, size - done);
+        if (taken <= 0)
+            _exit(0);
+        done += taken;
+    }
 }
 
 static void tell_file(int file)
 {
     off_t size = lseek(file, 0, SEEK_END);
+    uint32_t told_size = size;
     char *room = malloc(size + 1);
     if (!room || pread(file, room, size, 0) != size)
         fails("what was written");
-    tell_number(size);
+    tell(&told_size, sizeof told_size);
     tell(room, size);
     free(room);
 }
@@ -481,63 +355,112 @@ static void empty(int file)
     lseek(file, 0, SEEK_SET);
 }
 
-static void serve(void)
+// The runs.
+
+static void limit(int resource, rlim_t soft, rlim_t hard)
 {
-    uint32_t by_ways = number(), kind = number(), size, how, code;
-    struct fault fault = { .kind = kind < FAULTS ? kind : 0, .number = number() };
-    fault.draws = fault.number;
-    uint32_t count = number();
-    char **words = calloc((size_t)count + 2, sizeof *words);
-    if (!words)
-        fails("memory");
-    words[0] = program;
+    struct rlimit both = { soft, hard };
+    setrlimit(resource, &both);
+}
+
+// In the child: makes it the run. The count of the words stands before the first one.
+static void become(uint32_t count, char **words, char **own)
+{
+    struct sigaction at = { .sa_sigaction = at_point, .sa_flags = SA_SIGINFO | SA_NODEFER };
+    sigaction(SIGTRAP, &at, NULL);
+    signal(SIGALRM, SIG_DFL);
+    signal(SIGXFSZ, SIG_IGN);
+    limit(RLIMIT_FSIZE, most_output, most_output);
+    limit(RLIMIT_CORE, 0, 0);
+    limit(RLIMIT_CPU, seconds, seconds + 1);
+    dup2(input_file, 0);
+    dup2(output_file, 1);
+    dup2(note_file, 2);
+    close(asked);
+    close(telling);
     for (uint32_t i = 0; i < count; i++)
-        words[i + 1] = bytes(&size);
+        own[i + 1] = words[i];
+    own[count + 1] = NULL;
+    ((uint64_t *)own)[-1] = count + 1;
+    is_run = 1;
+}
+
+// Waits for the run, and tells how it ended.
+static void tell_end(pid_t child)
+{
+    struct itimerval wall = { { 0, 0 }, { WALL_SECONDS, 0 } }, none = { { 0, 0 }, { 0, 0 } };
+    int state;
+    is_late = 0;
+    running = child;
+    setitimer(ITIMER_REAL, &wall, NULL);
+    while (waitpid(child, &state, 0) < 0)
+        if (errno != EINTR)
+            fails("waitpid");
+    running = 0;
+    setitimer(ITIMER_REAL, &none, NULL);
+    uint32_t how = WIFSIGNALED(state) ? KILLED : EXITED;
+    uint32_t code = how == KILLED ? WTERMSIG(state) : WEXITSTATUS(state);
+    if (is_late || (how == KILLED && code == SIGXCPU))
+        how = TOO_LONG;
+    uint32_t answer[] = { how, code, told->is_faulted, told->count };
+    tell(answer, sizeof answer);
+    tell(told->places, told->count * sizeof told->places[0]);
+    tell_file(output_file);
+    tell_file(note_file);
+}
+
+// Serves one run, and answers in its child alone.
+static int is_in_child(uint32_t most, char **own)
+{
+    uint32_t with_jumps = number(), size;
+    fault = number();
+    fault_number = draws = number();
+    uint32_t count = number();
+    char **words = calloc((size_t)count + 1, sizeof *words);
+    if (!words || count > most)
+        fails("words");
+    for (uint32_t i = 0; i < count; i++)
+        words[i] = bytes(&size);
     char *input = bytes(&size);
     empty(input_file);
     empty(output_file);
     empty(note_file);
     if (pwrite(input_file, input, size, 0) != (ssize_t)size)
         fails("the input");
-    put_right();
-    run(by_ways, words, &fault, &how, &code);
-    tell_number(how);
-    tell_number(code);
-    tell_number(fault.happened);
-    tell_number(new_count);
-    tell(new_places, new_count * sizeof *new_places);
-    tell_file(output_file);
-    tell_file(note_file);
-    fflush(stdout);
+    set_points(with_jumps);
+    told->is_faulted = told->count = 0;
+    pid_t child = fork();
+    if (child < 0)
+        fails("fork");
+    if (child == 0) {
+        become(count, words, own);
+        return 1;
+    }
+    tell_end(child);
     for (uint32_t i = 0; i < count; i++)
-        free(words[i + 1]);
+        free(words[i]);
     free(words);
     free(input);
+    return 0;
 }
 
-int main(int argc, char **argv)
+__attribute__((constructor)) static void stop_here(int count, char **own)
 {
-    if (argc != 6)
-        return 2;
-    program = argv[1];
-    if (asprintf(&with_ways, "%s.ways", program) < 0)
-        return 1;
-    most_output = strtoul(argv[4], NULL, 10);
-    seconds = strtoul(argv[5], NULL, 10);
-    list_points(argv[2]);
-    find_by_address();
-    int shared = open(argv[3], O_RDWR | O_CLOEXEC);
-    reached = shared < 0 ? MAP_FAILED : mmap(NULL, reached_count, PROT_READ | PROT_WRITE, MAP_SHARED, shared, 0);
-    if (reached == MAP_FAILED)
-        fails(argv[3]);
-    input_file = memfd_create("input", MFD_CLOEXEC);
-    output_file = memfd_create("output", MFD_CLOEXEC);
-    note_file = memfd_create("note", MFD_CLOEXEC);
-    if (input_file < 0 || output_file < 0 || note_file < 0)
-        fails("a file in memory");
+    char list[4096], map[4096];
+    const char *words = getenv("GUIDED");
+    if (!words)
+        return;
+    if (sscanf(words, "%4095s %4095s %u %u %d %d", list, map, &most_output, &seconds, &asked, &telling) != 6)
+        fails("GUIDED");
+    open_program();
+    list_points(list);
+    block_at = by_address(0);
+    jump_at = by_address(1);
+    for (uint32_t i = 0; i < point_count; i++)
+        points[i].byte = *(const unsigned char *)points[i].address;
+    share(map);
     struct sigaction alarm = { .sa_handler = late };
     sigaction(SIGALRM, &alarm, NULL);
-    patch_copies();
-    for (;;)
-        serve();
+    while (!is_in_child(count - 1, own))
+        ;
 }

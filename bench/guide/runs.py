@@ -1,13 +1,13 @@
 """Runs of the program, by the runner `runs.c`."""
 import os
-import shutil
 import struct
 import subprocess
 from typing import NamedTuple
 
 HERE = os.path.dirname(os.path.abspath(__file__))
 EXITED, KILLED, TOO_LONG = range(3)
-# how system calls may be made to fail: the names are those of `runs.c`, in its order
+MOST_WORDS = 64
+# how calls of the program may be made to fail: these are those of `runs.c`, in its order
 FAULTS = ("none", "read-pieces", "read-fails", "write-fails", "write-pieces", "no-memory")
 
 
@@ -27,28 +27,39 @@ class Stopped(Exception):
 
 
 def build(room):
-    """The runner, compiled."""
-    made = os.path.join(room, "runs")
-    subprocess.run(["cc", "-O2", "-o", made, os.path.join(HERE, "runs.c")], check=True)
+    """The runner, compiled: it is loaded before the program."""
+    made = os.path.join(room, "runs.so")
+    subprocess.run(["cc", "-O2", "-fPIC", "-shared", "-o", made, os.path.join(HERE, "runs.c")], check=True)
     return made
 
 
 class Runner:
-    """A runner with a copy of the program of its own."""
+    """The program with its runner, held before it begins."""
 
-    def __init__(self, asked, room):
-        copy = os.path.join(room, "tc")
-        for name in (copy, copy + ".ways"):
-            shutil.copyfile(asked.program, name)
-            os.chmod(name, 0o700)
-        words = [asked.runner, copy, asked.listed, asked.reached, str(asked.most_output), str(asked.seconds)]
-        self.process = subprocess.Popen(words, stdin=subprocess.PIPE, stdout=subprocess.PIPE)
+    def __init__(self, asked):
+        (theirs, questions), (self.answers, also_theirs) = os.pipe(), os.pipe()
+        self.questions = questions
+        guided = f"{asked.listed} {asked.reached} {asked.most_output} {asked.seconds} {theirs} {also_theirs}"
+        # (as many words as a run may have; they stand where its own will)
+        self.process = subprocess.Popen(
+            [asked.program, *["-"] * MOST_WORDS],
+            env={"LD_PRELOAD": asked.runner, "GUIDED": guided},
+            stdin=subprocess.DEVNULL,
+            stdout=subprocess.DEVNULL,
+            pass_fds=(theirs, also_theirs),
+        )
+        os.close(theirs)
+        os.close(also_theirs)
 
     def get(self, size):
-        data = self.process.stdout.read(size)
-        if len(data) != size:
-            raise Stopped
-        return data
+        parts = []
+        while size:
+            part = os.read(self.answers, min(size, 1 << 20))
+            if not part:
+                raise Stopped
+            parts.append(part)
+            size -= len(part)
+        return b"".join(parts)
 
     def number(self):
         return int.from_bytes(self.get(4), "little")
@@ -58,9 +69,10 @@ class Runner:
         parts = [struct.pack("<IIII", by_ways, FAULTS.index(case.fault), case.number, len(case.words))]
         for part in (*case.words, case.input):
             parts += [struct.pack("<I", len(part)), part]
+        view = memoryview(b"".join(parts))
         try:
-            self.process.stdin.write(b"".join(parts))
-            self.process.stdin.flush()
+            while view:
+                view = view[os.write(self.questions, view):]
         except BrokenPipeError:
             raise Stopped from None
         how, code, is_faulted, count = struct.unpack("<IIII", self.get(16))
@@ -69,5 +81,6 @@ class Runner:
         return Ended(how, code, bool(is_faulted), new, output, self.get(self.number()))
 
     def end(self):
-        self.process.stdin.close()
+        os.close(self.questions)
+        os.close(self.answers)
         self.process.wait()

@@ -29,12 +29,10 @@ class Counts:
 class Job:
     """One job of bench/guided."""
 
-    def __init__(self, asked, number, room):
+    def __init__(self, asked, number):
         self.asked, self.counts = asked, Counts()
         self.draws = random.Random(f"{asked.seed} {number}")
-        own = os.path.join(room, str(number))
-        os.makedirs(own)
-        self.runner = Runner(asked, own)
+        self.runner = Runner(asked)
         self.second = judge.Second(asked.second)
         self.cases, self.known = {}, set()
         self.looked = 0.0
