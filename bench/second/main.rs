@@ -17,6 +17,7 @@ mod noisy;
 mod path;
 mod pictures;
 mod run;
+mod served;
 mod sound;
 mod vitc;
 mod words;
@@ -41,7 +42,7 @@ struct Asked {
     jobs: u64,
 }
 
-const USAGE: &str = "cases PROGRAM ROOM COUNT FIRST SEED JOBS, or cases told WORDS.. < INPUT";
+const USAGE: &str = "cases PROGRAM ROOM COUNT FIRST SEED JOBS, cases told WORDS.. < INPUT, or cases served";
 
 fn asked() -> Option<Asked> {
     let words: Vec<String> = std::env::args().skip(1).collect();
@@ -155,6 +156,9 @@ fn main() {
     if let [first, words @ ..] = &words[..] {
         if first == "told" {
             std::process::exit(told(words).unwrap_or(1));
+        }
+        if first == "served" && words.is_empty() {
+            std::process::exit(served::serve().is_err() as i32);
         }
     }
     let Some(asked) = asked() else {

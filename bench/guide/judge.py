@@ -1,0 +1,141 @@
+"""What a run is to end with: by the table of statuses, and by the second reading."""
+import os
+import re
+import select
+import struct
+import subprocess
+import sys
+
+from .runs import EXITED, KILLED
+
+NOTES = {
+    0: rb"",
+    2: rb"tc: usage: (dash in word \d+|command|count of words|value of word \d+)\n",
+    3: rb"tc: refused: ([a-z0-9-]+ at byte \d+|row \d+ column \d+|line \d+ column \d+)\n",
+    4: rb"tc: read fault\n",
+    5: rb"tc: write fault\n",
+    6: rb"(tc: out of memory\n)?",
+    7: rb"tc: limit\n",
+    8: rb"",
+}
+FAILED = 255
+
+
+def is_text(words):
+    """Whether all words are UTF-8."""
+    try:
+        for word in words:
+            word.decode("utf-8")
+    except UnicodeDecodeError:
+        return False
+    return True
+
+
+def complaint(case, ended, most_output):
+    """What is wrong with the end of a run whatever its command, or nothing."""
+    if ended.how != EXITED:
+        return f"signal {ended.code}" if ended.how == KILLED else "it did not end in time"
+    if ended.code not in NOTES or not re.fullmatch(NOTES[ended.code], ended.note):
+        return f"status {ended.code}, note {ended.note[:200]!r}"
+    is_full = len(ended.output) >= most_output
+    if (ended.code == 8) != (not is_text(case.words)):
+        return f"status {ended.code}: words that are {'no ' if ended.code != 8 else ''}UTF-8"
+    if ended.code in (2, 6, 8) and ended.output:
+        return f"status {ended.code}, and something was printed"
+    wanted = {"read-fails": 4, "write-fails": 5}.get(case.fault) if ended.is_faulted else None
+    if is_full and ended.code == 5:
+        return None
+    if wanted is not None and ended.code != wanted:
+        return f"status {ended.code}, wanted {wanted}: {case.fault}"
+    if ended.code in (4, 5) and ended.code != wanted:
+        return f"status {ended.code}, and no call failed"
+    if ended.code == 6 and not (case.fault == "no-memory" and ended.is_faulted):
+        return "status 6, and there was memory"
+    return None
+
+
+def difference(case, ended, wanted):
+    """What differs from the second reading, or nothing."""
+    status, output, note = wanted
+    if status == FAILED:
+        return "the second reading panicked"
+    if ended.code == 6 and case.fault == "no-memory":
+        return None
+    if ended.is_faulted and case.fault in ("read-fails", "write-fails"):
+        return None if output.startswith(ended.output) else "what was written before the fault is no front of the whole"
+    if ended.code != status:
+        return f"status {ended.code}, wanted {status}"
+    if ended.note != note:
+        return f"note {ended.note!r}, wanted {note!r}"
+    if ended.output != output:
+        at = len(os.path.commonprefix([ended.output, output]))
+        return f"output at byte {at}: {ended.output[at:at + 60]!r}, wanted {output[at:at + 60]!r}"
+    return None
+
+
+class Second:
+    """The second reading, as a process that is asked."""
+
+    def __init__(self, made, seconds=60):
+        self.made, self.seconds, self.process = made, seconds, None
+        ended = self.told((b"luma-vitc", b"25", b"360", b"1", b"0", b"1"), b"")
+        self.knows_luma = ended is not None and ended[0] == 0
+
+    def begin(self):
+        self.process = subprocess.Popen([self.made, "served"], stdin=subprocess.PIPE, stdout=subprocess.PIPE,
+                                        stderr=subprocess.DEVNULL, bufsize=0)
+
+    def end(self):
+        if self.process:
+            self.process.kill()
+            self.process.wait()
+            self.process.stdin.close()
+            self.process.stdout.close()
+            self.process = None
+
+    def get(self, size):
+        parts, left = [], size
+        while left:
+            part = self.process.stdout.read(min(left, 1 << 20))
+            if not part:
+                raise OSError("it ended")
+            parts.append(part)
+            left -= len(part)
+        return b"".join(parts)
+
+    def number(self):
+        return int.from_bytes(self.get(4), "little")
+
+    def ask(self, question):
+        """Asks, and waits for an answer to begin."""
+        if not self.process:
+            self.begin()
+        view = memoryview(question)
+        while view:
+            view = view[self.process.stdin.write(view):]
+        if not select.select([self.process.stdout], [], [], self.seconds)[0]:
+            raise OSError("no answer in time")
+
+    def told(self, words, data):
+        """What a run is to end with: status, output and note; none if the reading gives no answer in time."""
+        parts = [struct.pack("<II", 0, len(words))]
+        for part in (*words, data):
+            parts += [struct.pack("<I", len(part)), part]
+        try:
+            self.ask(b"".join(parts))
+            status = self.number()
+            return status, self.get(self.number()), self.get(self.number())
+        except OSError as why:
+            print(f"bench/guided: the second reading: {why}", file=sys.stderr)
+            self.end()
+            return None
+
+    def case(self, seed, number):
+        """The words and the input of a case of bench/cases, or none."""
+        try:
+            self.ask(struct.pack("<IQQ", 1, seed, number))
+            words = tuple(self.get(self.number()) for _ in range(self.number()))
+            return words, self.get(self.number())
+        except OSError:
+            self.end()
+            return None
