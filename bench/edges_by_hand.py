@@ -153,7 +153,7 @@ def cells():
     edge("a-zero-or-a-half", "ltc-read", [130, 200, 130], 2)
     edge("a-zero-or-a-half", "ltc-read", [*first, 72], 2)
     for c, x, y, is_one in ((24, 12, 12, 1), (24, 13, 12, 1), (24, 13, 11, 0), (32, 17, 15, 1), (64, 34, 30, 1), (64, 35, 29, 0),
-                            (24, 14, 14, 0), (24, 10, 10, 0), (24, 12, 24, 0)):
+                            (24, 14, 14, 0), (24, 10, 10, 0), (24, 12, 24, 0), (30, 16, 14, 0)):
         edge("two-halves", "ltc-read", [c * 5 // 8, c, x, y], 4 if is_one else 3)
     edge("the-length-of-the-last-cell", "ltc-read", [*first, 12, 13, 28, 28], 6)
     edge("the-length-of-the-last-cell", "ltc-worn", [*first, 26, 30, 30], 5)
