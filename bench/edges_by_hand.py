@@ -586,6 +586,15 @@ def labels():
             row(f"labels/first-and-last-labels-of-{base}", f"labels {base} {way}", text(given), text(answer))
 
 
+def many_words():
+    """Lines of more words than a command has, which want no memory, whatever their number."""
+    long = "0123456789" * 4
+    for number, other in ((3, long), (4, "x"), (5, "x"), (8, "x"), (9, "x"), (16, "x"), (17, long), (32, "x"), (33, "x"), (64, "x"),
+                          (65, "x"), (100, "x"), (128, "x"), (129, "x"), (200, "x"), (256, "x"), (257, "x"), (302, long)):
+        row("words/many-words-want-no-memory", " ".join(["version", *[other] * (number - 1)]), "none", "-", 2,
+            "tc: usage: count of words")
+
+
 # ---- steps of a chase
 
 P, W = "play", "wait"
@@ -682,7 +691,8 @@ def pixels():
 
 def main():
     print("# At the edges of each rule, and of other software")
-    for part in (pairs, cells, rough_cells, greatest_cells, words, made, frames, gaps, sound, lines, messages, labels, traces, pixels):
+    for part in (pairs, cells, rough_cells, greatest_cells, words, made, frames, gaps, sound, lines, messages, labels, many_words, traces,
+                 pixels):
         part()
 
 
