@@ -174,4 +174,5 @@ def main():
         sys.exit(f"tc: refused: {fault.args[0]} at byte {fault.args[1]}")
 
 
-main()
+if __name__ == "__main__":
+    main()

@@ -1,16 +1,11 @@
-//! Files and samples from outside: interval files, line files, crossings of sound, and the streams
-//! of the operating system.
+//! What no run of the program shows: how often the operating system is called, answers that it never gives, and the
+//! lines of the greatest numbers.
 //!
-//! What no clause says of a crate, or what was known before it: values from standards, from other
-//! software, and worked out by hand, a module for each crate. They are here since a crate with tests
-//! in it is proved twice.
+//! The values are worked by hand from the documents, a module for a subject. What a run shows is a row of the
+//! conformance cases, which costs no proof.
 #![tactic(auto)]
 
 #[cfg(test)]
-mod crossings;
-#[cfg(test)]
-mod interval_files;
-#[cfg(test)]
-mod line_files;
+mod answers;
 #[cfg(test)]
 mod streams;

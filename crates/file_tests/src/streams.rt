@@ -4,14 +4,13 @@ ghost use Rattle.std.specs.Prelude.{◌≤◌, length, IfOk, None};
 use std::alloc::Global;
 use std::io;
 use std::io::{ErrorKind, Read, Write};
-use std::process::Abort;
 use std::test::Fail;
 use tc_io::{
     Failed, MemorySink, MemorySource, ReadSource, Sink, Source, SteadySource, WriteSink, push_all,
 };
 
 /// What a reader or a writer answers once.
-#[derive(Clone, Copy, Debug, PartialEq, Eq)]
+#[derive(Clone, Copy)]
 enum Answer {
     /// No byte.
     Nothing,
@@ -120,11 +119,9 @@ const LENGTHS: [usize; 4] = [1, 200, 4_096, 70_000];
 fn a_steady_source_gives_what_fits(rt: HostRuntime) -> Result<(), Fail> {
     let mut source = SteadySource::new(rt.alloc(), b"abc")?;
     let mut buf = *b"..";
-    assert_eq!(rt; source.pull(&mut buf), Ok(2));
-    assert_eq!(rt; buf, *b"ab");
-    assert_eq!(rt; source.pull(&mut buf), Ok(1));
-    assert_eq!(rt; buf, *b"cb");
-    assert_eq!(rt; source.pull(&mut buf), Ok(0));
+    for (count, given) in [(2, *b"ab"), (1, *b"cb"), (0, *b"cb")] {
+        assert!(rt; source.pull(&mut buf) == Ok(count) && buf == given);
+    }
     Ok(())
 }
 
@@ -139,8 +136,7 @@ fn a_source_fails_where_it_is_told_to(rt: HostRuntime) -> Result<(), Fail> {
         (Ok(1), b'c'),
         (Ok(0), b'c'),
     ] {
-        assert_eq!(rt; source.pull(&mut buf), answer);
-        assert_eq!(rt; buf[0], first);
+        assert!(rt; source.pull(&mut buf) == answer && buf[0] == first);
     }
     Ok(())
 }
@@ -150,22 +146,37 @@ fn the_pieces_go_round(rt: HostRuntime) -> Result<(), Fail> {
     let mut source = MemorySource::new(rt.alloc(), b"abcdefgh", &[3, 0], &[])?;
     let mut buf = [0; 4];
     for count in [3, 1, 3, 1, 0, 0] {
-        assert_eq!(rt; source.pull(&mut buf), Ok(count));
+        assert!(rt; source.pull(&mut buf) == Ok(count));
     }
     Ok(())
+}
+
+/// Pushes each piece, and whether the answers and what was written are these.
+fn takes(sink: &mut MemorySink, pieces: &[(&[u8], bool)], written: &[u8]) -> bool {
+    for (piece, is_taken) in pieces {
+        if push_all(sink, piece).is_ok() != *is_taken {
+            return false;
+        }
+    }
+    sink.written() == written
 }
 
 #[test]
 fn what_fits_is_written_before_a_fault(rt: HostRuntime) -> Result<(), Fail> {
     let mut sink = MemorySink::new(rt.alloc(), 2, &[])?;
-    assert_eq!(rt; push_all(&mut sink, b"abc"), Err(Failed));
-    assert_eq!(rt; sink.written(), b"ab".as_slice());
-    assert_eq!(rt; push_all(&mut sink, b""), Ok(()));
+    assert!(rt; takes(&mut sink, &[(b"abc", false), (b"", true)], b"ab"));
     let mut failing = MemorySink::new(rt.alloc(), 9, &[2])?;
-    assert_eq!(rt; push_all(&mut failing, b"abc"), Ok(()));
-    assert_eq!(rt; push_all(&mut failing, b"def"), Err(Failed));
-    assert_eq!(rt; push_all(&mut failing, b"ghi"), Ok(()));
-    assert_eq!(rt; failing.written(), b"abcghi".as_slice());
+    let pieces: [(&[u8], bool); 3] = [(b"abc", true), (b"def", false), (b"ghi", true)];
+    assert!(rt; takes(&mut failing, &pieces, b"abcghi"));
+    Ok(())
+}
+
+/// Sources and a sink for this many bytes find their memory.
+fn is_found(alloc: Global, bytes: &[u8]) -> Result<(), Fail> {
+    let len = bytes.len();
+    SteadySource::new(alloc, bytes)?;
+    MemorySource::new(alloc, bytes, &[len], &[len as u64])?;
+    MemorySink::new(alloc, len, &[len as u64])?;
     Ok(())
 }
 
@@ -173,9 +184,7 @@ fn what_fits_is_written_before_a_fault(rt: HostRuntime) -> Result<(), Fail> {
 fn memory_is_had_whatever_the_length(rt: HostRuntime) -> Result<(), Fail> {
     let bytes = [7; 5_000];
     for len in 0..5_000 {
-        SteadySource::new(rt.alloc(), &bytes[..len])?;
-        MemorySource::new(rt.alloc(), &bytes[..len], &[len], &[len as u64])?;
-        MemorySink::new(rt.alloc(), len, &[len as u64])?;
+        is_found(rt.alloc(), &bytes[..len])?;
     }
     Ok(())
 }
@@ -184,7 +193,7 @@ fn memory_is_had_whatever_the_length(rt: HostRuntime) -> Result<(), Fail> {
 fn memory_is_had_for_a_long_input(rt: HostRuntime) -> Result<(), Fail> {
     let bytes = vec![in rt.alloc(); 7; 2_000_000]?;
     for len in [99_999, 100_000, 100_001, 1_048_577, 2_000_000] {
-        assert!(rt; goes_through(rt.alloc(), &bytes, len)?, "{len} bytes");
+        assert!(rt; goes_through(rt.alloc(), &bytes, len)?);
     }
     Ok(())
 }
@@ -215,60 +224,22 @@ fn pulled(answer: Answer, len: usize) -> Result<usize, Failed> {
     }
 }
 
-/// Pulls three times, and compares each with what the reader answers: one read a pull.
-fn pull_each(rt: &impl Abort, answers: [Answer; 3], buf: &mut [u8])
+/// Pulls three times, and says whether each is what the reader answers: one read a pull.
+fn pulls(answers: [Answer; 3], buf: &mut [u8]) -> bool
     requires { 1 ≤ length buf.old }
 {
     let mut source = ReadSource::new(Told { answers, calls: 0 });
     let len = buf.len();
     for call in 0..3u8 {
         let answer = answers[usize::from(call)];
-        assert_eq!(rt;
-            source.pull(buf),
-            pulled(answer, len),
-            "{len} bytes, {answers:?}, call {call}"
-        );
-        if matches!(&answer, Answer::One | Answer::All) {
-            assert_eq!(rt; buf[0], call + 1);
+        if source.pull(buf) != pulled(answer, len) {
+            return false;
+        }
+        if matches!(&answer, Answer::One | Answer::All) && buf[0] != call + 1 {
+            return false;
         }
     }
-}
-
-#[test]
-fn a_pull_is_one_read(rt: HostRuntime) {
-    let mut whole = [0; 70_000];
-    for len in LENGTHS {
-        for first in ANSWERS {
-            for second in ANSWERS {
-                for third in ANSWERS {
-                    pull_each(&rt, [first, second, third], &mut whole[..len]);
-                }
-            }
-        }
-    }
-}
-
-#[test]
-fn no_error_is_tried_again(rt: HostRuntime) {
-    for code in 1..=LAST_ERROR {
-        let answers = [Answer::One, Answer::Fault(code), Answer::All];
-        pull_each(&rt, answers, &mut [0; 200]);
-        push_each(&rt, answers, &[7; 200]);
-    }
-    for kind in KINDS {
-        let answers = [Answer::One, Answer::Kind(kind), Answer::All];
-        pull_each(&rt, answers, &mut [0; 200]);
-        push_each(&rt, answers, &[7; 200]);
-    }
-}
-
-#[test]
-fn a_reader_at_its_end_is_no_fault(rt: HostRuntime) {
-    let mut source = ReadSource::new(b"abc".as_slice());
-    let mut buf = *b"..";
-    for count in [2, 1, 0, 0] {
-        assert_eq!(rt; source.pull(&mut buf), Ok(count));
-    }
+    true
 }
 
 /// What a push makes of an answer of the writer: a write that takes nothing is a fault.
@@ -279,17 +250,36 @@ fn pushed(answer: Answer, len: usize) -> Result<usize, Failed> {
     }
 }
 
-/// Pushes three times, and compares each with what the writer answers: one write a push.
-fn push_each(rt: &impl Abort, answers: [Answer; 3], piece: &[u8]) {
+/// Pushes three times, and says whether each is what the writer answers: one write a push.
+fn pushes(answers: [Answer; 3], piece: &[u8]) -> bool {
     let mut sink = WriteSink::new(Told { answers, calls: 0 });
-    let len = piece.len();
-    for call in 0..3u8 {
-        let answer = answers[usize::from(call)];
-        assert_eq!(rt;
-            sink.push(piece),
-            pushed(answer, len),
-            "{len} bytes, {answers:?}, call {call}"
-        );
+    for answer in answers {
+        if sink.push(piece) != pushed(answer, piece.len()) {
+            return false;
+        }
+    }
+    true
+}
+
+/// Three of the answers, by a number below 64.
+fn three(number: usize) -> [Answer; 3] {
+    [
+        ANSWERS[number / 16 % 4],
+        ANSWERS[number / 4 % 4],
+        ANSWERS[number % 4],
+    ]
+}
+
+#[test]
+fn a_pull_is_one_read(rt: HostRuntime) {
+    let mut whole = [0; 70_000];
+    for len in LENGTHS {
+        for number in 0..64usize {
+            assert!(rt;
+                pulls(three(number), &mut whole[..len]),
+                "{len} bytes, answers {number}"
+            );
+        }
     }
 }
 
@@ -297,19 +287,43 @@ fn push_each(rt: &impl Abort, answers: [Answer; 3], piece: &[u8]) {
 fn a_push_is_one_write(rt: HostRuntime) {
     let whole = [7; 70_000];
     for len in LENGTHS {
-        for first in ANSWERS {
-            for second in ANSWERS {
-                for third in ANSWERS {
-                    push_each(&rt, [first, second, third], &whole[..len]);
-                }
-            }
+        for number in 0..64usize {
+            assert!(rt;
+                pushes(three(number), &whole[..len]),
+                "{len} bytes, answers {number}"
+            );
         }
     }
 }
 
-/// Pushes a piece in parts of at most `most` bytes, of which one push fails: no push comes after it,
+/// Whether an error between two answers is tried again neither by a pull nor by a push.
+fn is_told_once(error: Answer) -> bool {
+    let answers = [Answer::One, error, Answer::All];
+    pulls(answers, &mut [0; 200]) && pushes(answers, &[7; 200])
+}
+
+#[test]
+fn no_error_is_tried_again(rt: HostRuntime) {
+    for code in 1..=LAST_ERROR {
+        assert!(rt; is_told_once(Answer::Fault(code)), "error {code}");
+    }
+    for kind in KINDS {
+        assert!(rt; is_told_once(Answer::Kind(kind)));
+    }
+}
+
+#[test]
+fn a_reader_at_its_end_is_no_fault(rt: HostRuntime) {
+    let mut source = ReadSource::new(b"abc".as_slice());
+    let mut buf = *b"..";
+    for count in [2, 1, 0, 0] {
+        assert!(rt; source.pull(&mut buf) == Ok(count));
+    }
+}
+
+/// Pushes a piece in parts of at most `most` bytes, of which one push fails: whether no push comes after it,
 /// and none that was not needed.
-fn push_in_parts(rt: &impl Abort, piece: &[u8], most: usize, failing: u64)
+fn stops_at_a_fault(piece: &[u8], most: usize, failing: u64) -> bool
     requires part { 1 ≤ most }
     requires number { 1 ≤ failing }
 {
@@ -322,33 +336,34 @@ fn push_in_parts(rt: &impl Abort, piece: &[u8], most: usize, failing: u64)
     };
     let len = piece.len();
     let before = most.wrapping_mul(failing as usize - 1);
-    let outcome = push_all(&mut sink, piece);
+    let is_whole = push_all(&mut sink, piece).is_ok();
     if before < len {
-        assert_eq!(rt; outcome, Err(Failed), "{len} bytes in parts of {most}");
-        assert_eq!(rt; (sink.pushes, sink.taken), (failing, before));
+        !is_whole && sink.pushes == failing && sink.taken == before
     } else {
-        assert_eq!(rt; outcome, Ok(()), "{len} bytes in parts of {most}");
-        assert_eq!(rt; (sink.pushes, sink.taken), (len.div_ceil(most) as u64, len));
+        is_whole && sink.pushes == len.div_ceil(most) as u64 && sink.taken == len
     }
 }
 
 /// In parts of each of three lengths, each of the first three pushes fails.
-fn push_in_each_part(rt: &impl Abort, piece: &[u8]) {
+fn stops_in_each_part(piece: &[u8]) -> bool {
     for most in [1, 150, 5_000] {
         for failing in 1..4u64 {
-            push_in_parts(rt, piece, most, failing);
+            if !stops_at_a_fault(piece, most, failing) {
+                return false;
+            }
         }
     }
+    true
 }
 
 #[test]
 fn nothing_is_pushed_after_a_fault(rt: HostRuntime) {
-    let piece = [7; 70_000];
+    let whole = [7; 70_000];
     for len in 0..5_001 {
-        push_in_each_part(&rt, &piece[..len]);
+        assert!(rt; stops_in_each_part(&whole[..len]), "{len} bytes");
     }
     for len in LENGTHS {
-        push_in_each_part(&rt, &piece[..len]);
+        assert!(rt; stops_in_each_part(&whole[..len]), "{len} bytes");
     }
 }
 
@@ -356,7 +371,7 @@ fn nothing_is_pushed_after_a_fault(rt: HostRuntime) {
 fn nothing_of_an_empty_piece_is_no_fault(rt: HostRuntime) {
     let answers = [Answer::Nothing, Answer::All, Answer::Fault(4)];
     let mut sink = WriteSink::new(Told { answers, calls: 0 });
-    assert_eq!(rt; sink.push(b""), Ok(0));
-    assert_eq!(rt; sink.push(b"ab"), Ok(2));
-    assert_eq!(rt; sink.push(b""), Err(Failed));
+    assert!(rt; sink.push(b"") == Ok(0));
+    assert!(rt; sink.push(b"ab") == Ok(2));
+    assert!(rt; sink.push(b"").is_err());
 }

@@ -17,7 +17,7 @@
 //! - its row in `job_of`, in `words` and in `specs/Words.antt`: its word, and `no_values` with its job where it
 //!   has none, and else a function there and there, which reads its values and which the answers of the laws
 //!   unfold;
-//! - its lines in the tables of `command_tests`.
+//! - its rows of the conformance cases (`words/`).
 #![tactic(auto)]
 
 mod flight;
