@@ -30,7 +30,7 @@ pub fn case(d: &mut Draws) -> Case {
 /// The bits of a line: a word's, now and then any with sync pairs, or any at all.
 fn bits(d: &mut Draws) -> [u8; 90] {
     let count = d.pick(&COUNTS[1..]);
-    let mut bits = line_bits(&label(count, d), d.below(2) as u8, d.next() as u32);
+    let mut bits = line_bits(&label(count, d), d.below(2) as u8, user_bits(d));
     match d.below(12) {
         0 => bits.iter_mut().for_each(|bit| *bit = d.below(2) as u8),
         1 | 2 => {
@@ -42,6 +42,17 @@ fn bits(d: &mut Draws) -> [u8; 90] {
         _ => {}
     }
     bits
+}
+
+/// User bits by chance; one time in three they bring a 1 and a 0 again in each ten bits.
+fn user_bits(d: &mut Draws) -> u32 {
+    let any = d.next() as u32;
+    match d.below(9) {
+        0 => any & 0xcccc_cccc | 0x1111_1111,
+        1 => any & 0x9999_9999 | 0x2222_2222,
+        2 => any & 0x3333_3333 | 0x4444_4444,
+        _ => any,
+    }
 }
 
 /// How a word is drawn: where it begins, how wide its cells are, in 1,000ths of a pixel, and its levels.

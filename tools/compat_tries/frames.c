@@ -57,7 +57,9 @@ static void try_bits(void) {
            ltc_frame_parse_bcg_flags(&frame, LTC_TV_525_60), ltc_frame_parse_bcg_flags(&frame, LTC_TV_625_50));
     ltc_frame_set_parity(&frame, (enum LTC_TV_STANDARD)below(4));
     print_bits(" parity", &frame);
-    printf(" alignment %lld\n", ltc_frame_alignment(below(100000) / 17.0, (enum LTC_TV_STANDARD)below(4)));
+    /* One draw a statement: C leaves open in which order arguments are worked out. */
+    double samples = below(100000) / 17.0;
+    printf(" alignment %lld\n", ltc_frame_alignment(samples, (enum LTC_TV_STANDARD)below(4)));
 }
 
 static void try_label(void) {
@@ -71,7 +73,9 @@ static void try_label(void) {
     memset(&time, 0, sizeof time);
     any_bits(&frame);
     frame.dfbit = kind == 3;
-    snprintf(time.timezone, sizeof time.timezone, "%c%02u%02u", below(2) ? '+' : '-', below(13), 30 * below(2));
+    char sign = below(2) ? '+' : '-';
+    unsigned hours = below(13), minutes = 30 * below(2);
+    snprintf(time.timezone, sizeof time.timezone, "%c%02u%02u", sign, hours, minutes);
     time.years = edge(100);
     time.months = (unsigned char)(1 + edge(12));
     time.days = (unsigned char)(1 + edge(28));
