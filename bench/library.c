@@ -5,7 +5,8 @@
  *     ./library FILE SYSTEM [TIMES [READER]]
  *
  * FILE has 16-bit samples of one channel at 48,000 a second, as they lie in memory, and is read TIMES times
- * (20), each time by a new reader: by each of normal, worn, rough and libltc, or by the one that is named. A line
+ * (20), each time by a new reader: by each of normal, worn, rough, fixed and libltc, or by the one that is named. The
+ * thresholds follow the sound, but for that of fixed, which has the normal tolerance. A line
  * for each: processor time for a sample, samples a second, and words. Instructions are counted by
  * `valgrind --tool=callgrind ./library FILE SYSTEM 1 READER`. */
 #define _POSIX_C_SOURCE 199309L
@@ -28,9 +29,12 @@ static double seconds(void) {
     return (double)now.tv_sec + (double)now.tv_nsec / 1e9;
 }
 
-static size_t by_tc(uint32_t system, uint32_t tolerance) {
+/* A threshold that does not follow the sound. */
+enum { FIXED = 4000 };
+
+static size_t by_tc(uint32_t system, uint32_t tolerance, uint32_t follows, uint32_t threshold) {
     static tc_reader reader;
-    tc_settings settings = {system, tolerance, 1, 250, 16, 1, 0};
+    tc_settings settings = {system, tolerance, follows, threshold, 16, 1, 0};
     tc_event events[64];
     size_t words = 0;
     if (!tc_reader_init(&reader, &settings)) {
@@ -64,9 +68,10 @@ static size_t by_libltc(uint32_t system) {
 }
 #endif
 
-static size_t by_normal(uint32_t system) { return by_tc(system, 0); }
-static size_t by_worn(uint32_t system) { return by_tc(system, 1); }
-static size_t by_rough(uint32_t system) { return by_tc(system, 2); }
+static size_t by_normal(uint32_t system) { return by_tc(system, 0, 1, 250); }
+static size_t by_worn(uint32_t system) { return by_tc(system, 1, 1, 250); }
+static size_t by_rough(uint32_t system) { return by_tc(system, 2, 1, 250); }
+static size_t by_fixed(uint32_t system) { return by_tc(system, 0, 0, FIXED); }
 
 static const struct reader {
     const char *name;
@@ -75,6 +80,7 @@ static const struct reader {
     {"normal", by_normal},
     {"worn", by_worn},
     {"rough", by_rough},
+    {"fixed", by_fixed},
 #ifdef WITH_LIBLTC
     {"libltc", by_libltc},
 #endif
