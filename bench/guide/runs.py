@@ -6,7 +6,7 @@ from typing import NamedTuple
 
 HERE = os.path.dirname(os.path.abspath(__file__))
 EXITED, KILLED, TOO_LONG = range(3)
-MOST_WORDS = 64
+MOST_WORDS = 400
 # how calls of the program may be made to fail: these are those of `runs.c`, in its order
 FAULTS = ("none", "read-pieces", "read-fails", "write-fails", "write-pieces", "no-memory")
 
