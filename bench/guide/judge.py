@@ -38,7 +38,9 @@ def complaint(case, ended, most_output):
     if ended.code not in NOTES or not re.fullmatch(NOTES[ended.code], ended.note):
         return f"status {ended.code}, note {ended.note[:200]!r}"
     is_full = len(ended.output) >= most_output
-    if (ended.code == 8) != (not is_text(case.words)):
+    # (the words are copied before they are judged, and there may be no memory for that)
+    lacks_memory = ended.code == 6 and case.fault == "no-memory" and ended.is_faulted
+    if (ended.code == 8) != (not is_text(case.words)) and not lacks_memory:
         return f"status {ended.code}: words that are {'no ' if ended.code != 8 else ''}UTF-8"
     if ended.code in (2, 6, 8) and ended.output:
         return f"status {ended.code}, and something was printed"
