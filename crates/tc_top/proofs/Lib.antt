@@ -3,6 +3,7 @@ mod FormsWritten
 mod LabelsHeard
 mod LinesAreInput
 mod NamedAgain
+mod PagesWritten
 mod ReadOn
 mod SentIsRead
 mod SlicedAgain

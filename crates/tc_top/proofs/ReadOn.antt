@@ -10,7 +10,8 @@ use Rattle.interval_file.specs.declared.header.IntervalHeader.{IntervalHeader}
 use Rattle.interval_file.specs.Grammar.{IsFile}
 use Rattle.interval_file.specs.Recording.{Recording, recording_of}
 use Rattle.tc_job.specs.declared.job.Job.{Job}
-use Rattle.tc_job.specs.declared.job.Job.TheVariants.{LtcMtc, LtcJam, LtcPcm, Number, LabelOf, Labels, Help}
+use Rattle.tc_job.specs.declared.job.Job.TheVariants.{LtcMtc, LtcJam, LtcPcm, Number, LabelOf, Labels, Help, HelpOf}
+use Rattle.tc_job.specs.declared.job.Job.TheVariants.{HelpStatuses}
 use Rattle.tc_job.specs.Jam.{Jamming}
 use Rattle.tc_job.specs.LabelRun.{LabelRunning}
 use Rattle.tc_command.specs.Meaning.{Meaning, IsInput}
@@ -23,6 +24,7 @@ use Rattle.tc_top.specs.Promises.{IsReadOn}
 use Rattle.tc_top.proofs.FormsWritten.{FormsLaws, tells_the_forms}
 use Rattle.tc_top.proofs.LabelsHeard.{HaveLabels}
 use Rattle.tc_top.proofs.NamedAgain.{LabelsLaws, named_again, numbered_by_text}
+use Rattle.tc_top.proofs.PagesWritten.{PagesLaws, tells_of_the_command, tells_of_the_statuses}
 use Rattle.tc_top.proofs.SentIsRead.{AreReadBack, sends_the_frames}
 use Rattle.tc_top.proofs.SlicedAgain.{SoundLaws, sliced_again}
 
@@ -34,6 +36,7 @@ pub record ReadOnLaws : Type 1 where
   pub back : AreReadBack
   pub numbers : LabelsLaws
   pub forms : FormsLaws
+  pub pages : PagesLaws
   pub sound : SoundLaws
   pub again : (run : LabelRunning) (bytes written : List ℕ) → IsInput (along_labels run) bytes
       → Meaning.output (along_labels run) bytes written → IsAnsweredAgain run bytes written
@@ -62,4 +65,7 @@ read_on laws (Number label) level = λ pulled written are input output. named_ag
 read_on laws (LabelOf label) level = λ pulled written are input output. numbered_by_text label pulled written
 read_on laws (Labels run) level = λ pulled written are input output. laws.again run pulled written input output
 read_on laws Help level = λ pulled written are input output. tells_the_forms laws.forms written output.1
+read_on laws (HelpOf page) level = λ pulled written are input output.
+    tells_of_the_command laws.pages page written output.1
+read_on laws HelpStatuses level = λ pulled written are input output. tells_of_the_statuses laws.pages written output.1
 read_on laws job level = λ pulled written are input output. tt

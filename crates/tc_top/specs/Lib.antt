@@ -4,6 +4,7 @@ pub mod Commands
 pub mod Exit
 pub mod FormsTyped
 pub mod LabelsAgain
+pub mod PagesTold
 pub mod Promises
 pub mod SentAgain
 pub mod SoundAgain
