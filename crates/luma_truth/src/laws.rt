@@ -49,8 +49,8 @@ pub fn a_field_has_the_line_of_a_clean_drawing()
     a_row_says_one_thing();
 }
 
-/// The place with the deepest falls falls no less than the coarse place. So if it is a summit, it lies in a drawing that
-/// stands alone; and if the word fits nowhere earlier, that is the place of the word.
+/// The place with the deepest falls falls no less than the coarse place. So if it is a summit, it lies in a drawing
+/// that stands alone; and if the word fits nowhere earlier, that is the place of the word.
 pub fn a_drawing_that_stands_alone_is_found()
     ensures falls { (row : List ℕ) (place : Place) (lies : LiesAt row place)
         → FallsNoLess row lies.coarse lies.deepest }
