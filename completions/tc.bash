@@ -1,8 +1,9 @@
 # bash completion of tc: commands, and the values that are one of a few words.
 _tc() {
     local word=${COMP_WORDS[COMP_CWORD]} command=${COMP_WORDS[1]} values=
+    local commands="ltc-read ltc-worn ltc-rough ltc-fly ltc-spans ltc-mtc ltc-jam ltc-make ltc-load ltc-convert pcm-ltc wav-ltc ltc-pcm mtc-read vitc-read luma-vitc vitc-make chase ltc-chase number label labels help version"
     if [ "$COMP_CWORD" -eq 1 ]; then
-        values="ltc-read ltc-worn ltc-rough ltc-fly ltc-spans ltc-mtc ltc-jam ltc-make ltc-load ltc-convert pcm-ltc wav-ltc ltc-pcm mtc-read vitc-read luma-vitc vitc-make chase ltc-chase number label labels help version"
+        values=$commands
     else
         case $command:$COMP_CWORD in
             number:2 | label:2 | labels:2 | ltc-make:2 | chase:2 | ltc-chase:2) values="24 25 30 30d" ;;
@@ -27,6 +28,7 @@ _tc() {
             wav-ltc:5) values="path live" ;;
             wav-ltc:7) values="live" ;;
             wav-ltc:6) values="deep live" ;;
+            help:2) values="$commands statuses" ;;
         esac
     fi
     mapfile -t COMPREPLY < <(compgen -W "$values" -- "$word")

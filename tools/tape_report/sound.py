@@ -16,6 +16,8 @@ from .wave import NO_SIZE, Wave, is_wave, wave_of
 
 # Forms whose header has no length: ffprobe estimates it.
 ESTIMATED = ("mp3", "aac", "ac3", "eac3")
+# Files of `tc` that are no sound, by their first bytes, and the command that reads each.
+READ_BY_TC = {b"LTCI": ("an interval file", "ltc-read"), b"VITL": ("a line file", "vitc-read")}
 
 
 @dataclass(frozen=True)
@@ -141,6 +143,9 @@ def sound_of(source: Source) -> Sound:
             head = file.read(12)
         if not head:
             raise NoSound("it is empty")
+        if head[:4] in READ_BY_TC:
+            what, command = READ_BY_TC[head[:4]]
+            raise NoSound(f"it is {what} and no sound: tc {command} < {source.name}")
         if not is_wave(head):
             return decoded_sound(source, None)
         form = wave_of(source.path)

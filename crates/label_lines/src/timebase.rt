@@ -6,7 +6,7 @@ use real_time::FrameRate;
 use tc_address::Count;
 
 /// How frames are counted, and at which rate they run.
-#[derive(Clone, Copy, Debug, PartialEq, Eq)]
+#[derive(Clone, Copy)]
 pub enum Timebase {
     /// 24 frames a second.
     F24,

@@ -6,7 +6,7 @@ use crate::timebase::Timebase;
 use tc_address::{Count, Label};
 
 /// What is answered of the label that a line says.
-#[derive(Clone, Copy, Debug, PartialEq, Eq)]
+#[derive(Clone, Copy)]
 pub enum Way {
     /// Its number in the day.
     Number,

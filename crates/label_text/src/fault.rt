@@ -1,7 +1,7 @@
 //! Where a line says no label.
 
 /// The first line that says no label, and its first column that does not fit.
-#[derive(Clone, Copy, Debug, PartialEq, Eq)]
+#[derive(Clone, Copy)]
 pub struct LineFault {
     /// Lines are counted from 1.
     pub line: u64,

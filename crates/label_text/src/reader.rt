@@ -18,7 +18,7 @@ pub const MAX_LINE: usize = 64;
 pub const MAX_LINES: u64 = 1_000_000_000;
 
 /// What a byte completes, or the end of a text.
-#[derive(Clone, Copy, Debug, PartialEq, Eq)]
+#[derive(Clone, Copy)]
 pub enum LineRead {
     /// No line, so far.
     Nothing,

@@ -1,5 +1,5 @@
--- A fall a cell away from both ends of a row is that of three places in pixels of the row; the sum of nine falls is that
--- of the pixel at which the first of them stands; and the places of a sync pair are found with two divisions.
+-- A fall a cell away from both ends of a row is that of three places in pixels of the row; the sum of nine falls is
+-- that of the pixel at which the first of them stands; and the places of a sync pair are found with two divisions.
 use Rattle.std.proofs.Common.{◌≡◌, ℕ, ◌+◌, ◌-◌, ◌*◌, ◌/◌, ◌%◌, ◌<◌, ◌≤◌, List, length, ap, ap₂, ◌∙◌, arith}
 use Rattle.luma_row.specs.declared.light.TheConstants.{EVEN}
 use Rattle.luma_row.specs.declared.place.Place.{Place}

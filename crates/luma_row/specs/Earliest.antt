@@ -24,7 +24,8 @@ fits_nearly row place other =
 unfoldable pub earliest_within : List ℕ → Place → ℕ → Place
 earliest_within row place zero = place
 earliest_within row place (suc cells) =
-    cond (fits_nearly row place (earlier place (suc cells))) (earlier place (suc cells)) (earliest_within row place cells)
+    cond (fits_nearly row place (earlier place (suc cells)))
+    (earlier place (suc cells)) (earliest_within row place cells)
 
 -- the earliest of those up to eight cells earlier
 abbrev pub earliest : List ℕ → Place → Place

@@ -8,9 +8,8 @@ use Rattle.luma_row.specs.declared.width.TheConstants.{MIN_WIDTH, MAX_WIDTH}
 abbrev pub IsRow : List ℕ → Type 0
 IsRow row = (MIN_WIDTH ≤ length row) × (length row ≤ MAX_WIDTH)
 
--- the light up to a place: sixteen times each whole pixel before it, and the part of the pixel that it stands in.
--- Behind
--- the row all is dark.
+-- the light up to a place: sixteen times each whole pixel before it, and the part of the pixel that the place is in.
+-- Behind the row all is dark
 unfoldable pub light : List ℕ → ℕ → ℕ
 light row place = 16 * sum (take (place / 16) row) + place % 16 * get_or row (place / 16) 0
 

@@ -22,7 +22,8 @@ darkest row = fold min 255 row
 abbrev pub has_contrast : List ℕ → Bool
 has_contrast row = leb 8 (lightest row - darkest row)
 
--- where a word lies in a row: its sync pairs fall at the coarse place, which is made finer, and it fits at no earlier one
+-- where a word lies in a row: its sync pairs fall at the coarse place, which is made finer, and the earliest place is
+-- taken at which the word fits nearly as well
 pub record LiesAt (row : List ℕ) (place : Place) : Type 0 where
   pub coarse : Place
   pub sum : ℕ

@@ -1,4 +1,4 @@
--- The remainder of a draw by an odd divisor, by a product and a shift with the factor that stands in a table.
+-- The remainder of a draw by an odd divisor, by a product and a shift with the factor that is in a table.
 use Rattle.std.proofs.Common.{◌≡◌, ℕ, ◌+◌, ◌-◌, ◌*◌, ◌/◌, ◌%◌, ◌^◌, ◌<◌, ◌≤◌, List, length, set, slice_index, sym, ap}
 use Rattle.std.proofs.Common.{◌∙◌, arith, inl, inr}
 use Rattle.std.proofs.Math.Nat.{div-mul-le_self, mod-eq-sub-div-mul}
@@ -30,7 +30,7 @@ is_divided value half factor small most is =
       below = rw same (omega (arith, high, one));
     }
 
--- by the factor that stands in the table
+-- by the factor that is in the table
 pub by_table : (factors : List ℕ) (value half : ℕ) → AreFactors factors → value < 2 ^ 44 → 1 ≤ half → half ≤ 512
     → IsDivided value (2 * half + 1) (value * slice_index factors half / 2 ^ 64)
 by_table factors value half are small least most =

@@ -27,7 +27,7 @@ first_of_none : (first : Option Address) → first ≡ first_of first []
 first_of_none None = refl
 first_of_none (Some x) = refl
 
--- with so many events more
+-- with a number of events more
 abbrev more_of : Counts → List Event → Counts
 more_of c events = record {
   words = c.words + count_by is_word events;

@@ -9,5 +9,7 @@ mod MadeIsRead
 mod MadeIsShort
 mod MadeLinesAreRead
 mod MadeLinesInPieces
+mod NotesTold
 mod OneLabel
+mod PageLines
 mod UsageLines

@@ -24,7 +24,7 @@ use Rattle.made_commands.specs.KeptStriping.{cell_bytes, rest_of}
 use Rattle.ltc_jam.specs.Word.{played_as, time_bits}
 use Rattle.made_commands.specs.Made.{frames_from}
 
--- the bytes of a cell, and those of the cells behind it
+-- the bytes of a cell, and those of the cells after it
 cell_bytes-next : (shape next : Shape) (cell : Cell) (bit : Bool) (tail : List Bool) → shaped shape (bit ∷ tail) ≡ cell
     ∷ shaped next tail
     → cell_bytes shape (bit ∷ tail) ≡ intervals_bytes One (intervals_of cell) ++ cell_bytes next tail

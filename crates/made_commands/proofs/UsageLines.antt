@@ -1,4 +1,4 @@
--- The lines of rows: there is room for the next one where there is room for all that are left.
+-- The lines of rows: there is room for the next one if there is room for all that are left.
 use Rattle.std.proofs.Common.{◌≡◌, ℕ, suc, ◌+◌, ◌<◌, ◌≤◌, List, ◌++◌, length, drop, map, get_or, arith}
 use Rattle.std.proofs.Common.{◌∙◌, ap, ap₂, append_assoc}
 use Rattle.std.specs.Prelude.{codes}

@@ -1,11 +1,11 @@
--- What the program tells of itself: `help` and `version`.
+-- What the program says of itself: `help` and `version`.
 use Rattle.std.specs.Prelude.{ℕ, List, ◌++◌, codes, map}
 use Rattle.std.specs.List.{flat_map}
 use Rattle.made_commands.specs.declared.about.TheConstants.{MANUAL, VERSION}
 use Rattle.tc_job.specs.declared.usages.TheConstants.{USAGES}
 use Rattle.tc_command.specs.Told.{Told, told_text}
 
--- the word of a command, and what stands behind it in its line
+-- the word of a command, and what follows it in its line
 abbrev pub Usage : Type 0
 Usage = List ℕ × List ℕ
 
@@ -29,7 +29,7 @@ help_text = usage_lines usages ++ MANUAL.now ++ codes "\n"
 abbrev pub version_line : List ℕ
 version_line = codes "tc " ++ VERSION.now ++ codes "\n"
 
--- what is told of `help` and `version`
+-- what is claimed of `help` and `version`
 abbrev pub told_help : Told
 told_help = told_text help_text
 

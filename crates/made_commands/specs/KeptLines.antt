@@ -8,7 +8,7 @@ use Rattle.vitc_reader.specs.Runs.{IsLineLength}
 use Rattle.line_file.specs.Grammar.{field_bytes}
 use Rattle.made_commands.specs.MadeLines.{field_lines, words_from}
 
--- the header where it is still to be written, the label of the next frame, how many frames there are to be, and the
+-- the header if it is still to be written, the label of the next frame, how many frames there are to be, and the
 -- length of their lines
 pub record Lining : Type 0 where
   pub header : Option (List ℕ)
@@ -25,7 +25,7 @@ pub record IsLining (l : Lining) : Type 0 where
 abbrev pub frame_bytes : ℕ → Address → ℕ → List ℕ
 frame_bytes length label frames = flat_map field_bytes (map (field_lines length) (words_from label frames))
 
--- behind the header, or with it
+-- after the header, or with it
 abbrev pub behind_head : Option (List ℕ) → List ℕ → List ℕ
 behind_head None fields = fields
 behind_head (Some header) fields = header ++ fields

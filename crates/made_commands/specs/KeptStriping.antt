@@ -9,11 +9,11 @@ use Rattle.tc_address.specs.Label.{Address}
 use Rattle.direction_reader.specs.Played.{bits_of_words}
 use Rattle.made_commands.specs.Made.{frames_from}
 
--- the intervals of the cells of bits, as they stand in a file
+-- the intervals of the cells of bits, as they are in a file
 abbrev pub cell_bytes : Shape → List Bool → List ℕ
 cell_bytes shape bits = intervals_bytes One (flat (shaped shape bits))
 
--- behind the header and the cells by which a reader locks, or with them
+-- after the header and the cells by which a reader locks, or with them
 abbrev pub rest_of : Option (List ℕ) → Shape → Direction → Address → ℕ → List ℕ
 rest_of None shape direction label frames = cell_bytes shape (bits_of_words (frames_from direction label frames))
 rest_of (Some header) shape direction label frames =

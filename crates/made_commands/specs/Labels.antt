@@ -13,7 +13,7 @@ number_line number = decimal number ++ codes "\n"
 abbrev pub label_line : Address → List ℕ
 label_line label = text_of label ++ codes "\n"
 
--- what was written is the line of a number, and the label stands at this place in the list of the labels of its day
+-- what was written is the line of a number, and the label is at this place in the list of the labels of its day
 pub record NumbersTheLabel (label : Address) (written : List ℕ) : Type 0 where
   pub number : ℕ
   pub are : written ≡ number_line number
@@ -25,7 +25,7 @@ pub record NamesTheLabel (label : Address) (written : List ℕ) : Type 0 where
   pub are : written ≡ text ++ codes "\n"
   pub read : label_in label.count text ≡ Some label
 
--- what is told of `number` and `label`
+-- what is claimed of `number` and `label`
 abbrev pub told_number : Address → Told
 told_number label = told_made (number_line (number_of label)) (NumbersTheLabel label)
 

@@ -8,3 +8,5 @@ pub mod Labels
 pub mod Load
 pub mod Made
 pub mod MadeLines
+pub mod Pages
+pub mod Statuses

@@ -39,7 +39,7 @@ IsChance g = (LEAST_LENGTH ≤ g.length) × (g.length ≤ GREATEST_LENGTH)
 abbrev pub begins_with : ℕ → Chance
 begins_with seed = record { state = seed; length = FIRST_LENGTH }
 
--- the length of a cell behind one of length c: an eighth of c longer or shorter at most, and from 64 to 4,096 ticks
+-- the length of a cell after one of length c: an eighth of c longer or shorter at most, and from 64 to 4,096 ticks
 abbrev pub next_length : ℕ → ℕ → ℕ
 next_length value c = max LEAST_LENGTH (min GREATEST_LENGTH (c + value / 2 ^ 40 % (2 * (c / 8) + 1) - c / 8))
 
@@ -47,7 +47,7 @@ next_length value c = max LEAST_LENGTH (min GREATEST_LENGTH (c + value / 2 ^ 40 
 abbrev pub first_half : ℕ → ℕ → ℕ
 first_half value c = c / 2 + value / 2 ^ 20 % (2 * ((c - 16) / 32) + 1) - (c - 16) / 32
 
--- behind one cell
+-- after one cell
 abbrev pub one_cell : Chance → Chance
 one_cell g = record { state = drawn g.state; length = next_length (drawn g.state) g.length }
 
@@ -61,7 +61,7 @@ abbrev pub cells_by : Chance → List Bool → List Cell
 cells_by g [] = []
 cells_by g (bit ∷ more) = cell_of bit (one_cell g) ∷ cells_by (one_cell g) more
 
--- behind them
+-- after them
 abbrev pub behind : Chance → List Bool → Chance
 behind g [] = g
 behind g (bit ∷ more) = behind (one_cell g) more
@@ -77,7 +77,7 @@ load_word label value =
 abbrev pub next_word : Chance → Address → Played
 next_word g label = record { direction = Forward; word = load_word label (drawn g.state) }
 
--- behind the draw of the user bits
+-- after the draw of the user bits
 abbrev pub one_draw : Chance → Chance
 one_draw g = record g { state = drawn g.state }
 
@@ -163,6 +163,6 @@ pub record IsAllRead (l : Loading) (written : List ℕ) : Type 0 where
   pub refused : count_by is_refused (load_events l) ≡ 0
   pub lost : count_by is_lost (load_events l) ≡ 0
 
--- what is told of `ltc-load`
+-- what is claimed of `ltc-load`
 abbrev pub told_ltc_load : Loading → Told
 told_ltc_load l = told_made (load_text l) (IsAllRead l)

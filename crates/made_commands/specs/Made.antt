@@ -53,6 +53,6 @@ pub record IsReadBack (s : Striping) (written : List ℕ) : Type 0 where
   pub file : IsFile written (made_header s) (flat (made_cells s))
   pub events : AreEvents (system_with s.label.count) Normal (flat (made_cells s)) (made_events s)
 
--- what is told of `ltc-make`
+-- what is claimed of `ltc-make`
 abbrev pub told_ltc_make : Striping → Told
 told_ltc_make s = told_made (made s) (IsReadBack s)

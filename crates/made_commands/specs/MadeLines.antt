@@ -62,6 +62,6 @@ pub record AreReadBack (s : LineStriping) (written : List ℕ) : Type 0 where
   pub file : reading_of written ≡ whole_reading (made_line_header s) (made_fields s)
   pub answers : AreAnswersOf (reading_of written) (map (λ word. Agreed word) (made_words s))
 
--- what is told of `vitc-make`
+-- what is claimed of `vitc-make`
 abbrev pub told_vitc_make : LineStriping → Told
 told_vitc_make s = told_made (made_lines s) (AreReadBack s)

@@ -1,5 +1,5 @@
-//! The commands that tell of the program itself: `help` and `version`.
-//! Read next: `tc_command/src/making.rt`.
+//! The commands about the program itself: `help` and `version`.
+//! Read next: `pages`, which is about one command.
 ghost use Rattle.std.specs.Prelude.{◌≡◌, ◌+◌, ◌≤◌, ◌++◌, length, map};
 ghost use Rattle.arrayvec.specs.ArrayVec.{array_vec_len};
 ghost use Rattle.made_commands.specs.About.{help_text, usage_line, usage_lines, version_line};
@@ -7,11 +7,12 @@ ghost use Rattle.made_commands.specs.KeptLine.{rest_of};
 ghost use Rattle.tc_command.specs.Told.{WorksAsTold};
 ghost use Rattle.made_commands.specs.About.{told_help, told_version};
 
+use arrayvec::ArrayVec;
 use tc_command::{Maker, PIECE, Piece, Stop, make};
 use tc_io::{Sink, Source, put_bytes};
 use tc_job::usages::USAGES;
 
-/// The number of this version, which stands in the file `VERSION` at the top too.
+/// The number of this version, which is in the file `VERSION` at the top too.
 pub const VERSION: &str = "1.0.0";
 
 /// The last line of `help`.
@@ -77,8 +78,8 @@ fn push_usages(usages: &[(&str, &str)], room: &mut Piece)
 }
 
 /// The line of a row.
-fn push_usage(command: &str, values: &str, room: &mut Piece)
-    requires { array_vec_len room.old + length (usage_line (command.now, values.now)) ≤ PIECE }
+pub(crate) fn push_usage<const N: usize>(command: &str, values: &str, room: &mut ArrayVec<u8, N>)
+    requires { array_vec_len room.old + length (usage_line (command.now, values.now)) ≤ N }
     ensures items { room.new.items ≡ room.old.items ++ usage_line (command.now, values.now) }
     ensures len { array_vec_len room.new ≡ array_vec_len room.old + length (usage_line (command.now, values.now)) }
 {

@@ -3,11 +3,11 @@
 ghost use Rattle.std.specs.Prelude.{◌≡◌, ◌<◌, ◌≤◌, ◌+◌, ◌*◌, ◌%◌, ◌^◌};
 ghost use Rattle.made_commands.specs.KeptDivisors.{AreFactors, factor_of};
 
-/// A divisor is told by its half, rounded down. So many halves there are, with that of 1.
+/// How many halves there are: a divisor is known by its half, rounded down, and 1 is counted too.
 const HALVES: usize = 513;
 
 /// The odd divisors from 3 to 1,025, and of each what a number is multiplied with in place of a division: the
-/// quotient stands in the upper 64 bits of the product.
+/// quotient is in the upper 64 bits of the product.
 #[derive(Drop)]
 pub(crate) struct Divisors {
     factors: [u64; HALVES],

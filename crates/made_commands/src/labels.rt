@@ -40,7 +40,7 @@ pub fn tell_label<S: Source, K: Sink>(
     make(&mut OneLine::label(label), source, out)
 }
 
-/// What is told of `label` holds: the text that is written is read as the label.
+/// What is claimed of `label` holds: the text that is written is read as the label.
 fn a_name_is_told(label: &Label)
     ensures { IsTold (told_label label.now) }
 {
@@ -49,14 +49,14 @@ fn a_name_is_told(label: &Label)
     let _count = label.count();
 }
 
-/// What is told of `label` is lawful.
+/// What is claimed of `label` is lawful.
 pub fn names_are_lawful()
     ensures { (label : Address) → IsLawful (told_label label) }
 {
     a_text_is_read_as_its_label();
 }
 
-/// Works `number`: how many labels of its count stand before a label in the day.
+/// Works `number`: how many labels of its count come before a label in the day.
 pub fn tell_number<S: Source, K: Sink>(
     label: &Label,
     source: &mut S,
@@ -69,7 +69,7 @@ pub fn tell_number<S: Source, K: Sink>(
     make(&mut OneLine::number(label), source, out)
 }
 
-/// What is told of `number` holds: the label stands at the place that is written.
+/// What is claimed of `number` holds: the label is at the place that is written.
 fn a_number_is_told(label: &Label)
     ensures { IsTold (told_number label.now) }
 {
@@ -78,7 +78,7 @@ fn a_number_is_told(label: &Label)
     let _count = label.count();
 }
 
-/// What is told of `number` is lawful.
+/// What is claimed of `number` is lawful.
 pub fn numbers_are_lawful()
     ensures { (label : Address) → IsLawful (told_number label) }
 {
@@ -92,7 +92,7 @@ struct OneLine {
 }
 
 impl OneLine {
-    /// The line of `number`: how many labels of its count stand before the label in the day.
+    /// The line of `number`: how many labels of its count come before the label in the day.
     fn number(label: &Label) -> OneLine
         ensures { rest_of result.line ≡ number_line (number_of label.now) }
     {

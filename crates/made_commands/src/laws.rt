@@ -1,5 +1,5 @@
 //! What follows from the definitions alone.
-ghost use Rattle.std.specs.Prelude.{◌≡◌, ◌≤◌, codes, length, None, Some};
+ghost use Rattle.std.specs.Prelude.{◌≡◌, ◌≤◌, ℕ, List, [], ◌∷◌, codes, length, map, None, Some};
 ghost use Rattle.biphase.specs.Chain.{flat};
 ghost use Rattle.interval_file.specs.Recording.{end_fault_of, recording_of};
 ghost use Rattle.tc_io.specs.Verdict.{good};
@@ -12,6 +12,9 @@ ghost use Rattle.made_commands.specs.declared.chance.TheConstants as chance;
 ghost use Rattle.made_commands.specs.About.{usage_line, version_line};
 ghost use Rattle.made_commands.specs.Labels.{label_line};
 ghost use Rattle.made_commands.specs.Made.{made, made_cells, made_header, IsReadBack};
+ghost use Rattle.made_commands.specs.Pages.{exit_numbers};
+ghost use Rattle.made_commands.specs.Statuses.{TellTheNotes, told_note};
+ghost use Rattle.tc_command.specs.declared.status.Status.TheVariants as statuses;
 ghost use Rattle.made_commands.specs.MadeLines.{made_lines, AreReadBack};
 
 use biphase::laws::shaped_cells_are_a_chain;
@@ -72,3 +75,17 @@ pub fn lines_that_are_made_are_read_back()
     runs_of_a_line_fit_the_file();
     line_files_are_read_as_they_were_written();
 }
+
+/// `help statuses` has each exit number once, in their order, and how its notes begin: 8 is that of no
+/// status, and like 0 has no note.
+pub fn help_tells_of_each_status()
+    ensures numbers { map {B = List ℕ} (λ row. row.1) exit_numbers ≡ codes "0  " ∷ codes "2  " ∷ codes "3  "
+        ∷ codes "4  " ∷ codes "5  " ∷ codes "6  " ∷ codes "7  " ∷ codes "8  " ∷ [] }
+    ensures notes { TellTheNotes }
+    ensures usage { told_note statuses.Usage ≡ codes "tc: usage: " }
+    ensures refused { told_note statuses.Refused ≡ codes "tc: refused: " }
+    ensures read { told_note statuses.ReadFault ≡ codes "tc: read fault" }
+    ensures write { told_note statuses.WriteFault ≡ codes "tc: write fault" }
+    ensures memory { told_note statuses.Memory ≡ codes "tc: out of memory" }
+    ensures limit { told_note statuses.Limit ≡ codes "tc: limit" }
+{}

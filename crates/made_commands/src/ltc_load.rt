@@ -47,7 +47,7 @@ pub(crate) struct Counts {
 }
 
 impl Counts {
-    /// One event more, where there is one.
+    /// One event more, if there is one.
     fn add(&mut self, event: Option<Event>)
         requires { total self.old < 2 ^ 40 }
         ensures counted { self.new ≡ fold with_event self.old (listed event) }
@@ -232,7 +232,7 @@ fn is_all_read(run: &LoadRun)
     let _label = first_label(run.seed());
 }
 
-/// What is told of `ltc-load` holds: each word of a run is read, and nothing else.
+/// What is claimed of `ltc-load` holds: each word of a run is read, and nothing else.
 pub(crate) fn a_load_is_told(run: &LoadRun)
     ensures { IsTold (told_ltc_load run.now) }
 {
@@ -240,7 +240,7 @@ pub(crate) fn a_load_is_told(run: &LoadRun)
     is_all_read(run);
 }
 
-/// What is told of `ltc-load` is lawful.
+/// What is claimed of `ltc-load` is lawful.
 pub fn loads_are_lawful()
     ensures { (run : Loading) → IsLawful (told_ltc_load run) }
 {}

@@ -38,7 +38,7 @@ pub fn make_recording<S: Source, K: Sink>(
     make(&mut UnmadeRecording::new(stripe), source, out)
 }
 
-/// What is told of `ltc-make` holds: what is made is read back, frame by frame.
+/// What is claimed of `ltc-make` holds: what is made is read back, frame by frame.
 fn a_stripe_is_told(stripe: &Stripe)
     ensures { IsTold (told_ltc_make stripe.now) }
 {
@@ -47,7 +47,7 @@ fn a_stripe_is_told(stripe: &Stripe)
     let _frames = stripe.frames();
 }
 
-/// What is told of `ltc-make` is lawful.
+/// What is claimed of `ltc-make` is lawful.
 pub fn stripes_are_lawful()
     ensures { (stripe : Striping) → IsLawful (told_ltc_make stripe) }
 {}

@@ -53,7 +53,7 @@ pub fn make_lines<S: Source, K: Sink>(
     make(&mut UnmadeLines::new(stripe), source, out)
 }
 
-/// What is told of `vitc-make` holds: what is made is read back, field by field.
+/// What is claimed of `vitc-make` holds: what is made is read back, field by field.
 fn a_line_stripe_is_told(stripe: &LineStripe)
     ensures { IsTold (told_vitc_make stripe.now) }
 {
@@ -62,7 +62,7 @@ fn a_line_stripe_is_told(stripe: &LineStripe)
     let _frames = stripe.frames();
 }
 
-/// What is told of `vitc-make` is lawful.
+/// What is claimed of `vitc-make` is lawful.
 pub fn line_stripes_are_lawful()
     ensures { (stripe : LineStriping) → IsLawful (told_vitc_make stripe) }
 {}

@@ -31,7 +31,7 @@ pub fn frame_of(rate: FrameRate, millisecond: u64) -> u64
 }
 
 /// What is shown of another rate.
-#[derive(Clone, Copy, Debug, PartialEq, Eq)]
+#[derive(Clone, Copy)]
 pub struct Shown {
     /// The frame, counted from midnight, whatever a day has.
     pub frame: u64,

@@ -3,7 +3,7 @@ ghost use Rattle.std.specs.Prelude.{◌≡◌, ◌≤◌};
 ghost use Rattle.real_time.specs.Rate.{frames_in, seconds_of};
 
 /// How many frames pass in real time.
-#[derive(Clone, Copy, Debug, PartialEq, Eq)]
+#[derive(Clone, Copy)]
 pub enum FrameRate {
     /// 24 frames a second.
     R24,

@@ -10,7 +10,7 @@ use pcm_front::{MAX_SMOOTH, MAX_THRESHOLD, Pace, Threshold};
 use tc_address::System;
 
 /// How a sound is read.
-#[derive(Clone, Copy, Debug, PartialEq, Eq)]
+#[derive(Clone, Copy)]
 pub struct SoundSettings {
     /// How many frames a second the code has.
     pub system: System,

@@ -9,7 +9,7 @@ pub const MAX_SUMMED: u32 = 65_536;
 pub const MAX_TICKS: u32 = 65_536;
 
 /// How samples become steps.
-#[derive(Clone, Copy, Debug, PartialEq, Eq)]
+#[derive(Clone, Copy)]
 pub enum Grid {
     /// Each sample stands for several steps.
     Repeat(u32),

@@ -4,7 +4,7 @@ use biphase::Profile;
 use tc_address::System;
 
 /// How a tape is read. Each of them has its meaning with each of the others.
-#[derive(Clone, Copy, Debug, PartialEq, Eq)]
+#[derive(Clone, Copy)]
 pub struct TapeSettings {
     /// How many frames a second the code has.
     pub system: System,

@@ -1,4 +1,4 @@
--- From 140 samples a frame on a cell at play speed has 14 steps or more where a sample has eight, and each further grid
+-- From 140 samples a frame on a cell at play speed has 14 steps or more if a sample has eight, and each further grid
 -- halves them, so one has from 14 to 27; below that no grid has 14.
 use Rattle.std.proofs.Common.{◌≡◌, ℕ, ◌*◌, ◌/◌, ◌<◌, ◌≤◌, Bool, true, false, List, [], ◌∷◌, Option, Some, None}
 use Rattle.std.proofs.Common.{refl, sym, ◌∙◌, ap, arith}
@@ -26,7 +26,7 @@ unfit : (steps : ℕ) → 14 ≤ steps → (nat_le 14 steps && nat_le steps 27) 
 unfit steps least unfits =
     leb-false steps 27 (sym (ap (λ (b : Bool). b && nat_le steps 27) (le-leb 14 steps least)) ∙ unfits)
 
--- the first grid is fit, or one behind it
+-- the first grid is fit, or one after it
 or_next : (system : System) (rate : ℕ) (grid : Grid) (more : List Grid) (ticks : ℕ) → step_ticks 16 grid ≡ Some ticks
     → 14 ≤ steps_of_cell system rate grid → (28 ≤ steps_of_cell system rate grid → Has system rate more)
     → Has system rate (grid ∷ more)

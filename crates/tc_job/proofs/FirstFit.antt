@@ -17,7 +17,7 @@ first_here system rate zero (grid ∷ more) other within fit =
 first_here system rate (suc index) (grid ∷ more) other within fit =
     first_here system rate index more other (omega arith) fit
 
--- or one behind it
+-- or one after it
 pub first_behind : (system : System) (rate : ℕ) (index : ℕ) (list : List Grid) (other : Grid) → index < length list
     → is_fit system rate (get_or list index other) ≡ false
     → first_fit system rate (drop index list) ≡ first_fit system rate (drop (suc index) list)

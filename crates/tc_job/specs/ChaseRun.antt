@@ -1,4 +1,4 @@
--- What is told of a chase over the frames of a recording.
+-- What the words say of a chase over the frames of a recording.
 use Rattle.std.specs.Prelude.{ℕ, ◌^◌, ◌<◌, ◌≤◌}
 use Rattle.tc_address.specs.Label.{Address, IsLabel}
 use Rattle.tc_job.specs.declared.flight.Flight.{Flight}

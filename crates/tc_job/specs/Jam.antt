@@ -1,4 +1,4 @@
--- What is told of a clean recording that is to be made.
+-- What the words say of a clean recording that is to be made.
 use Rattle.std.specs.Prelude.{ℕ, ◌≤◌}
 use Rattle.biphase.specs.Shape.{IsShaped}
 use Rattle.tc_job.specs.declared.flight.Flight.{Flight}

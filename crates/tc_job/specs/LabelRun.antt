@@ -1,4 +1,4 @@
--- What is told of the labels of a text.
+-- What the words say of the labels of a text.
 use Rattle.label_lines.specs.declared.timebase.Timebase.{Timebase}
 use Rattle.label_lines.specs.declared.way.Way.{Way}
 

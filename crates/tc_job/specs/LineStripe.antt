@@ -1,4 +1,4 @@
--- What is told of a line file that is to be made.
+-- What the words say of a line file that is to be made.
 use Rattle.std.specs.Prelude.{ℕ, ◌≤◌}
 use Rattle.tc_address.specs.Count.{system_with}
 use Rattle.tc_address.specs.Label.{Address, IsLabel}

@@ -1,4 +1,4 @@
--- What is told of a load run.
+-- What the words say of a load run.
 use Rattle.std.specs.Prelude.{ℕ, ◌^◌, ◌<◌, ◌≤◌}
 use Rattle.tc_job.specs.declared.load_run.TheConstants.{MAX_WORDS}
 

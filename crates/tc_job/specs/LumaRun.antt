@@ -1,4 +1,4 @@
--- What is told of fields of pixels that are to be read.
+-- What the words say of fields of pixels that are to be read.
 use Rattle.tc_address.specs.declared.system.System.{System}
 use Rattle.luma_field.specs.Raster.{RasterSize}
 use Rattle.vitc_line.specs.Places.{HasLines}

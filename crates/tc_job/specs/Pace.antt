@@ -11,6 +11,6 @@ abbrev pub quarter_frame : System → ℕ → ℕ
 quarter_frame system tick_rate = min (max (tick_rate / (4 * rate_of system)) 1) MAX_INTERVAL
 
 -- when the intervals of a distance are written, of time code of a system, at this many ticks a second: as it passes, in
--- quarters of a frame, where the recording is live
+-- quarters of a frame, if the recording is live
 abbrev pub pace_of : Bool → System → ℕ → Pace
 pace_of live system tick_rate = cond live (Passing (quarter_frame system tick_rate)) Ended

@@ -32,7 +32,7 @@ first_fit system rate (grid ∷ more) = if is_fit system rate grid then Some gri
 abbrev pub grid_for : System → ℕ → Option Grid
 grid_for system rate = first_fit system rate grids
 
--- a step has a whole number of ticks, two at least and not too many, where a sample has `fineness`
+-- a step has a whole number of ticks, two at least and not too many, if a sample has `fineness`
 abbrev pub step_ticks : ℕ → Grid → Option ℕ
 step_ticks fineness (Repeat repeats) =
     if (fineness % repeats == 0) && nat_le 2 (fineness / repeats) then Some (fineness / repeats) else None

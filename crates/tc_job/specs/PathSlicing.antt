@@ -1,4 +1,4 @@
--- What is told of sound whose best path is to be written.
+-- What the words say of sound whose best path is to be written.
 use Rattle.std.specs.Prelude.{◌≡◌, ℕ, ◌*◌, ◌^◌, ◌≤◌, Some}
 use Rattle.step_grid.specs.declared.grid.Grid.{Grid}
 use Rattle.step_grid.specs.Grid.{IsGrid}

@@ -1,4 +1,4 @@
--- What is told of sound that is to be sliced, and of sound that is to be made.
+-- What the words say of sound that is to be sliced, and of sound that is to be made.
 use Rattle.std.specs.Prelude.{ℕ, ◌*◌, ◌≤◌, Bool}
 use Rattle.pcm_front.specs.declared.threshold.Threshold.{Threshold}
 use Rattle.pcm_front.specs.declared.window.TheConstants.{MAX_SMOOTH}

@@ -1,4 +1,4 @@
--- What is told of a recording that is to be made.
+-- What the words say of a recording that is to be made.
 use Rattle.std.specs.Prelude.{ℕ, ◌≤◌}
 use Rattle.biphase.specs.Shape.{Shape, IsShape}
 use Rattle.tc_address.specs.declared.direction.Direction.{Direction}

@@ -1,4 +1,4 @@
--- What is told of a sound file of whose track the best path is to be written.
+-- What the words say of a sound file of whose track the best path is to be written.
 use Rattle.std.specs.Prelude.{ℕ, ◌*◌, ◌≤◌, Option, Some, None}
 use Rattle.std.specs.Option.{option_map}
 use Rattle.step_grid.specs.declared.grid.Grid.{Grid}
@@ -25,7 +25,7 @@ pub record IsTrackPath (t : SlicesTrackPath) : Type 0 where
   pub not_too_many : t.track ≤ MAX_TRACKS
   pub level : IsLevel t.least
 
--- the least rate of a file, in samples a second: 140 samples a frame, so that a cell at play speed has 14 steps where a
+-- the least rate of a file, in samples a second: 140 samples a frame, so that a cell at play speed has 14 steps if a
 -- sample has eight
 abbrev pub least_rate_of : System → ℕ
 least_rate_of system = 140 * rate_of system

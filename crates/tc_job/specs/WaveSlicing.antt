@@ -1,4 +1,4 @@
--- What is told of a sound file that is to be sliced.
+-- What the words say of a sound file that is to be sliced.
 use Rattle.std.specs.Prelude.{ℕ, ◌≤◌, Bool}
 use Rattle.pcm_front.specs.declared.threshold.Threshold.{Threshold}
 use Rattle.pcm_front.specs.declared.window.TheConstants.{MAX_SMOOTH}

@@ -1,4 +1,4 @@
-//! What `ltc-chase` is told: where the chase begins, how the frames are had that it follows, and how the
+//! What the words of `ltc-chase` say: where the chase begins, how the frames are had that it follows, and how the
 //! transport slips.
 ghost use Rattle.std.specs.Prelude.{◌≡◌};
 ghost use Rattle.tc_job.specs.ChaseRun.{IsChasing, chasing_of};
@@ -7,7 +7,7 @@ use crate::flight::Flight;
 use std::marker::Model;
 use tc_address::Label;
 
-/// How far a transport may be told to slip in a step, in subframes.
+/// How far a transport may be made to slip in a step, in subframes.
 pub const MAX_SLIP: u32 = 1_000;
 
 /// A chase over the frames of a recording, whose transport slips by chance.
@@ -32,7 +32,7 @@ impl Model for ChaseRun {
 }
 
 impl ChaseRun {
-    /// From this label on, over frames that are had so, and with slips from this seed of at most so many
+    /// From this label on, over the frames of this flight, and with slips from this seed of at most this many
     /// subframes.
     pub fn new(label: Label, flight: Flight, seed: u64, bound: u32) -> ChaseRun
         requires { IsChasing (chasing_of label flight seed bound) }

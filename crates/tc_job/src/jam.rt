@@ -1,4 +1,4 @@
-//! What `ltc-jam` is told: how the frames are had, and what the clean recording is made of.
+//! What the words of `ltc-jam` say: how the frames are had, and what the clean recording is made of.
 ghost use Rattle.std.specs.Prelude.{◌≡◌};
 ghost use Rattle.tc_job.specs.Jam.{IsJamming, jamming_of};
 
@@ -26,7 +26,7 @@ impl Model for Jam {
 }
 
 impl Jam {
-    /// Of frames that are had so, in cells of so many ticks of a clock of so many ticks a second.
+    /// Of the frames of this flight, in cells of this many ticks, at this tick rate.
     pub fn new(flight: Flight, cell: u32, tick_rate: u32) -> Jam
         requires { IsJamming (jamming_of flight cell tick_rate) }
         ensures { result ≡ jamming_of flight cell tick_rate }

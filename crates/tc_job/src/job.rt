@@ -37,7 +37,7 @@ pub enum Job {
     /// witness, or not.
     LtcRough { witness: Witness },
     /// `ltc-fly LIMIT [worn|rough [firm]]`: reads an interval file, and writes a line for each frame of its words,
-    /// with at most so many invented frames in a row.
+    /// with at most this many invented frames in a row.
     LtcFly { flight: Flight },
     /// `ltc-spans LIMIT [worn|rough [firm]]`: reads an interval file, and writes a line for each span of the same
     /// frames, and for each gap between two.
@@ -56,7 +56,7 @@ pub enum Job {
     /// `ltc-make COUNT DIRECTION LABEL FRAMES CELL TICK-RATE [TO-CELL STEP]`: makes an interval file of
     /// these frames.
     LtcMake { stripe: Stripe },
-    /// `ltc-load SEED WORDS`: makes a recording of so many words by chance, reads it, and writes one line.
+    /// `ltc-load SEED WORDS`: makes a recording of this many words by chance, reads it, and writes one line.
     LtcLoad { run: LoadRun },
     /// `ltc-convert VERSION`: reads an interval file, and writes it in this version.
     LtcConvert { version: FileVersion },
@@ -79,7 +79,7 @@ pub enum Job {
     LumaVitc { run: LumaRun },
     /// `vitc-make COUNT LABEL FRAMES LENGTH`: makes a line file of these frames.
     VitcMake { stripe: LineStripe },
-    /// `number COUNT LABEL`: writes how many labels of the count stand before the label in the day.
+    /// `number COUNT LABEL`: writes how many labels of the count come before the label in the day.
     Number { label: Label },
     /// `label COUNT NUMBER`: writes the label of that number of the day.
     LabelOf { label: Label },
@@ -89,6 +89,11 @@ pub enum Job {
     Labels { run: LabelRun },
     /// `help`: writes how each command is typed, and where the manual is.
     Help,
+    /// `help COMMAND`: writes of the command how it is typed, what it does, its values and examples. The page is that
+    /// of the row with this number in `USAGES`, from 0 on.
+    HelpOf { page: usize },
+    /// `help statuses`: writes what each exit number means, and what to do.
+    HelpStatuses,
     /// `version`: writes which version of the program this is.
     Version,
 }

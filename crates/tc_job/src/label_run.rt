@@ -1,4 +1,4 @@
-//! What `labels` is told: how labels are counted and how fast they run, and what is answered to each.
+//! What the words of `labels` say: how labels are counted and how fast they run, and what is answered to each.
 ghost use Rattle.std.specs.Prelude.{◌≡◌};
 ghost use Rattle.label_lines.specs.Timebase.{count_of};
 ghost use Rattle.label_lines.specs.Way.{IsWayOf};
@@ -29,7 +29,7 @@ impl Model for LabelRun {
 }
 
 impl LabelRun {
-    /// This is answered to labels that are counted so. Where it tells ways from a label, that one is of the count too.
+    /// This is answered to labels of this count. If ways from a label are asked for, that one is of the count too.
     pub fn new(base: Timebase, way: Way) -> LabelRun
         requires { IsWayOf (count_of base) way }
         ensures { result ≡ label_run_of base way }

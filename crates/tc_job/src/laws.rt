@@ -11,7 +11,7 @@ ghost use Rattle.tc_job.specs.PathSlicing.{SlicesPath};
 ghost use Rattle.tc_job.specs.TrackPath.{least_rate_of, sound_of, SlicesTrackPath};
 
 /// A run makes a million frames at most, and a load run reads a hundred thousand words at most. A sample has 64
-/// ticks at most, and a size of 15 bits. A transport is told to slip by a thousand subframes at most.
+/// ticks at most, and a size of 15 bits. A transport slips by a thousand subframes at most.
 pub fn the_limits_are_these()
     ensures frames { MAX_FRAMES ≡ 1000000 }
     ensures fineness { MAX_FINENESS ≡ 64 }
@@ -57,7 +57,7 @@ pub fn a_sound_file_has_steps_from_its_least_rate_on()
     ensures below { (t : SlicesTrackPath) (rate : ℕ) → rate < least_rate_of t.system → sound_of t rate ≡ None }
 {}
 
-/// A quarter of a frame at 48,000 ticks a second; where it is less than a tick or longer than an interval, it is the
+/// A quarter of a frame at 48,000 ticks a second; if it is less than a tick or longer than an interval, it is the
 /// least or the greatest interval.
 pub fn a_quarter_of_a_frame_is_this()
     ensures at_24 { quarter_frame F24 48000 ≡ 500 }

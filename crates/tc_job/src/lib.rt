@@ -8,11 +8,13 @@
 //!
 //! Read `fault`, `job`, `stripe`, `flight`, `jam`, `chase_run`, `label_run`, `line_stripe`, `load_run`, `luma_run`,
 //! `pace`, `slicing`, `path_grid`, `path_slicing`, `track_path`, `sound_level`, `wave_slicing` and `witness`, with
-//! `specs/` beside them, and `usages`, the table that `help` prints. Nothing here allocates or fails.
+//! `specs/` beside them; `usages`, the table that `help` prints; and `page_line`, `pages` and `values`, its pages.
+//! Nothing here allocates or fails.
 //!
 //! A later command joins in these places:
 //! - its job, a variant of `Job` (`job`), whose doc line begins with its word;
-//! - its row in `USAGES` (`usages`); the law `each_command_has_its_usage` of `tc_words` misses none.
+//! - its row in `USAGES` (`usages`); the law `each_command_has_its_usage` of `tc_words` misses none;
+//! - its rows in tables of `pages`; the law `each_page_tells_what_is_read` of `tc_words` misses no value.
 #![tactic(auto)]
 
 mod chase_run;
@@ -26,6 +28,8 @@ mod line_stripe;
 mod load_run;
 mod luma_run;
 mod pace;
+mod page_line;
+pub mod pages;
 mod path_grid;
 mod path_slicing;
 mod slicing;
@@ -33,6 +37,7 @@ mod sound_level;
 mod stripe;
 mod track_path;
 pub mod usages;
+pub mod values;
 mod wave_slicing;
 mod witness;
 
@@ -45,6 +50,7 @@ pub use label_run::LabelRun;
 pub use line_stripe::LineStripe;
 pub use load_run::{LoadRun, MAX_WORDS};
 pub use luma_run::LumaRun;
+pub use page_line::PageLine;
 pub use path_grid::{grid_for, step_ticks};
 pub use path_slicing::PathSlicing;
 pub use slicing::{MAX_FINENESS, MAX_LEVEL, Slicing};

@@ -1,4 +1,4 @@
-//! What `vitc-make` is told: which labels to write to lines, and how long a line lasts.
+//! What the words of `vitc-make` say: which labels to write to lines, and how long a line lasts.
 ghost use Rattle.std.specs.Prelude.{◌≡◌};
 ghost use Rattle.tc_job.specs.LineStripe.{IsLineStripe, LineStriping, line_stripe_of};
 
@@ -26,7 +26,7 @@ impl Model for LineStripe {
 }
 
 impl LineStripe {
-    /// So many frames, from this label on, in lines that last so many ticks.
+    /// This many frames, from this label on, in lines that last this many ticks.
     pub fn new(label: Label, frames: u32, length: u32) -> LineStripe
         requires { IsLineStripe (line_stripe_of label frames length) }
         ensures { result ≡ line_stripe_of label frames length }

@@ -1,4 +1,4 @@
-//! What `ltc-load` is told: a seed, and how many words to make and to read.
+//! What the words of `ltc-load` say: a seed, and how many words to make and to read.
 ghost use Rattle.std.specs.Prelude.{◌≡◌};
 ghost use Rattle.tc_job.specs.LoadRun.{IsLoading, loading_of};
 

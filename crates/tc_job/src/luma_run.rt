@@ -1,4 +1,4 @@
-//! What `luma-vitc` is told: the system of the time code, and how the fields lie in bytes. Read next:
+//! What the words of `luma-vitc` say: the system of the time code, and how the fields lie in bytes. Read next:
 //! `luma_field/src/raster.rt`.
 ghost use Rattle.std.specs.Prelude.{◌≡◌};
 ghost use Rattle.tc_job.specs.LumaRun.{luma_reading_of, IsLumaReading};

@@ -9,7 +9,7 @@ use limits::MAX_INTERVAL;
 use pcm_front::Pace;
 use tc_address::{System, rate};
 
-/// When the intervals of a distance are written: as it passes where the recording is live.
+/// When the intervals of a distance are written: as it passes if the recording is live.
 pub(crate) fn pace_of(live: bool, system: System, tick_rate: u32) -> Pace
     ensures value { result ≡ pace_of live system tick_rate }
     ensures valid { IsPace result }

@@ -29,7 +29,7 @@ const GRIDS: [Grid; 16] = [
     Grid::Sum(4_096),
 ];
 
-/// How many steps a cell at play speed has, rounded down, in sound of so many samples a second.
+/// How many steps a cell at play speed has, rounded down, in sound of this rate in samples a second.
 fn steps_of_cell(system: System, samples: u32, grid: Grid) -> u64
     requires { IsGrid grid }
     ensures { result ≡ steps_of_cell system samples grid }
@@ -50,7 +50,7 @@ fn is_fit(system: System, samples: u32, grid: Grid) -> bool
     14 <= steps && steps <= 27
 }
 
-/// The grid of sound of so many samples a second. There is none where a cell at play speed has too few
+/// The grid of sound of this rate in samples a second. There is none if a cell at play speed has too few
 /// samples: fewer than 140 times the frames of a second. Of a thousand million samples a second there is one.
 pub fn grid_for(system: System, samples: u32) -> Option<Grid>
     requires { samples ≤ MAX_TICK_RATE }
@@ -65,7 +65,7 @@ pub fn grid_for(system: System, samples: u32) -> Option<Grid>
     None
 }
 
-/// How many ticks a step has, where a sample has so many. There is none where it would have no whole number
+/// How many ticks a step has, if a sample has this many. There is none if it would have no whole number
 /// of them, only one, or more than `MAX_TICKS`.
 pub fn step_ticks(fineness: u32, grid: Grid) -> Option<u32>
     requires least { 1 ≤ fineness }

@@ -1,4 +1,4 @@
-//! What `pcm-ltc .. path` is told: sound whose best path is written.
+//! What the words of `pcm-ltc .. path` say: sound whose best path is written.
 ghost use Rattle.std.specs.Prelude.{◌≡◌, ◌*◌};
 ghost use Rattle.tc_job.specs.PathSlicing.{IsPathSlicing, path_slicing_of};
 
@@ -37,8 +37,8 @@ impl Model for PathSlicing {
 }
 
 impl PathSlicing {
-    /// Sound of this system, of so many samples a second and of this level at least, in so many ticks a
-    /// sample, on this grid, in so many ticks a step.
+    /// Sound of this system, at this rate in samples a second and of this level at least, in this many ticks a
+    /// sample, on this grid, in this many ticks a step.
     pub fn new(
         system: System,
         rate: u32,

@@ -1,4 +1,4 @@
-//! What `pcm-ltc` is told: how sound is sliced into intervals.
+//! What the words of `pcm-ltc` say: how sound is sliced into intervals.
 ghost use Rattle.std.specs.Prelude.{◌≡◌, ◌*◌};
 ghost use Rattle.pcm_front.specs.Pace.{IsPace};
 ghost use Rattle.tc_job.specs.Pace.{pace_of};
@@ -46,8 +46,8 @@ impl Model for Slicing {
 }
 
 impl Slicing {
-    /// Sound of this system, of so many samples a second, sliced at this threshold of sums, so many
-    /// ticks a sample, in sums of so many samples, and written as it passes where it is live.
+    /// Sound of this system, at this rate in samples a second, sliced at this threshold of sums, with this many
+    /// ticks a sample, in sums of this many samples, and written as it passes if it is live.
     pub fn new(
         system: System,
         rate: u32,

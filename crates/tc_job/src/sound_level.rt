@@ -1,4 +1,4 @@
-//! What `ltc-pcm` is told: how loud the sound is.
+//! What the word of `ltc-pcm` says: how loud the sound is.
 ghost use Rattle.std.specs.Prelude.{◌≡◌, ◌≤◌};
 ghost use Rattle.tc_job.specs.SoundLevel.{IsLevel};
 

@@ -1,4 +1,4 @@
-//! What `ltc-make` is told: which labels to write to a tape, and how long its cells last.
+//! What the words of `ltc-make` say: which labels to write to a tape, and how long its cells last.
 ghost use Rattle.std.specs.Prelude.{◌≡◌};
 ghost use Rattle.tc_job.specs.Stripe.{IsStripe, Striping, stripe_of};
 
@@ -45,7 +45,7 @@ impl Model for Stripe {
 
 impl Stripe {
     /// So many frames, from this label on in this direction, with the cells of the shaper, whose
-    /// lengths are in ticks of a clock of so many ticks a second.
+    /// lengths are in ticks, at this tick rate.
     pub fn new(
         direction: Direction,
         label: Label,

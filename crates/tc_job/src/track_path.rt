@@ -1,4 +1,4 @@
-//! What `wav-ltc .. path` is told: a sound file of whose track the best path is written.
+//! What the words of `wav-ltc .. path` say: a sound file of whose track the best path is written.
 ghost use Rattle.std.specs.Prelude.{◌≡◌, ◌≤◌};
 ghost use Rattle.tc_job.specs.TrackPath.{least_rate_of, sound_of, track_path_of, IsTrackPath};
 
@@ -7,7 +7,7 @@ use crate::path_slicing::PathSlicing;
 use std::marker::Model;
 use tc_address::{System, rate};
 
-/// A sample of a sound file has so many ticks.
+/// How many ticks a sample of a sound file has.
 const TICKS: u32 = 16;
 
 /// A track of a sound file, and how its best path is written.
@@ -58,8 +58,8 @@ impl TrackPath {
         140 * rate(self.system)
     }
 
-    /// The sound of a track of so many samples a second. There is none where the rate is below the least
-    /// one, and some where it is not.
+    /// The sound of a track of this rate in samples a second. There is none if the rate is below the least
+    /// one, and some if it is not.
     pub fn sound(&self, rate: u32) -> Option<PathSlicing>
         requires least { 1 ≤ rate }
         requires most { rate ≤ 6_250_000 }

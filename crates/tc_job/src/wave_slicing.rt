@@ -1,4 +1,4 @@
-//! What `wav-ltc` is told: how a track of a sound file is sliced into intervals.
+//! What the words of `wav-ltc` say: how a track of a sound file is sliced into intervals.
 ghost use Rattle.std.specs.Prelude.{◌≡◌};
 ghost use Rattle.pcm_front.specs.Pace.{IsPace};
 ghost use Rattle.tc_job.specs.Pace.{pace_of};
@@ -38,8 +38,8 @@ impl Model for WaveSlicing {
 }
 
 impl WaveSlicing {
-    /// Time code of this system, in this track, sliced at this threshold of sums, in sums of so many
-    /// samples, and written as it passes where it is live.
+    /// Time code of this system, in this track, sliced at this threshold of sums, in sums of this many
+    /// samples, and written as it passes if it is live.
     pub fn new(
         system: System,
         track: u32,
@@ -90,7 +90,7 @@ impl WaveSlicing {
         self.smooth
     }
 
-    /// When the intervals of a distance are written, at so many ticks a second.
+    /// When the intervals of a distance are written, at this tick rate.
     pub fn pace(&self, tick_rate: u32) -> Pace
         ensures value { result ≡ pace_of self.now.live self.now.system tick_rate }
         ensures valid { IsPace result }

@@ -46,7 +46,7 @@ track = record { system = F25; track = 1; threshold = Follow 500; smooth = 1; li
 mono : WaveFormat
 mono = record { tracks = 1; rate = 48_000; block = 2; bits = 16 }
 
--- seven samples, which are 14 bytes, behind a form, the letters and two chunks
+-- seven samples, which are 14 bytes, after a form, the letters and two chunks
 file : List ℕ
 file = wave.file_of 50 [] mono 14 (map (λ sample. Wide [] sample ∷ []) (sound 1_000 (2 ∷ 3 ∷ []))) []
 

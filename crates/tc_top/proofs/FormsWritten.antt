@@ -1,4 +1,4 @@
--- The lines of `help` are those of the table of usages, which tells how each command is typed.
+-- The lines of `help` are those of the table of usages, which says how each command is typed.
 use Rattle.std.proofs.Common.{◌≡◌, ℕ, List, true}
 use Rattle.made_commands.specs.About.{help_text}
 use Rattle.tc_words.specs.Forms.{AreTaken, are_once, rows}

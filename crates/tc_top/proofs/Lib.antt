@@ -3,6 +3,7 @@ mod FormsWritten
 mod LabelsHeard
 mod LinesAreInput
 mod NamedAgain
+mod PagesWritten
 mod ReadAsFields
 mod ReadOn
 mod SentIsRead

@@ -11,7 +11,7 @@ use Rattle.interval_file.specs.Grammar.{IsFile}
 use Rattle.interval_file.specs.Recording.{Recording, recording_of}
 use Rattle.tc_job.specs.declared.job.Job.{Job}
 use Rattle.tc_job.specs.declared.job.Job.TheVariants.{LtcMtc, LtcJam, LtcPcm, LumaVitc, Number, LabelOf, Labels}
-use Rattle.tc_job.specs.declared.job.Job.TheVariants.{Help}
+use Rattle.tc_job.specs.declared.job.Job.TheVariants.{Help, HelpOf, HelpStatuses}
 use Rattle.tc_job.specs.Jam.{Jamming}
 use Rattle.tc_job.specs.LabelRun.{LabelRunning}
 use Rattle.tc_job.specs.LumaRun.{LumaReading}
@@ -27,6 +27,7 @@ use Rattle.tc_top.specs.Promises.{IsReadOn}
 use Rattle.tc_top.proofs.FormsWritten.{FormsLaws, tells_the_forms}
 use Rattle.tc_top.proofs.LabelsHeard.{HaveLabels}
 use Rattle.tc_top.proofs.NamedAgain.{LabelsLaws, named_again, numbered_by_text}
+use Rattle.tc_top.proofs.PagesWritten.{PagesLaws, tells_of_the_command, tells_of_the_statuses}
 use Rattle.tc_top.proofs.ReadAsFields.{read_as_fields, AnswersLaws}
 use Rattle.tc_top.proofs.SentIsRead.{AreReadBack, sends_the_frames}
 use Rattle.tc_top.proofs.SlicedAgain.{SoundLaws, sliced_again}
@@ -39,6 +40,7 @@ pub record ReadOnLaws : Type 1 where
   pub back : AreReadBack
   pub numbers : LabelsLaws
   pub forms : FormsLaws
+  pub pages : PagesLaws
   pub sound : SoundLaws
   pub answers : AnswersLaws
   pub again : (run : LabelRunning) (bytes written : List ℕ) → IsInput (along_labels run) bytes
@@ -67,8 +69,13 @@ read_on laws (LtcPcm size) level told = λ pulled written are input output.
     sliced_again laws.sound size (level size refl) pulled written are input output
 read_on laws (LumaVitc luma) level told = λ pulled written are input output.
     read_as_fields laws.answers luma (told luma refl) pulled written are input output
-read_on laws (Number label) level told = λ pulled written are input output. named_again laws.numbers label pulled written
+read_on laws (Number label) level told = λ pulled written are input output.
+    named_again laws.numbers label pulled written
 read_on laws (LabelOf label) level told = λ pulled written are input output. numbered_by_text label pulled written
 read_on laws (Labels run) level told = λ pulled written are input output. laws.again run pulled written input output
 read_on laws Help level told = λ pulled written are input output. tells_the_forms laws.forms written output.1
+read_on laws (HelpOf page) level told = λ pulled written are input output.
+    tells_of_the_command laws.pages page written output.1
+read_on laws HelpStatuses level told = λ pulled written are input output.
+    tells_of_the_statuses laws.pages written output.1
 read_on laws job level told = λ pulled written are input output. tt

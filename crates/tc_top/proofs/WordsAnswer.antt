@@ -1,4 +1,4 @@
--- Words name one task, and where they name none, their first fault is the answer of the run, or want of memory is.
+-- Words name one task, and if they name none, their first fault is the answer of the run, or lack of memory is.
 use Rattle.std.proofs.Common.{◌≡◌, ◌⊎◌, ℕ, List, [], Ok, Err, refl, sym, ◌∙◌, ap, inl, inr}
 use Rattle.std.specs.Prelude.{alloc_error}
 use Rattle.std.specs.declared.option.Option.{Option}
@@ -13,7 +13,7 @@ use Rattle.tc_command.specs.Notes.{usage_note}
 use Rattle.tc_top.specs.Answer.{IsRunAnswer}
 use Rattle.tc_command.specs.Status.{status_of_words}
 
--- what was read is the task of the words, since want of memory is none
+-- what was read is the task of the words, since lack of memory is none
 abbrev TaskOf : List (List ℕ) → Task → Type 0
 TaskOf all task = let answer : Result Task WordsFault = Ok task in (answer ≡ answer_to all)
     ⊎ (answer ≡ Err (words.Memory alloc_error))
@@ -38,7 +38,7 @@ job_of other (Chase label) = other
 pub same_job : (all : List (List ℕ)) (a b : Job) → answer_to all ≡ Ok (Stream a) → answer_to all ≡ Ok (Stream b) → a ≡ b
 same_job all a b first second = ap (job_of a) (same_task all (Stream a) (Stream b) first second)
 
--- a fault is the first of the words, or want of memory
+-- a fault is the first of the words, or lack of memory
 abbrev FaultOf : List (List ℕ) → WordsFault → Type 0
 FaultOf all fault = let answer : Result Task WordsFault = Err fault in (answer ≡ answer_to all)
     ⊎ (answer ≡ Err (words.Memory alloc_error))

@@ -62,7 +62,7 @@ pub record BeginsNothing (why : List ℕ) (e : Exchange) : Type 0 where
 abbrev pub IsNamedAnswer : List (List ℕ) → Status → Exchange → Type 0
 IsNamedAnswer words status e = (task : Task) × (answer_to words ≡ Ok task) × IsTaskAnswer task status e
 
--- what the program answers to words: their first fault, want of memory for them, or the answer of their task
+-- what the program answers to words: their first fault, lack of memory for them, or the answer of their task
 abbrev pub IsRunAnswer : List (List ℕ) → Status → Exchange → Type 0
 IsRunAnswer words Usage e = (fault : WordsFault) × (answer_to words ≡ Err fault) × BeginsNothing (usage_note fault) e
 IsRunAnswer words Memory e = BeginsNothing (codes "tc: out of memory\n") e ⊎ IsNamedAnswer words Memory e

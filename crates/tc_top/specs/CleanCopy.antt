@@ -10,7 +10,7 @@ use Rattle.interval_commands.specs.LtcRead.{last_line, lines}
 use Rattle.frame_commands.specs.LtcJam.{IsClean, clean_header, clean_intervals}
 use Rattle.tc_top.specs.Commands.{meaning_of}
 
--- where the copy is within the limit of a reading, its report is a line for each of its frames, and the last line
+-- if the copy is within the limit of a reading, its report is a line for each of its frames, and the last line
 abbrev pub IsReportedClean : Jamming → List ℕ → List ℕ → Type 0
 IsReportedClean j pulled written = (clean : IsClean j (recording_of pulled) written) → (text : List ℕ)
     → length (clean_intervals j clean.frames) ≤ MAX_INTERVALS

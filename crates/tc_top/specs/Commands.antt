@@ -1,5 +1,5 @@
--- All that is told of the command of each job: what it takes and what it writes, and what it promises of that. A line a
--- command.
+-- All that is claimed of the command of each job: what it takes and what it writes, and what it promises of that. A
+-- line for each command.
 use Rattle.biphase.specs.declared.profile.Profile.TheVariants.{Normal, Worn, Rough}
 use Rattle.tc_job.specs.declared.job.Job.{Job}
 use Rattle.tc_job.specs.declared.job.Job.TheVariants as jobs
@@ -21,6 +21,7 @@ use Rattle.made_commands.specs.Labels.{told_label, told_number}
 use Rattle.made_commands.specs.Load.{told_ltc_load}
 use Rattle.made_commands.specs.Made.{told_ltc_make}
 use Rattle.made_commands.specs.MadeLines.{told_vitc_make}
+use Rattle.made_commands.specs.Pages.{told_page, told_statuses}
 use Rattle.signal_commands.specs.LumaVitc.{told_luma_vitc}
 use Rattle.signal_commands.specs.MtcRead.{told_mtc_read}
 use Rattle.signal_commands.specs.PcmLtc.{told_pcm_ltc}
@@ -56,6 +57,8 @@ told_of (jobs.Number label) = told_number label
 told_of (jobs.LabelOf label) = told_label label
 told_of (jobs.Labels run) = told_labels run
 told_of jobs.Help = told_help
+told_of (jobs.HelpOf page) = told_page page
+told_of jobs.HelpStatuses = told_statuses
 told_of jobs.Version = told_version
 
 -- what each command takes and writes

@@ -7,7 +7,7 @@ use Rattle.tc_top.specs.declared.exit.NoArguments.{NoArguments}
 use Rattle.tc_top.specs.declared.exit.NoArguments.TheVariants.{Memory, Other}
 use Rattle.tc_top.specs.declared.exit.TheConstants.{NO_ARGUMENTS}
 
--- the number of the status; without arguments that of want of memory, or the program's own
+-- the number of the status; without arguments that of lack of memory, or the program's own
 abbrev pub exit_number : Result Status NoArguments → ℕ
 exit_number (Ok status) = code_of status
 exit_number (Err Memory) = code_of statuses.Memory

@@ -6,7 +6,7 @@ use Rattle.made_commands.specs.Labels.{NamesTheLabel, NumbersTheLabel}
 use Rattle.tc_words.specs.Values.{Word, count_in}
 use Rattle.tc_words.specs.Words.{job_of}
 
--- `label` with the number that `number` wrote is the job of the label, behind a word of its count
+-- `label` with the number that `number` wrote is the job of the label, after a word of its count
 abbrev pub IsNamedAgain : Address → List ℕ → List ℕ → Type 0
 IsNamedAgain label pulled written = (is : NumbersTheLabel label written) (count : Word)
     → count_in count ≡ Some label.count

@@ -1,5 +1,5 @@
 -- Sound out, and in again: what `ltc-pcm` makes of a recording, `pcm-ltc` slices into its intervals, and `wav-ltc` too,
--- where a sound file has it.
+-- as a sound file has it.
 use Rattle.std.specs.Prelude.{◌≡◌, ℕ, ◌*◌, ◌≤◌, false, List, ◌++◌, length, map, Some}
 use Rattle.std.specs.List.{flat_map}
 use Rattle.pcm_front.specs.declared.threshold.Threshold.TheVariants.{Fixed, Follow}
@@ -49,7 +49,7 @@ pub record SlicesFileTo (level : ℕ) (w : SlicesWave) (format : WaveFormat) (so
   pub samples : (reading_of (asked_by w) bytes).samples ≡ samples_of sound
   pub output : Meaning.output (meaning_of (WavLtc w)) bytes written
 
--- the intervals of a sound file, 16 times as long as those of the recording, stand behind the distance to its first
+-- the intervals of a sound file, 16 times as long as those of the recording, come after the distance to its first
 -- crossing
 abbrev pub IsBehindTheFirst : IntervalHeader → List ℕ → List ℕ → Type 0
 IsBehindTheFirst header intervals written = (first : List ℕ) × (length first ≤ 1)
@@ -57,7 +57,7 @@ IsBehindTheFirst header intervals written = (first : List ℕ) × (length first 
 
 -- at each fixed threshold of at most the level, and at each fineness, the distances of the crossings of the
 -- sound are the intervals of the recording, times the fineness. So `pcm-ltc` writes the file of these distances, and in
--- whole samples that of the intervals themselves; and so does `wav-ltc` of a sound file of these samples, behind the
+-- whole samples that of the intervals themselves; and so does `wav-ltc` of a sound file of these samples, after the
 -- first interval
 pub record IsSlicedAgain (level : ℕ) (bytes sound : List ℕ) : Type 0 where
   pub apart : (fineness threshold : ℕ) → 1 ≤ threshold → threshold ≤ level

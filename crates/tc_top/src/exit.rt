@@ -5,7 +5,7 @@ ghost use Rattle.tc_top.specs.Exit.{exit_number};
 use std::io::ErrorKind;
 use tc_command::Status;
 
-/// The exit number where the arguments are no text. It is the program's own: no run ends with it.
+/// The exit number if the arguments are no text. It is the program's own: no run ends with it.
 pub const NO_ARGUMENTS: u8 = 8;
 
 /// Why there are no arguments, so that nothing was run.

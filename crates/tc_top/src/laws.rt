@@ -54,8 +54,8 @@ pub fn a_promise_names_one_text()
     each_job_is_lawful();
 }
 
-/// An input leaves a job one status where no call fails. A limit of the command's own comes first, and
-/// where it has none, the grammar and the limit of the file settle it alone.
+/// An input leaves a job one status if no call fails. A limit of the command's own comes first, and
+/// if it has none, the grammar and the limit of the file settle it alone.
 pub fn an_input_has_one_status()
     ensures one { (job : Job) (input : List ℕ) (a b : Status) → HasStatus (meaning_of job) input a
         → HasStatus (meaning_of job) input b → a ≡ b }

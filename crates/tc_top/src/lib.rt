@@ -6,19 +6,19 @@
 //!
 //! What this crate promises, for all words, sources and sinks:
 //! - What was pulled and what was pushed are those of the status (`specs/Answer.antt`, `IsRunAnswer`; clause
-//!   `answer`). All that is told of a job's command is its `Told` (`specs/Commands.antt`, a line a job), and it
-//!   holds (clause `told` of `stream`). Where it is done it keeps its promise, and what a further command makes of
+//!   `answer`). All that is claimed of a job's command is its `Told` (`specs/Commands.antt`, a line a job), and it
+//!   holds (clause `told` of `stream`). If it is done it keeps its promise, and what a further command makes of
 //!   what it wrote is as promised (`specs/Promises.antt`): a report tells the tape, invented frames are marked,
 //!   what is made or recorded anew is read back, each loss has its cause.
-//! - A read fault and a write fault come only where a count of faults rose, and the words and the whole input
-//!   leave one status where none rose, want of memory aside (clauses `source`, `out`, `status`).
+//! - A read fault and a write fault come only if a count of faults rose, and the words and the whole input
+//!   leave one status if none rose, lack of memory aside (clauses `source`, `out`, `status`).
 //! - Whatever the status, what was written is a front of the output of the whole input (clause `answer`;
 //!   `IsAnswer`, and of a chase `IsChaseAnswer`). Each input has an output (clause `told` of `stream`).
 //! - The note is the one line of the status. A failing sink of notes changes no status.
-//! - The exit number is that of the status, or the program's own where there are no arguments
+//! - The exit number is that of the status, or the program's own if there are no arguments
 //!   (`specs/Exit.antt`; `laws::exit_numbers_are_these` has them one by one).
 //!
-//! Read `top_call`, `streaming`, `reading_on` and `exit`; the commands stand in `interval_commands`,
+//! Read `top_call`, `streaming`, `reading_on` and `exit`; the commands are in `interval_commands`,
 //! `frame_commands`, `made_commands`, `signal_commands`, `label_command` and `chase_command`, over `tc_command`.
 #![tactic(auto)]
 

@@ -11,6 +11,7 @@ use frame_commands::laws::what_is_heard_has_labels_of_its_system;
 use interval_file::laws::{a_file_is_read_as_it_was_written, bytes_are_read_as_the_text_says};
 use label_command::laws::answers_are_answered_again;
 use line_file::laws::{bytes_have_answers, bytes_have_one_list_of_answers};
+use made_commands::laws::help_tells_of_each_status;
 use pcm_front::laws::{
     a_sound_is_sliced_at_a_threshold_that_follows, a_sound_is_sliced_into_its_intervals,
     samples_are_read_as_they_were_written, sums_of_one_are_the_samples,
@@ -19,7 +20,9 @@ use quarter_frame::laws::what_is_sent_is_read_back;
 use signal_commands::pixels_are_told;
 use tc_address::laws::number_and_label_are_inverse;
 use tc_job::Job;
-use tc_words::laws::{each_command_has_its_usage, each_form_is_taken};
+use tc_words::laws::{
+    each_command_has_its_usage, each_form_is_taken, each_page_tells_what_is_read,
+};
 
 /// What is sent is read as the frames of the file, the report of a copy is that of its frames, what is sounded is
 /// sliced into its intervals again, the lines of a picture are read as its fields, what is told of labels and of
@@ -34,6 +37,8 @@ pub(crate) fn it_is_read_on(job: &Job)
     number_and_label_are_inverse();
     each_command_has_its_usage();
     each_form_is_taken();
+    each_page_tells_what_is_read();
+    help_tells_of_each_status();
     bytes_are_read_as_the_text_says();
     samples_are_read_as_they_were_written();
     a_sound_is_sliced_into_its_intervals();

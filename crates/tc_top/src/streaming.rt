@@ -1,4 +1,4 @@
-//! A job along its input. Read next: `tc_command/src/intake.rt`, and behind it the crate of the command.
+//! A job along its input. Read next: `tc_command/src/intake.rt`, and after it the crate of the command.
 ghost use Rattle.std.specs.Prelude.{◌≡◌, ◌⊎◌, ℕ, List, Some, false};
 ghost use Rattle.std.specs.Io.KnownBytes.{Appends};
 ghost use Rattle.tc_io.specs.Source.{Rose};
@@ -26,7 +26,7 @@ use label_command::{answer_labels, labels_are_lawful};
 use made_commands::{
     line_stripes_are_lawful, loads_are_lawful, make_lines, make_recording, names_are_lawful,
     numbers_are_lawful, stripes_are_lawful, tell_help, tell_label, tell_load, tell_number,
-    tell_version,
+    tell_page, tell_statuses, tell_version,
 };
 use signal_commands::laws::{
     each_signal_makes_a_command, paths_are_lawful, sliced_sound_is_lawful,
@@ -54,23 +54,23 @@ pub fn stream<S: Source, K: Sink, N: Sink>(
         × IsAnswer job.now result e }
     ensures no_note { result ≡ Status.Done → notes.new ≡ notes.old }
 
-    // What is told of the job's command holds: it is a command as any other, whose promise is kept and names one text,
-    // and which passes no limit of its own, where it is said to have none.
+    // What is claimed of the job's command holds: it is a command as any other, whose promise is kept and names one
+    // text, and which passes no limit of its own, if it is said to have none.
     ensures told { IsTold (told_of job.now) }
 
-    // A read fault and a write fault come only where a count of faults rose.
+    // A read fault and a write fault come only if a count of faults rose.
     ensures source { SourceCause result (S.faults source.old) (S.faults source.new) }
     ensures out { OutCause result (K.faults out.old) (K.faults out.new) }
 
-    // The end of the input is seen once, and nothing is pulled behind it.
+    // The end of the input is seen once, and nothing is pulled after it.
     ensures once { S.ends source.old ≡ 0 → EndsSeen (Meaning.reads (meaning_of job.now)) result (S.ends source.new) }
 
-    // A job that reads nothing leaves the source, and stops only where the output fails.
+    // A job that reads nothing leaves the source, and stops only if the output fails.
     ensures idle { Meaning.reads (meaning_of job.now) ≡ false → source.new ≡ source.old }
     ensures writes { Meaning.reads (meaning_of job.now) ≡ false
         → (result ≡ Status.Done) ⊎ (result ≡ Status.WriteFault) }
 
-    // Where no count of faults rises, the job and the whole input leave one status.
+    // If no count of faults rises, the job and the whole input leave one status.
     ensures status { (input : List ℕ) → S.left source.old ≡ Some input
         → ¬ Rose (S.faults source.old) (S.faults source.new) → ¬ Rose (K.faults out.old) (K.faults out.new)
         → HasStatus (meaning_of job.now) input result }
@@ -85,7 +85,7 @@ pub fn stream<S: Source, K: Sink, N: Sink>(
     }
 }
 
-/// What is told of each job is lawful, whatever values it has.
+/// What is claimed of each job is lawful, whatever values it has.
 pub(crate) fn each_job_is_lawful()
     ensures { (job : Job) → IsLawful (told_of job) }
 {
@@ -148,6 +148,8 @@ fn work_on<S: Source, K: Sink>(job: &Job, source: &mut S, out: &mut K) -> Result
         Job::LabelOf { label } => tell_label(label, source, out),
         Job::Labels { run } => answer_labels(run, source, out),
         Job::Help => tell_help(source, out),
+        Job::HelpOf { page } => tell_page(*page, source, out),
+        Job::HelpStatuses => tell_statuses(source, out),
         Job::Version => tell_version(source, out),
     }
 }

@@ -42,7 +42,7 @@ pub fn run<S: Source, K: Sink, N: Sink>(
         × IsRunAnswer (map string_bytes words.now) result e }
     ensures no_note { result ≡ Status.Done → notes.new ≡ notes.old }
 
-    // Words that name no task begin nothing, and so does want of memory, but where a script was pulled to its end. No
+    // Words that name no task begin nothing, and so does lack of memory, unless a script was pulled to its end. No
     // memory is wanted for no words, and for words of which one begins with a dash.
     ensures at_once { IsRefusedAtOnce (map string_bytes words.now) → result ≡ Status.Usage }
     ensures usage { (fault : WordsFault) → answer_to (map string_bytes words.now) ≡ Err fault
@@ -53,23 +53,23 @@ pub fn run<S: Source, K: Sink, N: Sink>(
         ⊎ ((label : Address) × (answer_to (map string_bytes words.now) ≡ Ok (Task.Chase label))
         × IsUnreadOrWhole S.ends source.old source.new) }
 
-    // A read fault and a write fault come only where a count of faults rose.
+    // A read fault and a write fault come only if a count of faults rose.
     ensures source { SourceCause result (S.faults source.old) (S.faults source.new) }
     ensures out { OutCause result (K.faults out.old) (K.faults out.new) }
 
-    // The end of the input is seen once, and nothing is pulled behind it.
+    // The end of the input is seen once, and nothing is pulled after it.
     ensures once { (job : Job) → answer_to (map string_bytes words.now) ≡ Ok (Task.Stream job)
         → S.ends source.old ≡ 0 → EndsSeen (Meaning.reads (meaning_of job)) result (S.ends source.new) }
     ensures chase_once { (label : Address) → answer_to (map string_bytes words.now) ≡ Ok (Task.Chase label)
         → ChaseSeesOneEnd result (S.ends source.old) (S.ends source.new) }
 
-    // A job that reads nothing leaves the source, and stops only where the output fails.
+    // A job that reads nothing leaves the source, and stops only if the output fails.
     ensures idle { (job : Job) → answer_to (map string_bytes words.now) ≡ Ok (Task.Stream job)
         → Meaning.reads (meaning_of job) ≡ false
         → (source.new ≡ source.old) × ((result ≡ Status.Done) ⊎ (result ≡ Status.WriteFault)
         ⊎ (result ≡ Status.Memory)) }
 
-    // Where no count of faults rises, the job and the whole input leave one status, want of memory aside.
+    // If no count of faults rises, the job and the whole input leave one status, lack of memory aside.
     ensures status { (job : Job) (input : List ℕ) → answer_to (map string_bytes words.now) ≡ Ok (Task.Stream job)
         → S.left source.old ≡ Some input
         → ¬ Rose (S.faults source.old) (S.faults source.new) → ¬ Rose (K.faults out.old) (K.faults out.new)

@@ -1,4 +1,4 @@
--- The first fault where words have several, the edges of a number, and words that are like others.
+-- The first fault if words have several, the edges of a number, and words that are like others.
 use Rattle.std.proofs.Common.{◌≡◌, [], ◌∷◌, true, false, Some, None, Ok, Err, refl, codes}
 use Rattle.pcm_front.specs.declared.threshold.Threshold.TheVariants.{Fixed, Follow, Deep}
 use Rattle.tc_address.specs.declared.count.Count.TheVariants.{C30, Drop30}
@@ -90,7 +90,7 @@ no_lines : count_with_lines (codes "24") ≡ None
 unfolding count_with_lines
 no_lines = refl
 
--- `live` is looked for behind all others, and is taken off once
+-- `live` is looked for after all others, and is taken off once
 live_last : ends_live (codes "2" ∷ codes "live" ∷ []) ≡ true
 live_last = refl
 
@@ -132,12 +132,12 @@ a_path : wav_ltc (codes "25" ∷ codes "2" ∷ codes "250" ∷ codes "path" ∷ 
 unfolding wav_ltc path_of_track system_in between number_spelled
 a_path = refl
 
--- nothing may stand behind `path`
+-- nothing may come after `path`
 a_live_path : wav_ltc (codes "25" ∷ codes "2" ∷ codes "250" ∷ codes "path" ∷ codes "live" ∷ []) ≡ Err (Value 5)
 unfolding wav_ltc path_of_track system_in between number_spelled
 a_live_path = refl
 
--- and it stands at the place of SMOOTH
+-- and it is at the place of SMOOTH
 a_smooth_path : wav_ltc (codes "25" ∷ codes "2" ∷ codes "250" ∷ codes "2" ∷ codes "path" ∷ []) ≡ Err (Value 5)
 unfolding wav_ltc sliced_track system_in between number_spelled deep_in
 a_smooth_path = refl

@@ -1,4 +1,4 @@
--- The first word with a dash is found by the bytes of the words, and where there is none no word has one.
+-- The first word with a dash is found by the bytes of the words, and if there is none no word has one.
 use Rattle.std.proofs.Common.{◌≡◌, ◌+◌, ◌≤◌, ℕ, Bool, cond, true, false, not, inl, inr, refl, ap₂}
 use Rattle.std.proofs.Common.{arith, List, [], ◌∷◌, map, length, Some, None, nat_lt, lt-ltb}
 use Rattle.std.specs.List.{position, position_or_len, prefix_len}

@@ -1,5 +1,10 @@
 pub mod Examples
+pub mod ExamplesTaken
 pub mod FirstDash
 pub mod FormsTaken
+pub mod LabelsNamed
+pub mod LumaNamed
 pub mod Numbers
+pub mod PagesNamed
+pub mod Taken
 pub mod WordsBehind

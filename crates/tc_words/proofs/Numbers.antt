@@ -1,4 +1,4 @@
--- One to twenty digits are what std reads as a number, since no sign stands before them.
+-- One to twenty digits are what std reads as a number, since no sign comes before them.
 use Rattle.std.proofs.Common.{◌≡◌, ◌≢◌, ◌<◌, ◌&&◌, ◌^◌, ℕ, true, refl, ap, arith}
 use Rattle.std.proofs.Common.{[], ◌∷◌, Some, Result, Ok, Err, inl, inr, length, le-ltb, lt-ltb}
 use Rattle.std.specs.Prelude.{nat_le, nat_lt}

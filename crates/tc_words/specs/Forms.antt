@@ -57,7 +57,7 @@ Ways = List (List Word)
 abbrev pub then_ways : Ways → Ways → Ways
 then_ways first next = flat_map (λ way. map (λ more. way ++ more) next) first
 
--- what is read of the ways in some brackets: from where it is read on to their end or to a bar, and those behind the
+-- what is read of the ways in some brackets: from where it is read on to their end or to a bar, and those after the
 -- bars
 pub record Part : Type 0 where
   pub ways : Ways
@@ -71,8 +71,8 @@ no_part = record { ways = [] ∷ []; others = [] }
 abbrev pub ways_in : Part → Ways
 ways_in part = part.ways ++ part.others
 
--- a form as it is read from its end: the letters of a word, what is read of the innermost brackets, and of what stands
--- behind these brackets, and behind those around them
+-- a form as it is read from its end: the letters of a word, what is read of the innermost brackets, and of what comes
+-- after these brackets, and after those around them
 pub record FormRead : Type 0 where
   pub letters : Word
   pub part : Part

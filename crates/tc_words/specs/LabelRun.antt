@@ -27,7 +27,7 @@ is_ntsc word = bytes_eq word (codes "ntsc")
 unfoldable pub ntsc_in : Word → Option Bool
 ntsc_in word = value_in ((codes "ntsc", true) ∷ []) word
 
--- labels of 24 and of 30 frames a second may be pulled down; drop-frame counting always is, and is not told so
+-- labels of 24 and of 30 frames a second may be pulled down; drop-frame counting always is, and no word says so
 abbrev pub timebase_of : Count → Bool → Option Timebase
 timebase_of C24 false = Some bases.F24
 timebase_of C24 true = Some bases.PulledDown24
@@ -44,13 +44,13 @@ timebase_of Drop30 true = None
 unfoldable pub steps_in : ℕ → Option Word → Result ℕ WordsFault
 steps_in place word = value_or place (option_and_then (between 0 4294967295) word) (λ steps. Ok steps)
 
--- another count, and `ntsc` behind it or not
+-- another count, and `ntsc` after it or not
 unfoldable pub shown_as : ℕ → Option Word → Option Word → Result Timebase WordsFault
 shown_as place count ntsc =
     value_or place (option_and_then count_in count) (λ c. value_or (place + 1) (read_or false ntsc_in ntsc) (λ pulled.
     value_or (place + 1) (timebase_of c pulled) (λ base. Ok base)))
 
--- the way that a word at this place names, with the values behind it
+-- the way that a word at this place names, with the values after it
 unfoldable pub way_of : Timebase → ℕ → Word → List Word → Result Way WordsFault
 way_of base place way values =
     if bytes_eq way (codes "number") then Ok ways.Number
@@ -65,7 +65,7 @@ way_of base place way values =
     then map_ok ways.To (shown_as (place + 1) (slice_get values 0) (slice_get values 1))
     else Err (Value place)
 
--- this many values may come behind the word of a way: none, one, or behind `to` one or two. How many stand behind
+-- this many values may come after the word of a way: none, one, or after `to` one or two. How many come after
 -- another word is not asked
 unfoldable pub has_values : Word → ℕ → Bool
 has_values way n =
@@ -88,7 +88,7 @@ answered count pulled way values =
     map_ok (λ w. Labels (label_run_of base w)) (way_of base (if pulled then 3 else 2) way values)))
     else Err CountOfWords
 
--- where `ntsc` stands behind the count
+-- if `ntsc` comes after the count
 unfoldable pub behind_ntsc : Word → List Word → Result Job WordsFault
 behind_ntsc count (way ∷ values) = answered count true way values
 behind_ntsc count [] = Err CountOfWords

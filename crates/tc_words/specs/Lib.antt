@@ -1,11 +1,13 @@
 pub mod Flight
 pub mod Forms
+pub mod Help
 pub mod LabelRun
 pub mod Live
 pub mod LtcChase
 pub mod LtcMake
 pub mod LumaVitc
 pub mod NumberLemmas
+pub mod Pages
 pub mod PcmLtc
 pub mod PcmPath
 pub mod Usages

@@ -1,4 +1,4 @@
--- The word `live` behind all others: a distance is written as it passes.
+-- The word `live` after all others: a distance is written as it passes.
 use Rattle.std.specs.Prelude.{◌-◌, Bool, codes, List, [], length, take, get_or, if◌then◌else◌}
 use Rattle.std.specs.Str.{bytes_eq}
 use Rattle.tc_words.specs.Values.{Word}

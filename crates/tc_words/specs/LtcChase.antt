@@ -11,7 +11,7 @@ use Rattle.tc_job.specs.ChaseRun.{chasing_of}
 use Rattle.tc_words.specs.Values.{Word, between, count_in, number_spelled, value_or}
 
 -- the job of five words: the count, the label, how many frames are invented in a row, the seed of the slips and their
--- bound; and of the tolerance that the sixth word says and the witness that the seventh one asks for, where they say
+-- bound; and of the tolerance that the sixth word says and the witness that the seventh one asks for, if they say
 -- one
 unfoldable pub chased : Word → Word → Word → Word → Word → Option Profile → Option Witness → Result Job WordsFault
 chased count label limit seed bound profile witness =

@@ -12,7 +12,7 @@ use Rattle.limits.specs.declared.recording.TheConstants.{MAX_TICK_RATE}
 use Rattle.tc_job.specs.Stripe.{stripe_of}
 use Rattle.tc_words.specs.Values.{Word, between, count_in, read_or, value_or}
 
--- the job of six words, and of the two behind them where they are there: without them the cells are of one length, and
+-- the job of six words, and of the two after them if they are there: without them the cells are of one length, and
 -- else they move to another one by a step, which is at most an eighth of the lesser
 unfoldable pub striped : Word → Word → Word → Word → Word → Word → List Word → Result Job WordsFault
 striped count direction label frames cell tick_rate more =

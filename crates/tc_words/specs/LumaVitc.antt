@@ -15,7 +15,7 @@ use Rattle.tc_words.specs.Values.{Word, between, value_in, value_or}
 unfoldable pub system_with_lines : Word → Option System
 system_with_lines word = value_in ((codes "25", F25) ∷ (codes "30", F30) ∷ []) word
 
--- the job of five words: the rows that are looked at stand in the field
+-- the job of five words: the rows that are looked at are in the field
 unfoldable pub fields_of : Word → Word → Word → Word → Word → Result Job WordsFault
 fields_of system width height first rows =
     value_or 1 (system_with_lines system) (λ s. value_or 2 (between MIN_WIDTH MAX_WIDTH width) (λ w.

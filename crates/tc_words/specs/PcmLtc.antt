@@ -27,7 +27,7 @@ of_sums smooth (Fixed threshold) = Fixed (smooth * threshold)
 of_sums smooth (Follow least) = Follow (smooth * least)
 of_sums smooth (Deep least) = Deep (smooth * least)
 
--- how many ticks a sample has, where they are not too many a second
+-- how many ticks a sample has, if they are not too many a second
 unfoldable pub fineness_in : ℕ → Word → Option ℕ
 fineness_in rate word =
     option_and_then (λ n. if nat_le (rate * n) MAX_TICK_RATE then Some n else None) (between 1 MAX_FINENESS word)
@@ -36,8 +36,8 @@ fineness_in rate word =
 unfoldable pub following_in : ℕ → Word → Option Threshold
 following_in least word = value_in ((codes "follow", Follow least) ∷ (codes "deep", Deep least) ∷ []) word
 
--- the job of three words, and of those behind them that are there: the ticks of a sample, a threshold that follows the
--- level, the samples of a sum; no other word may stand there. The last says whether a distance is written as it
+-- the job of three words, and of those that follow: the ticks of a sample, a threshold that follows the
+-- level, the samples of a sum; no other word may be there. The last says whether a distance is written as it
 -- passes
 unfoldable pub sliced : Word → Word → Word → List Word → Bool → Result Job WordsFault
 sliced system rate threshold more live =

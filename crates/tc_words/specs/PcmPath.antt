@@ -16,7 +16,7 @@ use Rattle.tc_job.specs.PathSlicing.{path_slicing_of}
 use Rattle.tc_words.specs.PcmLtc.{fineness_in}
 use Rattle.tc_words.specs.Values.{Word, between, system_in, value_or}
 
--- whether the word behind FINENESS is `path`
+-- whether the word after FINENESS is `path`
 abbrev pub is_path : List Word → Bool
 is_path more = bytes_eq (get_or more 1 []) (codes "path")
 
@@ -31,7 +31,7 @@ fineness_with_ticks rate grid word =
     option_and_then (λ fineness. option_map (λ ticks. (fineness, ticks)) (step_ticks fineness grid))
     (fineness_in rate word)
 
--- the job of four words and `path` behind them: no other word may stand there, and no `live`
+-- the job of four words with `path` after them: no other word may be there, and no `live`
 unfoldable pub path_of_samples : Word → Word → Word → List Word → Result Job WordsFault
 path_of_samples system rate threshold more =
     value_or 1 (system_in system) (λ s. value_or 2 (rate_with_grid s rate) (λ r.

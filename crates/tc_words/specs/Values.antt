@@ -70,17 +70,17 @@ numbered count word = option_and_then (slice_get (labels count)) (number_spelled
 unfoldable pub witness_in : Word → Option Witness
 witness_in word = value_in ((codes "firm", Asked) ∷ []) word
 
--- what a word says that need not be there: this, where it is not
+-- what a word says that need not be there: this, if it is not
 abbrev pub read_or : {X : Type 0} → X → (Word → Option X) → Option Word → Option X
 read_or default read None = Some default
 read_or default read (Some word) = read word
 
--- what follows from a value, and the fault of its word where it has none
+-- what follows from a value, and the fault of its word if it has none
 abbrev pub value_or : {X Y : Type 0} → ℕ → Option X → (X → Result Y WordsFault) → Result Y WordsFault
 value_or place None next = Err (Value place)
 value_or place (Some value) next = next value
 
--- what is made of a value, where there is no fault
+-- what is made of a value, if there is no fault
 abbrev pub map_ok : {X Y : Type 0} → (X → Y) → Result X WordsFault → Result Y WordsFault
 map_ok make (Ok value) = Ok (make value)
 map_ok make (Err fault) = Err fault

@@ -18,8 +18,8 @@ use Rattle.tc_words.specs.Values.{Word, between, read_or, system_in, value_in, v
 unfoldable pub deep_in : ℕ → Word → Option Threshold
 deep_in least word = value_in ((codes "deep", Deep least) ∷ []) word
 
--- the job of three words, and of those behind them that are there: the samples of a sum, a threshold at a quarter of
--- the level; no other word may stand there. The last says whether a distance is written as it passes
+-- the job of three words, and of those that follow: the samples of a sum, a threshold at a quarter of
+-- the level; no other word may be there. The last says whether a distance is written as it passes
 unfoldable pub sliced_track : Word → Word → Word → List Word → Bool → Result Job WordsFault
 sliced_track system track threshold more live =
     value_or 1 (system_in system) (λ s. value_or 2 (between 1 MAX_TRACKS track) (λ n.

@@ -10,11 +10,11 @@ use Rattle.limits.specs.declared.sound_file.TheConstants.{MAX_TRACKS}
 use Rattle.tc_job.specs.TrackPath.{track_path_of}
 use Rattle.tc_words.specs.Values.{Word, between, system_in, value_or}
 
--- whether the word behind THRESHOLD is `path`
+-- whether the word after THRESHOLD is `path`
 abbrev pub is_track_path : List Word → Bool
 is_track_path more = bytes_eq (get_or more 0 []) (codes "path")
 
--- the job of three words and `path` behind them: no other word may stand there, and no `live`
+-- the job of three words with `path` after them: no other word may be there, and no `live`
 unfoldable pub path_of_track : Word → Word → Word → List Word → Result Job WordsFault
 path_of_track system track threshold more =
     value_or 1 (system_in system) (λ s. value_or 2 (between 1 MAX_TRACKS track) (λ n.

@@ -23,6 +23,7 @@ use Rattle.tc_job.specs.declared.witness.Witness.TheVariants.{NotAsked}
 use Rattle.vitc_reader.specs.declared.line_length.TheConstants.{MAX_LINE_LENGTH, MIN_LINE_LENGTH}
 use Rattle.tc_words.specs.LtcChase.{chased}
 use Rattle.tc_words.specs.Flight.{flight_in}
+use Rattle.tc_words.specs.Help.{help}
 use Rattle.tc_words.specs.LabelRun.{labels}
 use Rattle.tc_words.specs.LtcMake.{striped}
 use Rattle.tc_words.specs.LumaVitc.{fields_of}
@@ -163,7 +164,7 @@ job_of command values =
     else if bytes_eq command (codes "number") then number values
     else if bytes_eq command (codes "label") then label_of values
     else if bytes_eq command (codes "labels") then labels values
-    else if bytes_eq command (codes "help") then no_values jobs.Help values
+    else if bytes_eq command (codes "help") then help values
     else if bytes_eq command (codes "version") then no_values jobs.Version values
     else Err Command
 

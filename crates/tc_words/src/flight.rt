@@ -5,7 +5,7 @@ ghost use Rattle.tc_words.specs.Flight.{flight_in};
 use crate::values::{limit_in, tolerance_or_normal, witness_or_none, word_at};
 use tc_job::{Flight, WordsFault};
 
-/// The flight of a limit, and of the words behind it that say the tolerance and that each word is asked for a
+/// The flight of a limit, and of the words after it that say the tolerance and that each word is asked for a
 /// witness, if there are any.
 #[tactic(auto, unfolding(crate::specs::Flight::flight_in))]
 pub(crate) fn flight_in(values: &[&str]) -> Result<Flight, WordsFault>

@@ -14,7 +14,7 @@ use label_lines::{Timebase, Way};
 use tc_address::{Count, Label};
 use tc_job::{Job, LabelRun, WordsFault};
 
-/// The job of the words behind `labels`.
+/// The job of the words after `labels`.
 #[tactic(auto, unfolding(crate::specs::LabelRun::labels))]
 pub(crate) fn labels(values: &[&str]) -> Result<Job, WordsFault>
     ensures { result ≡ labels (map (λ v. v.now) values.now) }
@@ -29,7 +29,7 @@ pub(crate) fn labels(values: &[&str]) -> Result<Job, WordsFault>
     }
 }
 
-/// The same, where `ntsc` stands behind the count.
+/// The same, if `ntsc` comes after the count.
 #[tactic(auto, unfolding(crate::specs::LabelRun::behind_ntsc))]
 fn behind_ntsc(count: &str, more: &[&str]) -> Result<Job, WordsFault>
     ensures { result ≡ behind_ntsc count.now (map (λ v. v.now) more.now) }
@@ -61,7 +61,7 @@ fn answered(count: &str, is_pulled: bool, way: &str, values: &[&str]) -> Result<
     })
 }
 
-/// Whether so many values may stand behind the word of a way. Behind other words any number may.
+/// Whether this many values may come after the word of a way. After other words any number may.
 #[tactic(auto, unfolding(crate::specs::LabelRun::has_values))]
 fn has_values(way: &str, count: usize) -> bool
     ensures { result ≡ has_values way.now count }
@@ -78,7 +78,7 @@ fn has_values(way: &str, count: usize) -> bool
     }
 }
 
-/// What is answered, by its word at this place and the values behind it.
+/// What is answered, by its word at this place and the values after it.
 #[tactic(auto, unfolding(crate::specs::LabelRun::way_of))]
 fn way_of(base: Timebase, place: usize, way: &str, values: &[&str]) -> Result<Way, WordsFault>
     requires { place ≤ 3 }

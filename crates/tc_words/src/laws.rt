@@ -1,6 +1,7 @@
 //! The table of usages beside the commands.
 ghost use Rattle.std.specs.Prelude.{◌≡◌, true};
 ghost use Rattle.tc_words.specs.Forms.{AreTaken, are_once, rows};
+ghost use Rattle.tc_words.specs.Pages.{AreNamed, are_examples_taken, are_values_read};
 ghost use Rattle.tc_words.specs.Usages.{HaveUsages, are_commands};
 
 use tc_address::laws::number_and_label_are_inverse;
@@ -12,11 +13,22 @@ pub fn each_command_has_its_usage()
 {}
 
 /// No command has two rows, and each way to make words by the form of a row is taken by its command: with a
-/// value for each word in capitals, with and without what stands in brackets, and with each of the words
+/// value for each word in capitals, with and without what is in brackets, and with each of the words
 /// and of the ways between bars.
 pub fn each_form_is_taken()
     ensures once { are_once rows ≡ true }
     ensures taken { AreTaken rows }
+{
+    number_and_label_are_inverse();
+}
+
+/// The page of each command names what is read. Its examples are words that the command takes. Each value that the
+/// page spells is read in an example at its place, and so is each end of a range. And of all words that the command
+/// takes each is named by the page at its place.
+pub fn each_page_tells_what_is_read()
+    ensures examples { are_examples_taken ≡ true }
+    ensures read { are_values_read ≡ true }
+    ensures named { AreNamed rows }
 {
     number_and_label_are_inverse();
 }

@@ -12,7 +12,7 @@ use limits::MAX_TICK_RATE;
 use line_text::direction_named;
 use tc_job::{Job, MAX_FRAMES, Stripe, WordsFault};
 
-/// The job of six words, and of the two behind them where they are there.
+/// The job of six words, and of the two after them if they are there.
 #[tactic(auto, unfolding(crate::specs::LtcMake::striped))]
 pub(crate) fn striped(
     count: &str,

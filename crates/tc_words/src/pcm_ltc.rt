@@ -12,7 +12,7 @@ use limits::MAX_TICK_RATE;
 use pcm_front::{MAX_SMOOTH, Threshold};
 use tc_job::{Job, MAX_FINENESS, MAX_LEVEL, Slicing, WordsFault};
 
-/// The job of three words, and of those behind them that are there, of which there are three at most.
+/// The job of three words, and of those that follow, three at most.
 #[tactic(auto, unfolding(crate::specs::PcmLtc::sliced))]
 pub(crate) fn sliced(
     system: &str,
@@ -85,7 +85,7 @@ pub(crate) fn smooth_or_one(word: Option<&str>) -> Option<u32>
     }
 }
 
-/// So many ticks a sample, where they are not too many a second.
+/// How many ticks a sample has, if they are not too many a second.
 #[tactic(auto, unfolding(crate::specs::PcmLtc::fineness_in))]
 pub(crate) fn fineness_in(rate: u32, word: &str) -> Option<u32>
     ensures value { result ≡ fineness_in rate word.now }
@@ -99,7 +99,7 @@ pub(crate) fn fineness_in(rate: u32, word: &str) -> Option<u32>
     }
 }
 
-/// The threshold of sums of so many samples.
+/// The threshold of sums of this many samples.
 pub(crate) fn of_sums(smooth: u32, threshold: Threshold) -> Threshold
     requires some { 1 ≤ smooth }
     requires most { smooth ≤ MAX_SMOOTH }

@@ -12,7 +12,7 @@ use step_grid::Grid;
 use tc_address::System;
 use tc_job::{Job, MAX_FINENESS, MAX_LEVEL, PathSlicing, WordsFault, grid_for, step_ticks};
 
-/// Whether the word behind FINENESS is `path`.
+/// Whether the word after FINENESS is `path`.
 pub(crate) fn is_path(more: &[&str]) -> bool
     ensures { result ≡ is_path (map (λ v. v.now) more.now) }
 {
@@ -32,7 +32,7 @@ pub(crate) fn is_the_word(word: &str) -> bool
     }
 }
 
-/// The job of four words and `path` behind them.
+/// The job of four words with `path` after them.
 #[tactic(auto, unfolding(crate::specs::PcmPath::path_of_samples))]
 pub(crate) fn path_of_samples(
     system: &str,
@@ -77,7 +77,7 @@ fn rate_with_grid(system: System, word: &str) -> Option<(u32, Grid)>
     Some((rate, grid))
 }
 
-/// So many ticks a sample, and so many a step.
+/// How many ticks a sample has, and how many a step.
 #[tactic(auto, unfolding(crate::specs::PcmPath::fineness_with_ticks))]
 fn fineness_with_ticks(rate: u32, grid: Grid, word: &str) -> Option<(u32, u32)>
     requires rate { rate ≤ MAX_TICK_RATE }

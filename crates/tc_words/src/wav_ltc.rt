@@ -12,7 +12,7 @@ use limits::MAX_TRACKS;
 use pcm_front::Threshold;
 use tc_job::{Job, MAX_LEVEL, WaveSlicing, WordsFault};
 
-/// The job of three words, and of those behind them that are there, of which there are two at most.
+/// The job of three words, and of those that follow, two at most.
 #[tactic(auto, unfolding(crate::specs::WavLtc::sliced_track))]
 pub(crate) fn sliced_track(
     system: &str,

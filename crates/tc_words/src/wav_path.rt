@@ -7,7 +7,7 @@ use crate::values::{between, system_in};
 use limits::MAX_TRACKS;
 use tc_job::{Job, MAX_LEVEL, TrackPath, WordsFault};
 
-/// Whether the word behind THRESHOLD is `path`.
+/// Whether the word after THRESHOLD is `path`.
 pub(crate) fn is_track_path(more: &[&str]) -> bool
     ensures { result ≡ is_track_path (map (λ v. v.now) more.now) }
 {
@@ -17,7 +17,7 @@ pub(crate) fn is_track_path(more: &[&str]) -> bool
     }
 }
 
-/// The job of three words and `path` behind them.
+/// The job of three words with `path` after them.
 #[tactic(auto, unfolding(crate::specs::WavPath::path_of_track))]
 pub(crate) fn path_of_track(
     system: &str,

@@ -1,13 +1,14 @@
 //! The words of the command line as a task, or their first fault. Read next: `values` for each value, then
 //! `tc_job/src/job.rt`.
 //!
-//! The words that may follow are matched behind those that always stand, so that each word is read
+//! The words that may follow are matched after those that are always there, so that each word is read
 //! once, and a value that is missing ends the reading by `let .. else`, which proves faster than
 //! `ok_or(..)?`.
 ghost use Rattle.std.specs.Prelude.{◌≡◌, ◌⊎◌, length, map, position, string_bytes, alloc_error};
 ghost use Rattle.command_words.specs.CommandLine.{begins_with_dash};
 ghost use Rattle.tc_job.specs.declared.job.Job.TheVariants as jobs;
 ghost use Rattle.tc_words.specs.Flight.{flight_in};
+ghost use Rattle.tc_words.specs.Help.{help};
 ghost use Rattle.tc_words.specs.LabelRun.{labels};
 ghost use Rattle.tc_words.specs.Values.{map_ok};
 ghost use Rattle.tc_words.specs.Words.{answer_to, without_dashes, IsRefusedAtOnce, job_of, no_values};
@@ -16,6 +17,7 @@ ghost use Rattle.tc_words.specs.Words.{ltc_convert, pcm_ltc, wav_ltc, ltc_pcm, t
 ghost use Rattle.tc_words.specs.Words.{vitc_make};
 
 use crate::flight::flight_in;
+use crate::help::help;
 use crate::label_run::labels;
 use crate::live::without_live;
 use crate::ltc_chase::chased;
@@ -131,7 +133,7 @@ fn job_of(command: &str, values: &[&str]) -> Result<Job, WordsFault>
         "number" => number(values),
         "label" => label_of(values),
         "labels" => labels(values),
-        "help" => no_values(values, Job::Help),
+        "help" => help(values),
         "version" => no_values(values, Job::Version),
         _ => Err(WordsFault::Command),
     }

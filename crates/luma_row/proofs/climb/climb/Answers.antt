@@ -40,7 +40,8 @@ loop-turn-preserved c =
     let number = c.best_neighbour-best.result.number in
     let best = c.best_neighbour-best.ensures in
     let is = c.neighbour-place.ensures.neighbour in
-    let chosen = chosen_in_row row c.args.step number c.loop-turn.place c.requires.row best.best c.if-number-eq0.false in
+    let chosen = chosen_in_row row c.args.step number c.loop-turn.place c.requires.row best.best
+    c.if-number-eq0.false in
     let sum = chosen_score row c.args.step number c.loop-turn.place best.best c.if-number-eq0.false in (
       one_move row c.args.step c.loop-turn.turn c.args.from.place c.loop-turn.place c.neighbour-place.result
           c.loop-turn.invariant.0 (number, best.best, is),

@@ -25,8 +25,8 @@ loop-turn-preserved c =
     let row = c.args.row.now in
     let first = 2 * grain (length row) in
     let i = c.loop-turn.invariant in (
-      one_step row first c.loop-turn.turn c.loop-turn.step c.args.coarse c.loop-turn.at.place c.climb-at.result.place i.0 i.2
-          c.climb-at.ensures.climbs,
+      one_step row first c.loop-turn.turn c.loop-turn.step c.args.coarse c.loop-turn.at.place c.climb-at.result.place
+          i.0 i.2 c.climb-at.ensures.climbs,
       c.climb-at.ensures.place,
       half_step first c.loop-turn.turn c.loop-turn.step i.2,
       omega (arith, i.3),

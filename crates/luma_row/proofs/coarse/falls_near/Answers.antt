@@ -12,7 +12,8 @@ loop-pixel-preserved c =
       omega (arith, i.0),
       omega (arith, c.loop-pixel-test.true),
       one_filled (fall_at c.args.row.now) 4096 (2 ^ 26) c.loop-pixel.pixel c.fall_at.result c.loop-pixel.falls i.2
-          (omega (arith, c.loop-pixel-test.true, c.requires.within, c.requires.row.1)) c.fall_at.ensures.value c.fall_at.ensures.most,
+          (omega (arith, c.loop-pixel-test.true, c.requires.within, c.requires.row.1))
+          c.fall_at.ensures.value c.fall_at.ensures.most,
     )
 
 pub returns : goal.returns

@@ -16,12 +16,16 @@ loop-before-preserved c =
     elim c.if-fits_nearly.branch [
       | then-fits_nearly w ↦ (
         omega (arith, c.loop-before-test.true),
-        w.best-is ∙ it_fits row place c.earlier-other.result before other.earlier (sym c.fits_nearly.ensures ∙ w.if-fits_nearly.true),
+        w.best-is
+            ∙ it_fits row place c.earlier-other.result before other.earlier
+            (sym c.fits_nearly.ensures ∙ w.if-fits_nearly.true),
         subst IsInRow (sym w.best-is) other.place,
       )
       | else-fits_nearly w ↦ (
         omega (arith, c.loop-before-test.true),
-        w.best-is ∙ (c.loop-before.invariant.1 ∙ it_fits_not row place c.earlier-other.result before other.earlier (sym c.fits_nearly.ensures ∙ w.if-fits_nearly.false)),
+        w.best-is ∙ (c.loop-before.invariant.1
+            ∙ it_fits_not row place c.earlier-other.result before other.earlier
+            (sym c.fits_nearly.ensures ∙ w.if-fits_nearly.false)),
         subst IsInRow (sym w.best-is) c.loop-before.invariant.2,
       )
     ]

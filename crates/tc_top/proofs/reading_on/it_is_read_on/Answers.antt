@@ -16,6 +16,13 @@ returns c = read_on (record {
     only = c.each_command_has_its_usage.ensures.only;
     taken = c.each_form_is_taken.ensures.taken;
   };
+  pages = record {
+    examples = c.each_page_tells_what_is_read.ensures.examples;
+    read = c.each_page_tells_what_is_read.ensures.read;
+    named = c.each_page_tells_what_is_read.ensures.named;
+    notes = c.help_tells_of_each_status.ensures.notes;
+    numbers = c.help_tells_of_each_status.ensures.numbers;
+  };
   sound = record {
     inputs = c.bytes_are_read_as_the_text_says.ensures.input;
     files = c.a_file_is_read_as_it_was_written.ensures.read;

@@ -1,6 +1,6 @@
 use Rattle.tc_top.proofs.streaming.work_on.Goals as goal
 
--- a search does not see these four: what is told of them unfolds too far
+-- a search does not see these four: what is claimed of them unfolds too far
 pub returns-in-LtcMake : goal.returns-in-LtcMake
 returns-in-LtcMake g c = rw c.in-LtcMake.is c.make_recording.ensures
 

@@ -17,7 +17,7 @@ returns-in-Nothing-clause-reads c = λ intervals read.
       counts = read.counts ∙ ap (fold with_event no_counts) (sym (append-nil read.events));
     }
 
--- its events are counted behind the others
+-- its events are counted after the others
 pub returns-in_default-clause-reads : goal.returns-in_default-clause-reads
 returns-in_default-clause-reads c = λ intervals read.
     let told = c.count.ensures.counted in

@@ -1,0 +1,15 @@
+use Rattle.made_commands.specs.Pages.{values_of_signals}
+use Rattle.made_commands.proofs.pages.push_signal_values.Goals as goal
+
+-- the rows are those of the table
+pub push_lines-requires : goal.push_lines-requires
+unfolding values_of_signals
+push_lines-requires c = c.requires
+
+pub returns-clause-items : goal.returns-clause-items
+unfolding values_of_signals
+returns-clause-items c = c.push_lines.ensures.items
+
+pub returns-clause-len : goal.returns-clause-len
+unfolding values_of_signals
+returns-clause-len c = c.push_lines.ensures.len

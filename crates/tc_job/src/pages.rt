@@ -1,0 +1,702 @@
+//! What `help` says of each command, and of the exit numbers: a row for each line, with the command or `statuses`.
+//! Read next: `values`, the lines of values.
+use crate::page_line::PageLine;
+use crate::values;
+
+/// What each command does.
+pub const SAID: [(&str, PageLine); 24] = [
+    (
+        "ltc-read",
+        (
+            "Reads a recording and writes a line for each word, forward or backward, for\n\
+            each refused word, and for each break of the code. The last line counts them.\n\
+            Standard input is an interval file; a sound file goes through wav-ltc first.",
+            "",
+            "",
+            0,
+            0,
+        ),
+    ),
+    (
+        "ltc-worn",
+        (
+            "The same as ltc-read with the wider tolerance of worn tapes: neighbouring cells\n\
+            may differ by a sixth.\n\
+            Standard input is an interval file; a sound file goes through wav-ltc first.",
+            "",
+            "",
+            0,
+            0,
+        ),
+    ),
+    (
+        "ltc-rough",
+        (
+            "The same as ltc-read with the tolerance of hissy and dull tapes: a cell may\n\
+            differ by a quarter from the mean of the latest four.\n\
+            Standard input is an interval file; a sound file goes through wav-ltc first.",
+            "",
+            "",
+            0,
+            0,
+        ),
+    ),
+    (
+        "ltc-fly",
+        (
+            "Writes a line for each frame of a recording. Missing frames are invented, and\n\
+            each of them is marked.\n\
+            Standard input is an interval file; a sound file goes through wav-ltc first.",
+            "",
+            "",
+            0,
+            0,
+        ),
+    ),
+    (
+        "ltc-spans",
+        (
+            "Writes what is on a tape: a line for each span, where the labels of the frames\n\
+            count on, and between two spans a line with the gap.\n\
+            Standard input is an interval file; a sound file goes through wav-ltc first.",
+            "",
+            "",
+            0,
+            0,
+        ),
+    ),
+    (
+        "ltc-mtc",
+        (
+            "Writes the frames of a recording as MIDI Time Code: a full message where they\n\
+            begin, and then four quarter frames for each frame.\n\
+            Standard input is an interval file; a sound file goes through wav-ltc first.",
+            "",
+            "",
+            0,
+            0,
+        ),
+    ),
+    (
+        "ltc-jam",
+        (
+            "Writes a clean copy of a recording: its frames as an interval file, in cells of\n\
+            one length. User bits, flags and gaps are not kept.\n\
+            Standard input is an interval file; a sound file goes through wav-ltc first.",
+            "",
+            "",
+            0,
+            0,
+        ),
+    ),
+    (
+        "ltc-convert",
+        (
+            "Writes an interval file in the version that is asked for, with the same system,\n\
+            tick rate and intervals.\n\
+            Standard input is an interval file.",
+            "",
+            "",
+            0,
+            0,
+        ),
+    ),
+    (
+        "pcm-ltc",
+        (
+            "Writes an interval file of the time code in raw sound.\n\
+            Standard input is raw samples: one channel, 16 bits with a sign, the less\n\
+            significant byte first. A sound file goes to wav-ltc.",
+            "",
+            "",
+            0,
+            0,
+        ),
+    ),
+    (
+        "wav-ltc",
+        (
+            "Writes an interval file of the time code on a track of a sound file, with 16\n\
+            ticks a sample.\n\
+            Standard input is a sound file: WAV, BWF, RF64 or BW64. An interval file goes\n\
+            to ltc-read.",
+            "",
+            "",
+            0,
+            0,
+        ),
+    ),
+    (
+        "ltc-pcm",
+        (
+            "Writes a recording as raw samples of one size, to be played at its tick rate.\n\
+            Standard input is an interval file; a sound file goes through wav-ltc first.",
+            "",
+            "",
+            0,
+            0,
+        ),
+    ),
+    (
+        "ltc-make",
+        (
+            "Writes an interval file of FRAMES frames, from LABEL on. Nothing is read.",
+            "",
+            "",
+            0,
+            0,
+        ),
+    ),
+    (
+        "ltc-load",
+        (
+            "Makes a recording whose speed varies by chance, reads it, and writes one line\n\
+            about what was read. Nothing is read from standard input.",
+            "",
+            "",
+            0,
+            0,
+        ),
+    ),
+    (
+        "mtc-read",
+        (
+            "Writes a line for each label in MIDI bytes: one for each full message, and one\n\
+            for eight quarter frames. Everything else is skipped.\n\
+            Standard input is MIDI bytes.",
+            "",
+            "",
+            0,
+            0,
+        ),
+    ),
+    (
+        "chase",
+        (
+            "Writes the trace of a transport that starts at LABEL and follows the master of\n\
+            a script, a line for each frame.\n\
+            Standard input is the script, a text.",
+            "",
+            "",
+            0,
+            0,
+        ),
+    ),
+    (
+        "ltc-chase",
+        (
+            "Writes the trace of a transport that starts at LABEL and follows the frames of\n\
+            a recording, as ltc-fly writes them. At each step it slips by chance.\n\
+            Standard input is an interval file; a sound file goes through wav-ltc first.",
+            "",
+            "",
+            0,
+            0,
+        ),
+    ),
+    (
+        "vitc-read",
+        (
+            "Writes a line for each field: the word on which its lines agree, two words that\n\
+            conflict, or why no line gives one.\n\
+            Standard input is a line file; a picture goes through luma-vitc first.",
+            "",
+            "",
+            0,
+            0,
+        ),
+    ),
+    (
+        "luma-vitc",
+        (
+            "Writes what the rows of a picture say as a line file, for vitc-read.\n\
+            Standard input is fields of gray pixels, row after row; a byte of 255 is white.",
+            "",
+            "",
+            0,
+            0,
+        ),
+    ),
+    (
+        "vitc-make",
+        (
+            "Writes a line file of FRAMES frames, from LABEL on: two fields for each frame,\n\
+            of two equal lines each. Nothing is read.",
+            "",
+            "",
+            0,
+            0,
+        ),
+    ),
+    (
+        "number",
+        (
+            "Writes how many labels of the count come before the label in a day.",
+            "",
+            "",
+            0,
+            0,
+        ),
+    ),
+    (
+        "label",
+        (
+            "Writes the label of a number in the day of the count.",
+            "",
+            "",
+            0,
+            0,
+        ),
+    ),
+    (
+        "labels",
+        (
+            "Writes a line for each line of a text: what WAY asks of the label in it. A line\n\
+            has a label of the count, the number of one in the day, or seconds since\n\
+            midnight with three decimals, as in 3600.040.\n\
+            Standard input is the text. WAY is one of these words, with what follows it.",
+            "",
+            "",
+            0,
+            0,
+        ),
+    ),
+    (
+        "help",
+        (
+            "Writes how each command is typed, a line for each. With one more word it tells\n\
+            about a command, with its values and examples, or about the exit numbers.",
+            "",
+            "",
+            0,
+            0,
+        ),
+    ),
+    (
+        "version",
+        ("Writes which version of tc this is.", "", "", 0, 0),
+    ),
+];
+
+/// The values of its words, in the order of its form: of the commands along a recording. A function that names a
+/// longer table has no proof, so they are three.
+pub const VALUES_OF_RECORDINGS: [(&str, PageLine); 23] = [
+    ("ltc-rough", values::FIRM_ALONE),
+    ("ltc-fly", values::LIMIT),
+    ("ltc-fly", values::WORN_OR_ROUGH),
+    ("ltc-fly", values::FIRM),
+    ("ltc-spans", values::LIMIT),
+    ("ltc-spans", values::WORN_OR_ROUGH),
+    ("ltc-spans", values::FIRM),
+    ("ltc-mtc", values::LIMIT),
+    ("ltc-mtc", values::WORN_OR_ROUGH),
+    ("ltc-mtc", values::FIRM),
+    ("ltc-jam", values::LIMIT),
+    ("ltc-jam", values::CELL_OF_JAM),
+    ("ltc-jam", values::TICK_RATE_OF_JAM),
+    ("ltc-jam", values::WORN_OR_ROUGH_OF_JAM),
+    ("ltc-jam", values::FIRM_OF_JAM),
+    ("ltc-convert", values::VERSION),
+    ("ltc-chase", values::COUNT),
+    ("ltc-chase", values::LABEL_SECOND),
+    ("ltc-chase", values::LIMIT_OF_CHASE),
+    ("ltc-chase", values::SEED_OF_SLIPS),
+    ("ltc-chase", values::BOUND),
+    ("ltc-chase", values::WORN_OR_ROUGH_OF_CHASE),
+    ("ltc-chase", values::FIRM_OF_CHASE),
+];
+
+/// The same of the commands of sound and of pixels.
+pub const VALUES_OF_SIGNALS: [(&str, PageLine); 21] = [
+    ("pcm-ltc", values::SYSTEM),
+    ("pcm-ltc", values::RATE),
+    ("pcm-ltc", values::THRESHOLD),
+    ("pcm-ltc", values::FINENESS),
+    ("pcm-ltc", values::PATH),
+    ("pcm-ltc", values::FOLLOW_OR_DEEP),
+    ("pcm-ltc", values::SMOOTH),
+    ("pcm-ltc", values::LIVE),
+    ("wav-ltc", values::SYSTEM),
+    ("wav-ltc", values::TRACK),
+    ("wav-ltc", values::THRESHOLD_OF_TRACK),
+    ("wav-ltc", values::PATH_OF_TRACK),
+    ("wav-ltc", values::SMOOTH_OF_TRACK),
+    ("wav-ltc", values::DEEP),
+    ("wav-ltc", values::LIVE_OF_TRACK),
+    ("ltc-pcm", values::LEVEL),
+    ("luma-vitc", values::SYSTEM_WITH_LINES),
+    ("luma-vitc", values::WIDTH),
+    ("luma-vitc", values::HEIGHT),
+    ("luma-vitc", values::FIRST),
+    ("luma-vitc", values::ROWS),
+];
+
+/// The same of those that make or take labels, and of `help`.
+pub const VALUES_OF_LABELS: [(&str, PageLine); 35] = [
+    ("ltc-make", values::COUNT),
+    ("ltc-make", values::DIRECTION),
+    ("ltc-make", values::LABEL_THIRD),
+    ("ltc-make", values::FRAMES),
+    ("ltc-make", values::CELL),
+    ("ltc-make", values::TICK_RATE),
+    ("ltc-make", values::TO_CELL),
+    ("ltc-make", values::STEP),
+    ("ltc-load", values::SEED),
+    ("ltc-load", values::WORDS),
+    ("chase", values::COUNT),
+    ("chase", values::LABEL_SECOND),
+    ("vitc-make", values::COUNT_WITH_LINES),
+    ("vitc-make", values::LABEL_SECOND),
+    ("vitc-make", values::FRAMES_WITH_LINES),
+    ("vitc-make", values::LENGTH),
+    ("number", values::COUNT),
+    ("number", values::LABEL_SECOND),
+    ("label", values::COUNT),
+    ("label", values::NUMBER),
+    ("labels", values::COUNT),
+    ("labels", values::NTSC),
+    ("labels", values::WAY_ALONE),
+    ("labels", values::WAY_ALONG),
+    ("labels", values::N),
+    ("labels", values::WAY_SINCE),
+    ("labels", values::LABEL_SINCE),
+    ("labels", values::WAY_TO),
+    ("labels", values::COUNT_TO),
+    ("help", values::COMMAND_OF_WORDS),
+    ("help", values::COMMAND_OF_FRAMES),
+    ("help", values::COMMAND_OF_RECORDINGS),
+    ("help", values::COMMAND_OF_OTHERS),
+    ("help", values::COMMAND_OF_LABELS),
+    ("help", values::STATUSES),
+];
+
+/// Its examples, with its words in the middle, each after a space.
+pub const EXAMPLES: [(&str, PageLine); 33] = [
+    (
+        "ltc-read",
+        ("Example: tc ltc-read", "", " < tape.ltci", 0, 0),
+    ),
+    (
+        "ltc-read",
+        (
+            "Example: tc wav-ltc 25 1 250 < tape.wav | tc ltc-read",
+            "",
+            "",
+            0,
+            0,
+        ),
+    ),
+    (
+        "ltc-worn",
+        ("Example: tc ltc-worn", "", " < tape.ltci", 0, 0),
+    ),
+    (
+        "ltc-rough",
+        ("Example: tc ltc-rough", "", " < tape.ltci", 0, 0),
+    ),
+    (
+        "ltc-rough",
+        (
+            "Example: tc wav-ltc 25 1 250 < tape.wav | tc ltc-rough",
+            " firm",
+            "",
+            0,
+            0,
+        ),
+    ),
+    (
+        "ltc-fly",
+        ("Example: tc ltc-fly", " 2 rough", " < tape.ltci", 0, 0),
+    ),
+    (
+        "ltc-spans",
+        (
+            "Example: tc wav-ltc 25 1 250 < tape.wav | tc ltc-spans",
+            " 2 rough",
+            "",
+            0,
+            0,
+        ),
+    ),
+    (
+        "ltc-mtc",
+        (
+            "Example: tc ltc-mtc",
+            " 2 rough",
+            " < tape.ltci > tape.mtc",
+            0,
+            0,
+        ),
+    ),
+    (
+        "ltc-jam",
+        (
+            "Example: tc ltc-jam",
+            " 2 24 48000 rough",
+            " < tape.ltci > clean.ltci",
+            0,
+            0,
+        ),
+    ),
+    (
+        "ltc-convert",
+        (
+            "Example: tc ltc-convert",
+            " 2",
+            " < tape.ltci > short.ltci",
+            0,
+            0,
+        ),
+    ),
+    (
+        "pcm-ltc",
+        (
+            "Example: tc pcm-ltc",
+            " 25 48000 250 16 follow 2",
+            " < tape.raw > tape.ltci",
+            0,
+            0,
+        ),
+    ),
+    (
+        "pcm-ltc",
+        (
+            "Example: tc pcm-ltc",
+            " 25 48000 250 16 path",
+            " < tape.raw > tape.ltci",
+            0,
+            0,
+        ),
+    ),
+    (
+        "wav-ltc",
+        (
+            "Example: tc wav-ltc",
+            " 25 1 250 2 deep",
+            " < tape.wav > tape.ltci",
+            0,
+            0,
+        ),
+    ),
+    (
+        "wav-ltc",
+        (
+            "Example: tc wav-ltc",
+            " 25 1 250",
+            " < tape.wav | tc ltc-rough",
+            0,
+            0,
+        ),
+    ),
+    (
+        "ltc-pcm",
+        (
+            "Example: tc ltc-pcm",
+            " 8192",
+            " < tape.ltci > tape.raw",
+            0,
+            0,
+        ),
+    ),
+    (
+        "ltc-make",
+        (
+            "Example: tc ltc-make",
+            " 25 forward 01:00:00:00 1500 24 48000",
+            " > tape.ltci",
+            0,
+            0,
+        ),
+    ),
+    (
+        "ltc-make",
+        (
+            "Example: tc ltc-make",
+            " 25 forward 01:00:00:00 1500 24 48000 48 1",
+            " > slower.ltci",
+            0,
+            0,
+        ),
+    ),
+    ("ltc-load", ("Example: tc ltc-load", " 53 100", "", 0, 0)),
+    (
+        "mtc-read",
+        ("Example: tc mtc-read", "", " < tape.mtc", 0, 0),
+    ),
+    (
+        "chase",
+        (
+            "Example: tc chase",
+            " 25 01:00:00:00",
+            " < script.csv",
+            0,
+            0,
+        ),
+    ),
+    (
+        "ltc-chase",
+        (
+            "Example: tc ltc-chase",
+            " 25 01:00:00:00 2 1 8 rough",
+            " < tape.ltci",
+            0,
+            0,
+        ),
+    ),
+    (
+        "vitc-read",
+        ("Example: tc vitc-read", "", " < tape.vitl", 0, 0),
+    ),
+    (
+        "luma-vitc",
+        (
+            "Example: tc luma-vitc",
+            " 25 720 288 0 40",
+            " < fields.gray > tape.vitl",
+            0,
+            0,
+        ),
+    ),
+    (
+        "vitc-make",
+        (
+            "Example: tc vitc-make",
+            " 25 01:00:00:00 100 1728",
+            " > tape.vitl",
+            0,
+            0,
+        ),
+    ),
+    (
+        "number",
+        ("Example: tc number", " 25 01:00:00:00", "", 0, 0),
+    ),
+    ("label", ("Example: tc label", " 25 90000", "", 0, 0)),
+    (
+        "labels",
+        ("Example: tc labels", " 25 number", " < labels.txt", 0, 0),
+    ),
+    (
+        "labels",
+        (
+            "Example: echo 10:00:00:00 | tc labels",
+            " 25 plus 250",
+            "",
+            0,
+            0,
+        ),
+    ),
+    (
+        "labels",
+        (
+            "Example: tc labels",
+            " 25 since 01:00:00:00",
+            " < labels.txt",
+            0,
+            0,
+        ),
+    ),
+    (
+        "labels",
+        (
+            "Example: tc labels",
+            " 30 ntsc to 24 ntsc",
+            " < labels.txt",
+            0,
+            0,
+        ),
+    ),
+    ("help", ("Example: tc help", " ltc-read", "", 0, 0)),
+    ("help", ("Example: tc help", " statuses", "", 0, 0)),
+    ("version", ("Example: tc version", "", "", 0, 0)),
+];
+
+/// Each exit number and what it means, with the beginning of its notes in the middle.
+pub const EXIT_NUMBERS: [(&str, PageLine); 8] = [
+    (
+        "statuses",
+        (
+            "0  ",
+            "",
+            "done: the input was read to its end, and the whole output was written.",
+            0,
+            0,
+        ),
+    ),
+    (
+        "statuses",
+        (
+            "2  ",
+            "tc: usage: ",
+            "..  The words name no job; nothing was read or written.\n\
+            \x20  Compare them with tc help COMMAND. Word 0 is the command. A file is not a\n\
+            \x20  word: it is given with <, as in tc ltc-read < tape.ltci.",
+            0,
+            0,
+        ),
+    ),
+    (
+        "statuses",
+        (
+            "3  ",
+            "tc: refused: ",
+            "..  The input breaks its format at the place that is named.\n\
+            \x20  magic at byte 0: another kind of file; a sound file goes to wav-ltc, and an\n\
+            \x20  interval file to ltc-read. truncated: the end is cut off. What came before\n\
+            \x20  that byte was read and written; of a script nothing is written.",
+            0,
+            0,
+        ),
+    ),
+    (
+        "statuses",
+        (
+            "4  ",
+            "tc: read fault",
+            "  Standard input failed: look at its disk or device.",
+            0,
+            0,
+        ),
+    ),
+    (
+        "statuses",
+        (
+            "5  ",
+            "tc: write fault",
+            "  Standard output failed: a full disk, or a closed pipe.\n\
+            \x20  What was written is the beginning of the output.",
+            0,
+            0,
+        ),
+    ),
+    (
+        "statuses",
+        (
+            "6  ",
+            "tc: out of memory",
+            "  There was no memory: see ulimit -v.",
+            0,
+            0,
+        ),
+    ),
+    (
+        "statuses",
+        (
+            "7  ",
+            "tc: limit",
+            "  The input is longer than the command takes: cut it into files.",
+            0,
+            0,
+        ),
+    ),
+    (
+        "statuses",
+        (
+            "8  ",
+            "",
+            "no note: an argument is not text in UTF-8. Look for a byte above 7f.",
+            0,
+            0,
+        ),
+    ),
+];
