@@ -1,10 +1,11 @@
 //! What `help` says of each command, and of the exit numbers: a row for each line, with the command or `statuses`.
+//! The tables are `static`, since each proof about a function that names a `const` has the whole value in it.
 //! Read next: `values`, the lines of values.
 use crate::page_line::PageLine;
 use crate::values;
 
 /// What each command does.
-pub const SAID: [(&str, PageLine); 24] = [
+pub static SAID: [(&str, PageLine); 24] = [
     (
         "ltc-read",
         (
@@ -280,7 +281,7 @@ pub const SAID: [(&str, PageLine); 24] = [
 
 /// The values of its words, in the order of its form: of the commands along a recording. A function that names a
 /// longer table has no proof, so they are three.
-pub const VALUES_OF_RECORDINGS: [(&str, PageLine); 23] = [
+pub static VALUES_OF_RECORDINGS: [(&str, PageLine); 23] = [
     ("ltc-rough", values::FIRM_ALONE),
     ("ltc-fly", values::LIMIT),
     ("ltc-fly", values::WORN_OR_ROUGH),
@@ -307,7 +308,7 @@ pub const VALUES_OF_RECORDINGS: [(&str, PageLine); 23] = [
 ];
 
 /// The same of the commands of sound and of pixels.
-pub const VALUES_OF_SIGNALS: [(&str, PageLine); 21] = [
+pub static VALUES_OF_SIGNALS: [(&str, PageLine); 21] = [
     ("pcm-ltc", values::SYSTEM),
     ("pcm-ltc", values::RATE),
     ("pcm-ltc", values::THRESHOLD),
@@ -332,7 +333,7 @@ pub const VALUES_OF_SIGNALS: [(&str, PageLine); 21] = [
 ];
 
 /// The same of those that make or take labels, and of `help`.
-pub const VALUES_OF_LABELS: [(&str, PageLine); 35] = [
+pub static VALUES_OF_LABELS: [(&str, PageLine); 35] = [
     ("ltc-make", values::COUNT),
     ("ltc-make", values::DIRECTION),
     ("ltc-make", values::LABEL_THIRD),
@@ -371,7 +372,7 @@ pub const VALUES_OF_LABELS: [(&str, PageLine); 35] = [
 ];
 
 /// Its examples, with its words in the middle, each after a space.
-pub const EXAMPLES: [(&str, PageLine); 33] = [
+pub static EXAMPLES: [(&str, PageLine); 33] = [
     (
         "ltc-read",
         ("Example: tc ltc-read", "", " < tape.ltci", 0, 0),
@@ -612,7 +613,7 @@ pub const EXAMPLES: [(&str, PageLine); 33] = [
 ];
 
 /// Each exit number and what it means, with the beginning of its notes in the middle.
-pub const EXIT_NUMBERS: [(&str, PageLine); 8] = [
+pub static EXIT_NUMBERS: [(&str, PageLine); 8] = [
     (
         "statuses",
         (

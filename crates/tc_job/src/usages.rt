@@ -3,7 +3,7 @@
 /// The word of each command and what follows it in its line of `help`, a row a command. A word in capitals is a
 /// value, what is in brackets may be left out, and of words with a bar between them one is given, and so of ways
 /// with a bar between them.
-pub const USAGES: [(&str, &str); 24] = [
+pub static USAGES: [(&str, &str); 24] = [
     ("ltc-read", ""),
     ("ltc-worn", ""),
     ("ltc-rough", " [firm]"),
