@@ -78,7 +78,7 @@ joined start a b c d first second third last one two three four =
 
 -- how long the line of a row is in the page of its topic
 abbrev row_long : Row → ℕ
-row_long row = length row.1 + length row.2 + length row.3 + 1
+row_long row = length row.before + length row.words + length row.behind + 1
 
 chosen_within : (is : Bool) (line : List ℕ) → length (if is then line else []) ≤ length line
 chosen_within true line = omega arith
@@ -86,8 +86,8 @@ chosen_within false line = omega arith
 
 row_within : (topic : List ℕ) (row : Row) → length (line_of topic row) ≤ row_long row
 row_within topic row =
-    subst (λ (n : ℕ). length (line_of topic row) ≤ n) (four_long row.1 row.2 row.3 (codes "\n"))
-    (chosen_within (bytes_eq row.0 topic) (row.1 ++ row.2 ++ row.3 ++ codes "\n"))
+    subst (λ (n : ℕ). length (line_of topic row) ≤ n) (four_long row.before row.words row.behind (codes "\n"))
+    (chosen_within (bytes_eq row.topic topic) (row.before ++ row.words ++ row.behind ++ codes "\n"))
 
 lines_within : (topic : List ℕ) (rows : List Row) → length (page_lines topic rows) ≤ sum_by row_long rows
 lines_within topic rows =

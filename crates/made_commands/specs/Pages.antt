@@ -9,12 +9,18 @@ use Rattle.made_commands.specs.About.{Usage, usage_line, usages}
 
 -- a topic, which is a command or `statuses`, and a line about it in three parts: a text, the words that a law speaks
 -- of, and a text after them
-abbrev pub Row : Type 0
-Row = List ℕ × List ℕ × List ℕ × List ℕ
+pub record Row : Type 0 where
+  pub topic : List ℕ
+  pub before : List ℕ
+  pub words : List ℕ
+  pub behind : List ℕ
+
+abbrev pub row_of : List ℕ → List ℕ → List ℕ → List ℕ → Row
+row_of topic before words behind = record { topic = topic; before = before; words = words; behind = behind }
 
 -- the line of a row in the page of this topic: nothing, if it is about another one
 abbrev pub line_of : List ℕ → Row → List ℕ
-line_of topic row = if bytes_eq row.0 topic then row.1 ++ row.2 ++ row.3 ++ codes "\n" else []
+line_of topic row = if bytes_eq row.topic topic then row.before ++ row.words ++ row.behind ++ codes "\n" else []
 
 -- the lines of a topic
 abbrev pub page_lines : List ℕ → List Row → List ℕ
@@ -22,22 +28,22 @@ page_lines topic rows = flat_map (line_of topic) rows
 
 -- the tables: what each command does, the values of its words, its examples; and the exit numbers
 unfoldable pub said : List Row
-said = map (λ row. (row.0.now, row.1.0.now, row.1.1.now, row.1.2.now)) SAID
+said = map (λ row. row_of row.0.now row.1.0.now row.1.1.now row.1.2.now) SAID
 
 unfoldable pub values_of_recordings : List Row
-values_of_recordings = map (λ row. (row.0.now, row.1.0.now, row.1.1.now, row.1.2.now)) VALUES_OF_RECORDINGS
+values_of_recordings = map (λ row. row_of row.0.now row.1.0.now row.1.1.now row.1.2.now) VALUES_OF_RECORDINGS
 
 unfoldable pub values_of_signals : List Row
-values_of_signals = map (λ row. (row.0.now, row.1.0.now, row.1.1.now, row.1.2.now)) VALUES_OF_SIGNALS
+values_of_signals = map (λ row. row_of row.0.now row.1.0.now row.1.1.now row.1.2.now) VALUES_OF_SIGNALS
 
 unfoldable pub values_of_labels : List Row
-values_of_labels = map (λ row. (row.0.now, row.1.0.now, row.1.1.now, row.1.2.now)) VALUES_OF_LABELS
+values_of_labels = map (λ row. row_of row.0.now row.1.0.now row.1.1.now row.1.2.now) VALUES_OF_LABELS
 
 unfoldable pub examples : List Row
-examples = map (λ row. (row.0.now, row.1.0.now, row.1.1.now, row.1.2.now)) EXAMPLES
+examples = map (λ row. row_of row.0.now row.1.0.now row.1.1.now row.1.2.now) EXAMPLES
 
 unfoldable pub exit_numbers : List Row
-exit_numbers = map (λ row. (row.0.now, row.1.0.now, row.1.1.now, row.1.2.now)) EXIT_NUMBERS
+exit_numbers = map (λ row. row_of row.0.now row.1.0.now row.1.1.now row.1.2.now) EXIT_NUMBERS
 
 -- the values of the words of a command
 abbrev pub value_lines : List ℕ → List ℕ

@@ -15,7 +15,7 @@ number_in_row number = (48 + number) ∷ codes "  "
 -- how the notes of an exit number begin by rows of the table: by the first that begins with the number
 abbrev pub note_in : ℕ → List Row → List ℕ
 note_in number [] = []
-note_in number (row ∷ more) = if bytes_eq row.1 (number_in_row number) then row.2 else note_in number more
+note_in number (row ∷ more) = if bytes_eq row.before (number_in_row number) then row.words else note_in number more
 
 -- how the notes of a status begin, as `help statuses` says
 abbrev pub told_note : Status → List ℕ

@@ -79,7 +79,7 @@ pub fn lines_that_are_made_are_read_back()
 /// `help statuses` has each exit number once, in their order, and how its notes begin: 8 is that of no
 /// status, and like 0 has no note.
 pub fn help_tells_of_each_status()
-    ensures numbers { map {B = List ℕ} (λ row. row.1) exit_numbers ≡ codes "0  " ∷ codes "2  " ∷ codes "3  "
+    ensures numbers { map {B = List ℕ} (λ row. row.before) exit_numbers ≡ codes "0  " ∷ codes "2  " ∷ codes "3  "
         ∷ codes "4  " ∷ codes "5  " ∷ codes "6  " ∷ codes "7  " ∷ codes "8  " ∷ [] }
     ensures notes { TellTheNotes }
     ensures usage { told_note statuses.Usage ≡ codes "tc: usage: " }

@@ -2,8 +2,8 @@
 //! Read next: `tc_command/src/making.rt`.
 ghost use Rattle.std.specs.Prelude.{◌≡◌, ◌+◌, ◌-◌, ◌<◌, ◌≤◌, ◌++◌, [], true, false, length, drop, map};
 ghost use Rattle.arrayvec.specs.ArrayVec.{array_vec_len};
-ghost use Rattle.made_commands.specs.Pages.{examples, line_of, page_in, page_lines, page_text, said, statuses_text};
-ghost use Rattle.made_commands.specs.Pages.{text_of, value_lines};
+ghost use Rattle.made_commands.specs.Pages.{examples, line_of, page_in, page_lines, page_text, row_of, said};
+ghost use Rattle.made_commands.specs.Pages.{statuses_text, text_of, value_lines};
 ghost use Rattle.made_commands.specs.Pages.{values_of_labels, values_of_recordings, values_of_signals};
 ghost use Rattle.made_commands.specs.Pages.{told_page, told_statuses};
 ghost use Rattle.tc_command.specs.Told.{WorksAsTold};
@@ -211,11 +211,11 @@ fn push_statuses(room: &mut Room)
 /// The lines of the rows of the topic.
 fn push_lines(topic: &str, rows: &[(&str, PageLine)], room: &mut Room)
     requires { array_vec_len room.old + length (page_lines topic.now
-        (map (λ row. (row.0.now, row.1.0.now, row.1.1.now, row.1.2.now)) rows.now)) ≤ PAGE }
+        (map (λ row. row_of row.0.now row.1.0.now row.1.1.now row.1.2.now) rows.now)) ≤ PAGE }
     ensures items { room.new.items ≡ room.old.items ++ page_lines topic.now
-        (map (λ row. (row.0.now, row.1.0.now, row.1.1.now, row.1.2.now)) rows.now) }
+        (map (λ row. row_of row.0.now row.1.0.now row.1.1.now row.1.2.now) rows.now) }
     ensures len { array_vec_len room.new ≡ array_vec_len room.old + length (page_lines topic.now
-        (map (λ row. (row.0.now, row.1.0.now, row.1.1.now, row.1.2.now)) rows.now)) }
+        (map (λ row. row_of row.0.now row.1.0.now row.1.1.now row.1.2.now) rows.now)) }
 {
     'rows: for (told, line) in rows {
         let (before, words, behind, _, _) = *line;
@@ -226,11 +226,11 @@ fn push_lines(topic: &str, rows: &[(&str, PageLine)], room: &mut Room)
 /// The line of a row, if it is of the topic.
 fn push_row(topic: &str, told: &str, before: &str, words: &str, behind: &str, room: &mut Room)
     requires { array_vec_len room.old
-        + length (line_of topic.now (told.now, before.now, words.now, behind.now)) ≤ PAGE }
+        + length (line_of topic.now (row_of told.now before.now words.now behind.now)) ≤ PAGE }
     ensures items { room.new.items
-        ≡ room.old.items ++ line_of topic.now (told.now, before.now, words.now, behind.now) }
+        ≡ room.old.items ++ line_of topic.now (row_of told.now before.now words.now behind.now) }
     ensures len { array_vec_len room.new
-        ≡ array_vec_len room.old + length (line_of topic.now (told.now, before.now, words.now, behind.now)) }
+        ≡ array_vec_len room.old + length (line_of topic.now (row_of told.now before.now words.now behind.now)) }
 {
     if *told == *topic {
         put_text(room, before);

@@ -13,7 +13,7 @@ pub record PagesLaws : Type 0 where
   pub read : are_values_read ≡ true
   pub named : AreNamed rows
   pub notes : TellTheNotes
-  pub numbers : map {B = List ℕ} (λ row. row.1) exit_numbers ≡ codes "0  " ∷ codes "2  " ∷ codes "3  "
+  pub numbers : map {B = List ℕ} (λ row. row.before) exit_numbers ≡ codes "0  " ∷ codes "2  " ∷ codes "3  "
       ∷ codes "4  " ∷ codes "5  " ∷ codes "6  " ∷ codes "7  " ∷ codes "8  " ∷ []
 
 pub tells_of_the_command : PagesLaws → (page : ℕ) (written : List ℕ) → written ≡ page_text page

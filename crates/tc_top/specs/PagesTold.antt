@@ -20,4 +20,4 @@ pub record TellsOfTheCommand (page : ℕ) (written : List ℕ) : Type 0 where
 pub record TellsOfTheStatuses (written : List ℕ) : Type 0 where
   pub are : written ≡ statuses_text
   pub notes : TellTheNotes
-  pub last : get_or (map {B = List ℕ} (λ row. row.1) exit_numbers) 7 [] ≡ number_in_row NO_ARGUMENTS
+  pub last : get_or (map {B = List ℕ} (λ row. row.before) exit_numbers) 7 [] ≡ number_in_row NO_ARGUMENTS
