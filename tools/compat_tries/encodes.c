@@ -9,6 +9,7 @@
  *
  * It is built against libltc, and runs on what the loader finds. What compat/README.md names as a difference by intent
  * is asked for by `edges` alone: a byte that has no room, rates that are none, and so on. */
+#include "chance.h"
 #include <ltc.h>
 #include <math.h>
 #include <stdint.h>
@@ -19,14 +20,6 @@
 enum { CALLS = 40, RATES = 7, COUNTS = 9 };
 static const double rates[RATES] = {8000, 22050, 32000, 44100, 48000, 96000, 192000};
 static const double counts[COUNTS] = {24, 25, 30, 29.97, 30000.0 / 1001, 24000.0 / 1001, 23.976, 12.5, 39.5};
-static uint64_t state;
-
-static unsigned below(unsigned count) {
-    state ^= state << 13;
-    state ^= state >> 7;
-    state ^= state << 17;
-    return (unsigned)(state >> 20) % count;
-}
 
 static double rate(void) { return below(4) != 0 ? rates[below(RATES)] : 1000 + below(200000) / 7.0; }
 static double frames(void) { return below(4) != 0 ? counts[below(COUNTS)] : 5 + below(3400) / 100.0; }
@@ -288,7 +281,7 @@ int main(int count, char **words) {
     if (count != 4) {
         return 2;
     }
-    state = strtoull(words[3], NULL, 10) * 2 + 88172645463325252ull;
+    begin(words[3]);
     if (strcmp(words[1], "sound") == 0) {
         sound(strtoul(words[2], NULL, 10));
         return 0;

@@ -4,20 +4,12 @@
  *
  * The words are labels of 24, 25, 30 and 30 drop-frame with a date that is one, and bits at random, of which only the
   * reading calls are given. It is built against libltc, and runs on what the loader finds. */
+#include "chance.h"
 #include <ltc.h>
 #include <stdint.h>
 #include <stdio.h>
 #include <stdlib.h>
 #include <string.h>
-
-static uint64_t state;
-
-static unsigned below(unsigned count) {
-    state ^= state << 13;
-    state ^= state >> 7;
-    state ^= state << 17;
-    return (unsigned)(state >> 20) % count;
-}
 
 /* A number below count: often the least or the greatest. */
 static unsigned char edge(unsigned count) {
@@ -103,7 +95,7 @@ int main(int count, char **words) {
     if (count != 3) {
         return 2;
     }
-    state = strtoull(words[2], NULL, 10) * 2 + 88172645463325252ull;
+    begin(words[2]);
     memset(&frame, 0, sizeof frame);
     ltc_frame_reset(&frame);
     print_bits("reset", &frame);

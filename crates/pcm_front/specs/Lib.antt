@@ -10,6 +10,7 @@ pub mod Runs
 pub mod Samples
 pub mod Settings
 pub mod Side
+pub mod Sizes
 pub mod Sound
 pub mod StandsFor
 pub mod State

@@ -1,9 +1,38 @@
 //! The level of the sound. Read next: `side`.
-ghost use Rattle.std.specs.Prelude.{◌≡◌, ◌≤◌, ◌<◌, ◌^◌, unsigned_abs, length, slice_range};
+ghost use Rattle.std.specs.Prelude.{◌≡◌, ◌≤◌, ◌<◌, ◌^◌, pos, ◌-ℤ◌, unsigned_abs, length, slice_range};
 ghost use Rattle.std.specs.List.{fold};
-ghost use Rattle.pcm_front.specs.Level.{silent, level_after, half_height, quarter_height, IsInRange, IsSum};
+ghost use Rattle.pcm_front.specs.Level.{silent, level_after, half_height, peak_after, quarter_height, IsInRange, IsSum};
+ghost use Rattle.pcm_front.specs.Sizes.{level_grown};
 
 use crate::samples::Samples;
+
+/// How far the peak falls after a size, by a 1024th of itself, rounded up; or, below zero, how far it
+/// rises, by a quarter of what it lacks, rounded up.
+#[inline(always)]
+fn fall(peak: u32, size: u32) -> i32
+    requires peak { peak ≤ 2 ^ 19 }
+    requires size { size ≤ 2 ^ 19 }
+    ensures { pos peak -ℤ result ≡ pos (peak_after peak size) }
+{
+    let lack = (peak as i32 - size as i32) >> 2;
+    // A choice between two numbers that are at hand takes no branch, which would often be mispredicted.
+    if lack < 0 {
+        lack
+    } else {
+        ((peak + 1_023) / 1_024) as i32
+    }
+}
+
+/// The peak after a size.
+#[inline(always)]
+fn peak_after(peak: u32, size: u32) -> u32
+    requires peak { peak ≤ 2 ^ 19 }
+    requires size { size ≤ 2 ^ 19 }
+    ensures value { result ≡ peak_after peak size }
+    ensures most { result ≤ 2 ^ 19 }
+{
+    (peak as i32 - fall(peak, size)) as u32
+}
 
 /// How loud the sound is: its peak, and the sum of some thousand sizes.
 #[derive(Clone, Copy)]
@@ -24,20 +53,26 @@ impl Level {
     }
 
     /// The level after one more sum.
+    #[inline(always)]
     pub(crate) fn after(self, sum: i32) -> Level
         requires level { IsInRange self }
         requires sum { IsSum sum }
         ensures value { result ≡ level_after self sum }
         ensures range { IsInRange result }
     {
-        let size = sum.unsigned_abs();
-        // Both are computed, since a choice between two numbers takes no branch. A quarter of what the
-        // peak lacks, rounded up, comes to it.
-        let risen = (3 * self.peak + size + 3) / 4;
-        let fallen = self.peak - (self.peak + 1_023) / 1_024;
-        let peak = if self.peak < size { risen } else { fallen };
+        self.grown(sum.unsigned_abs())
+    }
+
+    /// The level after one more size.
+    #[inline(always)]
+    fn grown(self, size: u32) -> Level
+        requires level { IsInRange self }
+        requires size { size ≤ 2 ^ 19 }
+        ensures value { result ≡ level_grown self size }
+        ensures range { IsInRange result }
+    {
         Level {
-            peak,
+            peak: peak_after(self.peak, size),
             sum: self.sum - self.sum / 1_024 + size,
         }
     }

@@ -1,10 +1,15 @@
 -- The steps of a reader of sound go on, one after another: it stands for the samples of all of them, with their events.
 use Rattle.std.proofs.Common.{◌≡◌, ℕ, zero, suc, ℤ, ◌+◌, ◌-◌, ◌≤◌, List, [], ◌∷◌, ◌++◌, length, take, drop, Some}
-use Rattle.std.proofs.Common.{refl, sym, ap, subst, ◌∙◌, append_assoc, append-nil, arith}
+use Rattle.std.proofs.Common.{true, refl, sym, ap, subst, ◌∙◌, append_assoc, append-nil, arith}
 use Rattle.std.proofs.lemmas.List.{take_rest}
 use Rattle.std.proofs.Math.Seq.{take-add}
 use Rattle.std.specs.Option.{option_to_list}
+use Rattle.direction_reader.specs.declared.brought.Brought.{Brought}
+use Rattle.direction_reader.specs.declared.brought.Brought.TheVariants.{Nothing, Candidate, Break}
 use Rattle.direction_reader.specs.declared.event.Event.{Event}
+use Rattle.direction_reader.specs.Events.{no_events}
+use Rattle.direction_reader.specs.Reader.{ReaderState}
+use Rattle.direction_reader.specs.StandsFor.{Tells}
 use Rattle.pcm_front.specs.declared.interval.Intervals.{Intervals}
 use Rattle.pcm_front.specs.declared.slicer.Slicer.{Slicer}
 use Rattle.pcm_front.specs.Pace.{intervals_in, intervals_at}
@@ -12,6 +17,7 @@ use Rattle.pcm_front.specs.Settings.{Settings}
 use Rattle.pcm_front.specs.StandsFor as slicer
 use Rattle.sound_reader.specs.Settings.{slicing}
 use Rattle.sound_reader.specs.Sound.{Brings, Reads, SoundState, StandsFor}
+use Rattle.sound_reader.specs.Waiting.{is_nothing}
 
 -- one step after another
 pub brings_on : (a b c : SoundState) (s t : List ℤ) (xs ys : List Event) → Brings a b s xs → Brings b c t ys
@@ -113,3 +119,9 @@ pub rest_on : (a b old new : SoundState) (left : Intervals) → old ≡ b
 rest_on a b old new left view before is =
     subst (λ (t : SoundState). t ≡ record a { reader = t.reader; waiting = t.waiting }) (sym is)
     (ap (λ (t : SoundState). record t { reader = new.reader; waiting = left }) (view ∙ before))
+
+-- what brought nothing told no events
+pub tells_none : (reader : ReaderState) (brought : Brought) → is_nothing brought ≡ true → Tells reader brought no_events
+tells_none reader Nothing is = refl
+tells_none reader Candidate is = absurd (cc)
+tells_none reader Break is = absurd (cc)

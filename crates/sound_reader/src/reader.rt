@@ -1,13 +1,16 @@
 //! A reader of sound. Read next: `laws`.
-ghost use Rattle.std.specs.Prelude.{◌≡◌, ◌+◌, ◌≤◌, ◌<◌, ◌↔◌, IsTrue, [], length, take, false};
+ghost use Rattle.std.specs.Prelude.{◌≡◌, ◌+◌, ◌≤◌, ◌<◌, ◌↔◌, IsTrue, [], length, take, true, false};
+ghost use Rattle.direction_reader.specs.declared.event.Events.{Events};
 ghost use Rattle.direction_reader.specs.Events.{event_list, no_events};
+ghost use Rattle.direction_reader.specs.StandsFor.{MayTell, Tells};
 ghost use Rattle.limits.specs.declared.recording.TheConstants.{MAX_INTERVAL, MAX_INTERVALS};
 ghost use Rattle.sound_reader.specs.Settings.{AreInRange};
 ghost use Rattle.sound_reader.specs.Sound.{is_full, Brings, IsSettled, Reads, StandsFor};
+ghost use Rattle.sound_reader.specs.Waiting.{count_of, is_nothing};
 
 use crate::settings::SoundSettings;
 use crate::waiting::next;
-use direction_reader::{DirectionReader, Events};
+use direction_reader::{Brought, DirectionReader, Events};
 use limits::{MAX_INTERVAL, MAX_INTERVALS};
 use pcm_front::{Intervals, Slicer};
 use std::marker::Model;
@@ -113,15 +116,14 @@ impl SoundReader {
         ensures brings { Brings self.old self.new [] (event_list result) }
         ensures settled { result ≡ no_events → is_full self.new ≡ false → IsSettled self.new }
     {
-        'waiting: while self.reader.intervals() < MAX_INTERVALS {
-            match next(&mut self.waiting) {
-                Some(x) => {
-                    let events = self.feed(x);
-                    if !are_none(&events) {
-                        return events;
-                    }
-                }
-                None => break,
+        'waiting: loop {
+            let brought = self.pass_waiting();
+            if is_nothing(brought) {
+                break;
+            }
+            let events = self.reader.events(brought);
+            if !are_none(&events) {
+                return events;
             }
         }
         Events {
@@ -130,15 +132,44 @@ impl SoundReader {
         }
     }
 
-    /// Reads an interval, of `x` ticks, and gives what it brought.
-    fn feed(&mut self, x: u32) -> Events
+    /// Reads the intervals that wait, up to the first that may bring an event, and returns whether it
+    /// does. The events themselves are worked out only then.
+    fn pass_waiting(&mut self) -> Brought
+        ensures rest { self.new ≡ record self.old { reader = self.new.reader; waiting = self.new.waiting } }
+        ensures may { MayTell self.new.reader result }
+        ensures some { is_nothing result ≡ false → 1 ≤ self.new.reader.intervals }
+        ensures fewer { is_nothing result ≡ false → count_of self.new.waiting < count_of self.old.waiting }
+        ensures brings { (own : Events) → Tells self.new.reader result own
+            → Brings self.old self.new [] (event_list own) }
+        ensures settled { is_nothing result ≡ true → is_full self.new ≡ false → IsSettled self.new }
+    {
+        'waiting: while self.reader.intervals() < MAX_INTERVALS {
+            match next(&mut self.waiting) {
+                Some(x) => {
+                    let brought = self.step(x);
+                    if !is_nothing(brought) {
+                        return brought;
+                    }
+                }
+                None => break,
+            }
+        }
+        Brought::Nothing
+    }
+
+    /// Reads an interval, of `x` ticks, and returns whether it may have brought an event.
+    #[inline(always)]
+    fn step(&mut self, x: u32) -> Brought
         requires least { 1 ≤ x }
         requires most { x ≤ MAX_INTERVAL }
         requires room { self.old.reader.intervals < MAX_INTERVALS }
         ensures rest { self.new ≡ record self.old { reader = self.new.reader } }
-        ensures reads { Reads self.old.reader self.new.reader x (event_list result) }
+        ensures may { MayTell self.new.reader result }
+        ensures some { 1 ≤ self.new.reader.intervals }
+        ensures reads { (own : Events) → Tells self.new.reader result own
+            → Reads self.old.reader self.new.reader x (event_list own) }
     {
-        self.reader.feed(x)
+        self.reader.step(x)
     }
 
     /// Takes samples from the front, up to the first that brings intervals, which wait then.
@@ -171,4 +202,15 @@ fn are_none(events: &Events) -> bool
     ensures { IsTrue result ↔ events.now ≡ no_events }
 {
     events.first.is_none() && events.second.is_none()
+}
+
+/// Whether an interval brought nothing.
+#[inline(always)]
+fn is_nothing(brought: Brought) -> bool
+    ensures { result ≡ is_nothing brought }
+{
+    match brought {
+        Brought::Nothing => true,
+        Brought::Candidate | Brought::Break => false,
+    }
 }
