@@ -12,6 +12,7 @@ ghost use Rattle.luma_truth.specs.Alone.{FallsNoLess, IsSummit, StandsAlone, Sta
 ghost use Rattle.luma_truth.specs.Drawing.{rounded, Drawing, FitsARow, IsDrawn};
 ghost use Rattle.luma_truth.specs.Inside.{core, HasMargin, IsEnough, LiesInside};
 ghost use Rattle.luma_truth.specs.Near.{IsNear};
+ghost use Rattle.luma_truth.specs.Whole.{IsOnWholePixels};
 ghost use Rattle.luma_truth.specs.Worked.{ten_hours};
 
 use luma_row::laws::a_row_says_one_thing;
@@ -58,6 +59,21 @@ pub fn a_drawing_that_stands_alone_is_found()
         → IsSummit row lies.deepest → StandsAlone drawing row lies.coarse → StandsFirst row lies.deepest
         → LiesInside drawing place }
 {}
+
+/// In a row of 1,440 pixels each drawing on whole pixels is found and says its word, whatever the word is and wherever
+/// it begins. Such a row says nothing else; and rounding its pixels changes nothing.
+pub fn a_drawing_on_whole_pixels_is_found()
+    ensures found { (drawing : Drawing) (row : List ℕ) → length row ≡ 1_440 → IsDrawn drawing row
+        → IsOnWholePixels drawing → (code : CodeRow) × IsCode row code × (says_bits code.levels ≡ true)
+        × (number_of code.levels ≡ drawing.word) }
+    ensures only { (drawing : Drawing) (row : List ℕ) (code : CodeRow) → length row ≡ 1_440 → IsDrawn drawing row
+        → IsOnWholePixels drawing → IsCode row code
+        → (says_bits code.levels ≡ true) × (number_of code.levels ≡ drawing.word) }
+    ensures drawn { (drawing : Drawing) → FitsARow drawing 1_440 → IsOnWholePixels drawing
+        → IsDrawn drawing (rounded drawing 1_440) }
+{
+    a_row_says_one_thing();
+}
 
 /// A place whose two ends are within a twelfth of a cell of the true ones lies inside.
 pub fn a_near_place_lies_inside()
