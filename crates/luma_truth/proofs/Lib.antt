@@ -1,6 +1,7 @@
 mod AllSay
 mod BothEnds
 mod CleanDrawing
+mod Eleven
 mod Exact
 mod FirstOfAll
 mod Found

@@ -13,7 +13,7 @@ ghost use Rattle.luma_truth.specs.Drawing.{rounded, Drawing, FitsARow, IsDrawn};
 ghost use Rattle.luma_truth.specs.Inside.{core, HasMargin, IsEnough, LiesInside};
 ghost use Rattle.luma_truth.specs.Near.{IsNear};
 ghost use Rattle.luma_truth.specs.Whole.{IsOnWholePixels};
-ghost use Rattle.luma_truth.specs.Worked.{ten_hours};
+ghost use Rattle.luma_truth.specs.Worked.{eleven, ten_hours};
 
 use luma_row::laws::a_row_says_one_thing;
 
@@ -71,6 +71,7 @@ pub fn a_drawing_on_whole_pixels_is_found()
         → (says_bits code.levels ≡ true) × (number_of code.levels ≡ drawing.word) }
     ensures drawn { (drawing : Drawing) → FitsARow drawing 1_440 → IsOnWholePixels drawing
         → IsDrawn drawing (rounded drawing 1_440) }
+    ensures worked { FitsARow eleven 1_440 × IsOnWholePixels eleven }
 {
     a_row_says_one_thing();
 }
