@@ -13,8 +13,8 @@ ten_hours = record {
   noise = 1;
 }
 
--- `11:11:51:11` at 25 frames, without user bits and flags: in eight of its nine groups of ten bits a 1 and a 0 come again
--- behind the sync pair. On whole pixels of a row of 1,440, from pixel 45 on; between the levels 16 and 200
+-- `11:11:51:11` at 25 frames, without user bits and flags: in each ten of its bits a 1 and a 0 come again behind the
+-- sync pair. On whole pixels of a row of 1,440, from pixel 45 on; between the levels 16 and 200
 abbrev pub eleven : Drawing
 eleven = record {
   word = 315535547647764344335242245;
