@@ -21,10 +21,18 @@ best_of (suc n) worth =
     let e : n + 1 ≡ suc n = omega arith in
     let cases : (worth (n + 1) ≤ b.0) ⊎ (b.0 < worth (n + 1)) = grind arith in
     elim cases [
-      | inl less ↦ (b.0, b.1, subst (λ (k : ℕ). IsBestOf (k + 1) worth b.0 b.1) e
-          (stays (n + 1) worth b.0 b.1 (worth (n + 1)) b.2 refl less))
-      | inr more ↦ (worth (n + 1), n + 1, subst (λ (k : ℕ). IsBestOf (k + 1) worth (worth (n + 1)) (n + 1)) e
-          (comes (n + 1) worth b.0 b.1 (worth (n + 1)) b.2 refl more))
+      | inl less ↦ (
+        b.0,
+        b.1,
+        subst (λ (k : ℕ). IsBestOf (k + 1) worth b.0 b.1) e
+            (stays (n + 1) worth b.0 b.1 (worth (n + 1)) b.2 refl less),
+      )
+      | inr more ↦ (
+        worth (n + 1),
+        n + 1,
+        subst (λ (k : ℕ). IsBestOf (k + 1) worth (worth (n + 1)) (n + 1)) e
+            (comes (n + 1) worth b.0 b.1 (worth (n + 1)) b.2 refl more),
+      )
     ]
 
 -- a place that is near, and falls nearly the most

@@ -79,14 +79,16 @@ worth_at word dark swing twos end row is pair h at apart wide narrow front below
           let o = rest_of (end + 2400 * pair) (at / 640) late in
           let k = rest_of ((at - 8 * apart) / 640) (end + 2400 * pair) (omega arith) in
           let p = o.1 in
-          let q = k.1 in
-          (k.0, record {
-            falls = fall_late word dark swing twos end row is pair h ((at - 8 * apart) / 640) k.0 o.0 (at / 640)
-                behind.0 ((at + 8 * apart) / 640) q p e (omega (arith, p)) (omega (arith, early))
-                (omega (arith, p, q, e));
-            late = omega (arith, q);
-            early = omega (arith, q);
-          })
+          let q = k.1 in (
+            k.0,
+            record {
+              falls = fall_late word dark swing twos end row is pair h ((at - 8 * apart) / 640) k.0 o.0 (at / 640)
+                  behind.0 ((at + 8 * apart) / 640) q p e (omega (arith, p)) (omega (arith, early))
+                  (omega (arith, p, q, e));
+              late = omega (arith, q);
+              early = omega (arith, q);
+            },
+          )
       | inr soon ↦
           let o = rest_of (at / 640) (end + 2400 * pair) soon in
           let r = rest_of (end + 2400 * pair) ((at + 8 * apart) / 640) (omega arith) in
@@ -94,14 +96,16 @@ worth_at word dark swing twos end row is pair h at apart wide narrow front below
           let q = r.1 in
           let k = rest_of o.0 before.0 (omega (arith, p, b)) in
           let s = k.1 in
-          let whole : k.0 + o.0 ≡ before.0 = omega (arith, s) in
-          (k.0, record {
-            falls = fall_early word dark swing twos end row is pair h ((at - 8 * apart) / 640) before.0 k.0 o.0
-                (at / 640) r.0 ((at + 8 * apart) / 640) b p q whole (omega (arith, p)) (omega (arith, early))
-                (omega (arith, p, q, b));
-            late = omega (arith, s, p, b);
-            early = omega (arith, s, p, b);
-          })
+          let whole : k.0 + o.0 ≡ before.0 = omega (arith, s) in (
+            k.0,
+            record {
+              falls = fall_early word dark swing twos end row is pair h ((at - 8 * apart) / 640) before.0 k.0 o.0
+                  (at / 640) r.0 ((at + 8 * apart) / 640) b p q whole (omega (arith, p)) (omega (arith, early))
+                  (omega (arith, p, q, b));
+              late = omega (arith, s, p, b);
+              early = omega (arith, s, p, b);
+            },
+          )
     ]
 
 -- a place whose ends are so many sixteenths from the true ones, or less
