@@ -1,5 +1,5 @@
 -- The worked drawing on whole pixels has its sync pairs, as can be counted.
-use Rattle.std.proofs.Common.{ℕ, ◌+◌, ◌*◌, ◌<◌, Bool, true, not, ◌≡◌, refl, arith}
+use Rattle.std.proofs.Common.{ℕ, ◌+◌, ◌*◌, Bool, true, not, ◌≡◌, refl, arith}
 use Rattle.luma_row.specs.Choice.{all_of}
 use Rattle.luma_truth.specs.Drawing.{has_bit, FitsARow}
 use Rattle.luma_truth.specs.Whole.{IsOnWholePixels}

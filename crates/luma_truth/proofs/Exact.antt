@@ -1,5 +1,5 @@
 -- Each pixel of a drawing on whole pixels is as light as a 1 or as dark as a 0, so rounding changes nothing.
-use Rattle.std.proofs.Common.{◌≡◌, ℕ, ◌+◌, ◌-◌, ◌*◌, ◌/◌, ◌<◌, ◌≤◌, ◌⊎◌, inl, inr, true, false, length, get_or}
+use Rattle.std.proofs.Common.{◌≡◌, ℕ, ◌+◌, ◌-◌, ◌*◌, ◌/◌, ◌<◌, ◌≤◌, ◌⊎◌, inl, inr}
 use Rattle.std.proofs.Common.{ap, subst, sym, arith}
 use Rattle.luma_truth.specs.Drawing.{edge, has_bit, pixel_light, rounded, share, Drawing, FitsARow, IsDrawn}
 use Rattle.luma_truth.specs.Whole.{IsOnWholePixels}

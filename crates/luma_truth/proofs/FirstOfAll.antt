@@ -1,18 +1,16 @@
 -- Some cells before the true place the first sync pair is looked for before the word, where nothing falls: so the word
 -- fits at no earlier place nearly as well, whatever its other bits are.
-use Rattle.std.proofs.Common.{◌≡◌, ℕ, zero, suc, ◌+◌, ◌-◌, ◌*◌, ◌/◌, ◌<◌, ◌≤◌, ◌⊎◌, inl, inr, Bool, true, false, ◌&&◌}
+use Rattle.std.proofs.Common.{◌≡◌, ℕ, suc, ◌+◌, ◌-◌, ◌*◌, ◌/◌, ◌<◌, ◌≤◌, ◌⊎◌, inl, inr, Bool, true, false, ◌&&◌}
 use Rattle.std.proofs.Common.{leb, List, length, refl, arith}
 use Rattle.std.proofs.Math.Nat.{mul-le-mul_left, mul-le-mul_right}
 use Rattle.std.proofs.lemmas.Bool.Decides.{nat_tests}
 use Rattle.luma_row.specs.declared.light.TheConstants.{EVEN}
 use Rattle.luma_row.specs.declared.place.Place.{Place}
-use Rattle.luma_row.specs.Choice.{sum_of}
 use Rattle.luma_row.specs.Earliest.{earlier, falls, fits_nearly}
-use Rattle.luma_row.specs.Light.{fall, light}
+use Rattle.luma_row.specs.Light.{fall}
 use Rattle.luma_row.specs.Place.{apart, fits, pair_fall, score}
 use Rattle.luma_truth.proofs.Kept.{front_of, IsKept}
 use Rattle.luma_truth.proofs.NearPairs.{at_pair, fall_anywhere, nine, pair_is}
-use Rattle.luma_truth.proofs.NoLess.{either}
 use Rattle.luma_truth.proofs.OnPixels.{IsLit}
 use Rattle.luma_truth.proofs.Rest.{rest_of}
 

@@ -1,28 +1,26 @@
 -- A drawing on whole pixels is found: the search of whole pixels comes out a quarter of a pixel beside it, each move keeps
 -- near it, and no earlier place is taken. There the cores lie in their cells, so the row says the word.
-use Rattle.std.proofs.Common.{◌≡◌, ℕ, ◌+◌, ◌-◌, ◌*◌, ◌/◌, ◌<◌, ◌≤◌, ◌⊎◌, inl, inr, true, false, List, length, get_or}
+use Rattle.std.proofs.Common.{◌≡◌, ℕ, ◌+◌, ◌-◌, ◌*◌, ◌/◌, ◌<◌, ◌≤◌, ◌⊎◌, inl, inr, true, List, length}
 use Rattle.std.proofs.Common.{ap, subst, sym, arith}
 use Rattle.std.proofs.Math.Nat.{mul-le-mul_left}
 use Rattle.luma_row.specs.declared.light.TheConstants.{EVEN}
 use Rattle.luma_row.specs.declared.place.Place.{Place}
 use Rattle.luma_row.specs.declared.row.CodeRow.{CodeRow}
-use Rattle.luma_row.specs.Choice.{sum_of}
 use Rattle.luma_row.specs.Coarse.{best_at}
 use Rattle.luma_row.specs.Levels.{number_of, says_bits}
-use Rattle.luma_row.specs.Light.{fall, light, IsRow}
+use Rattle.luma_row.specs.Light.{fall, IsRow}
 use Rattle.luma_row.specs.Place.{apart, pair_fall, score}
 use Rattle.luma_row.specs.Row.{IsCode, LiesAt}
 use Rattle.luma_row.specs.Width.{grain}
-use Rattle.luma_truth.specs.Drawing.{edge, has_bit, pixel_light, rounded, share, Drawing, FitsARow, IsDrawn}
+use Rattle.luma_truth.specs.Drawing.{Drawing, IsDrawn}
 use Rattle.luma_truth.specs.Inside.{core, HasMargin, LiesInside}
 use Rattle.luma_truth.specs.Whole.{IsOnWholePixels}
 use Rattle.luma_truth.proofs.CleanDrawing.{carries_its_word}
 use Rattle.luma_truth.proofs.FirstOfAll.{not_nearly}
-use Rattle.luma_truth.proofs.InPixels.{dark_light, drawn_dark, drawn_light, lit_light, outside_light}
 use Rattle.luma_truth.proofs.Kept.{refines_kept, IsKept}
-use Rattle.luma_truth.proofs.NearPairs.{at_pair, enough, pair_is, IsClose}
-use Rattle.luma_truth.proofs.NoLess.{either, none_before}
-use Rattle.luma_truth.proofs.OnPixels.{covered, edge_at, end_of, is_lit, IsLit}
+use Rattle.luma_truth.proofs.NearPairs.{at_pair, pair_is, IsClose}
+use Rattle.luma_truth.proofs.NoLess.{none_before}
+use Rattle.luma_truth.proofs.OnPixels.{edge_at, end_of, is_lit, IsLit}
 use Rattle.luma_truth.proofs.Rest.{rest_of}
 use Rattle.luma_truth.proofs.Searched.{finds_the_pixel, sum_from, sum_is_enough}
 

@@ -1,11 +1,11 @@
 -- A sync pair that is looked for a little beside its place falls less, by the swing of each sixteenth that it is beside.
 -- So a place whose nine falls are nearly the most is near the true one.
-use Rattle.std.proofs.Common.{◌≡◌, ℕ, zero, suc, ◌+◌, ◌-◌, ◌*◌, ◌/◌, ◌<◌, ◌≤◌, ◌⊎◌, inl, inr, true, List, refl, subst, arith}
+use Rattle.std.proofs.Common.{◌≡◌, ℕ, ◌+◌, ◌-◌, ◌*◌, ◌/◌, ◌<◌, ◌≤◌, ◌⊎◌, inl, inr, List, refl, arith}
 use Rattle.std.proofs.Math.Nat.{mul-le-mul_left}
 use Rattle.luma_row.specs.declared.light.TheConstants.{EVEN}
 use Rattle.luma_row.specs.declared.place.Place.{Place}
 use Rattle.luma_row.specs.Choice.{sum_of}
-use Rattle.luma_row.specs.Light.{fall, light}
+use Rattle.luma_row.specs.Light.{fall}
 use Rattle.luma_row.specs.Place.{apart, eighth, pair_fall, score}
 use Rattle.luma_truth.proofs.OnPixels.{IsLit}
 use Rattle.luma_truth.proofs.Rest.{rest_of}

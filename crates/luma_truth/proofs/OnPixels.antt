@@ -1,6 +1,6 @@
 -- A drawing on whole pixels: each cell is as light as its bit from its first pixel to its last, and all else is dark.
-use Rattle.std.proofs.Common.{◌≡◌, ℕ, ◌+◌, ◌-◌, ◌*◌, ◌/◌, ◌<◌, ◌≤◌, ◌⊎◌, inl, inr, true, false, List, length}
-use Rattle.std.proofs.Common.{get_or, ap, arith}
+use Rattle.std.proofs.Common.{◌≡◌, ℕ, ◌+◌, ◌*◌, ◌/◌, ◌<◌, ◌≤◌, ◌⊎◌, inl, inr, true, false, List, length}
+use Rattle.std.proofs.Common.{ap, arith}
 use Rattle.luma_row.specs.Light.{light}
 use Rattle.luma_truth.specs.Drawing.{edge, has_bit, share, Drawing, IsDrawn}
 use Rattle.luma_truth.specs.Whole.{IsOnWholePixels}

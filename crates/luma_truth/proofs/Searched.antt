@@ -1,11 +1,10 @@
 -- The search of whole pixels finds the pixel where the first 1 ends. No nine falls are deeper than those of nine whole
 -- cells; where they are as deep, each place looked at is the end of a cell, and narrower cells miss one of the ends.
-use Rattle.std.proofs.Common.{◌≡◌, ℕ, zero, suc, ◌+◌, ◌-◌, ◌*◌, ◌/◌, ◌%◌, ◌<◌, ◌≤◌, ◌⊎◌, inl, inr, Bool, true, false, List}
+use Rattle.std.proofs.Common.{◌≡◌, ℕ, zero, suc, ◌+◌, ◌-◌, ◌*◌, ◌/◌, ◌<◌, ◌≤◌, ◌⊎◌, inl, inr, List}
 use Rattle.std.proofs.Common.{length, max, refl, ap, sym, subst, arith}
 use Rattle.std.proofs.Math.Nat.{mul-le-mul_left}
 use Rattle.luma_row.specs.declared.light.TheConstants.{EVEN}
-use Rattle.luma_row.specs.declared.place.Place.{Place}
-use Rattle.luma_row.specs.Choice.{greatest, sum_of, IsFirstBest}
+use Rattle.luma_row.specs.Choice.{greatest, sum_of}
 use Rattle.luma_row.specs.Coarse.{best_at, coarse_fall, coarse_sum, fall_at, pixel_of, step_to, sum_at, IsCoarse}
 use Rattle.luma_row.specs.Light.{fall, light}
 use Rattle.luma_row.specs.Width.{distance, distances, start, starts, ten_cells}
@@ -233,24 +232,24 @@ start_is width early is = ap (λ (w : ℕ). start w early) is
 starts_are : (width apart : ℕ) → width ≡ 1440 → starts width apart ≡ (23168 - 89 * apart / 80 - 228) / 32 + 1
 starts_are width apart is = ap (λ (w : ℕ). starts w apart) is
 
-looked_at_in_row : (wide early apart first : ℕ) → apart ≡ 18240 + 64 * wide → first ≡ 228 + 32 * early
+looked_at_in_row : (wide early apart first : ℕ) → wide < 31 → apart ≡ 18240 + 64 * wide → first ≡ 228 + 32 * early
     → early < (23168 - 89 * apart / 80 - 228) / 32 + 1 → 16 * pixel_at apart first 8 + 240 ≤ 23040
-looked_at_in_row wide early apart first a f h = omega (arith, a, f)
+looked_at_in_row wide early apart first few a f h = omega (arith, a, f)
 
-last_in_row : (row : List ℕ) (wide early : ℕ) → length row ≡ 1440
+last_in_row : (row : List ℕ) (wide early : ℕ) → length row ≡ 1440 → wide < 31
     → early < starts (length row) (distance (length row) wide)
     → 16 * pixel_at (distance (length row) wide) (start (length row) early) 8 + 240 ≤ 23040
-last_in_row row wide early long h =
+last_in_row row wide early long few h =
     let s = starts_are (length row) (distance (length row) wide) long in
-    looked_at_in_row wide early (distance (length row) wide) (start (length row) early)
+    looked_at_in_row wide early (distance (length row) wide) (start (length row) early) few
     (distance_is (length row) wide long) (start_is (length row) early long) (omega (arith, s))
 
 each_sum_most : (word dark swing twos end : ℕ) (row : List ℕ) → IsLit word dark swing twos end row → (wide early : ℕ)
-    → early < starts (length row) (distance (length row) wide)
+    → wide < 31 → early < starts (length row) (distance (length row) wide)
     → sum_at row (distance (length row) wide) early ≤ 9 * (EVEN + 240 * swing)
-each_sum_most word dark swing twos end row is wide early h =
+each_sum_most word dark swing twos end row is wide early few h =
     sum_most word dark swing twos end row is (distance (length row) wide) (start (length row) early)
-    (last_in_row row wide early is.long h)
+    (last_in_row row wide early is.long few h)
 
 -- narrower cells miss the end of a cell
 misses : (wide early apart first end first_bit next_bit last_bit : ℕ) → wide < 15 → apart ≡ 18240 + 64 * wide
@@ -267,7 +266,7 @@ narrower_falls_less : (word dark swing twos end : ℕ) (row : List ℕ) → IsLi
 narrower_falls_less word dark swing twos end row is wide early narrow h =
     let apart = distance (length row) wide in
     let first = start (length row) early in
-    let last = last_in_row row wide early is.long h in
+    let last = last_in_row row wide early is.long (omega (arith, narrow)) h in
     let cases : (sum_at row apart early < 9 * (EVEN + 240 * swing)) ⊎ (9 * (EVEN + 240 * swing) ≤ sum_at row apart early)
     = grind arith in
     elim cases [
@@ -287,7 +286,7 @@ earlier_falls_less : (word dark swing twos end : ℕ) (row : List ℕ) → IsLit
 earlier_falls_less word dark swing twos end row is early before h =
     let apart = distance (length row) 15 in
     let first = start (length row) early in
-    let last = last_in_row row 15 early is.long h in
+    let last = last_in_row row 15 early is.long (omega arith) h in
     let cases : (sum_at row apart early < 9 * (EVEN + 240 * swing)) ⊎ (9 * (EVEN + 240 * swing) ≤ sum_at row apart early)
     = grind arith in
     elim cases [
@@ -374,7 +373,7 @@ finds_the_pixel word dark swing twos end row is =
         greatest = λ other h.
             let most = greatest_within (starts (length row) (distance (length row) other))
             (sum_at row (distance (length row) other)) (9 * (EVEN + 240 * swing))
-            (each_sum_most word dark swing twos end row is other) in
+            (λ early g. each_sum_most word dark swing twos end row is other early (omega (arith, h, many)) g) in
             omega (arith, most, best);
         first = λ other h.
             let less = greatest_less (starts (length row) (distance (length row) other))
@@ -385,7 +384,7 @@ finds_the_pixel word dark swing twos end row is =
       of_starts = record {
         below = true_is_looked_at row twos end is.long is.end_is is.within;
         greatest = λ other h.
-            let most = each_sum_most word dark swing twos end row is 15 other h in
+            let most = each_sum_most word dark swing twos end row is 15 other (omega arith) h in
             omega (arith, most, all);
         first = λ other h.
             let looked_at = true_is_looked_at row twos end is.long is.end_is is.within in
