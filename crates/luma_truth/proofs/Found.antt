@@ -1,8 +1,11 @@
 -- A drawing on whole pixels is found: the search of whole pixels comes out a quarter of a pixel beside it, each move keeps
 -- near it, and no earlier place is taken. There the cores lie in their cells, so the row says the word.
 use Rattle.std.proofs.Common.{◌≡◌, ℕ, ◌+◌, ◌-◌, ◌*◌, ◌/◌, ◌<◌, ◌≤◌, ◌⊎◌, inl, inr, true, List, length}
-use Rattle.std.proofs.Common.{ap, subst, sym, arith}
+use Rattle.std.proofs.Common.{◌∷◌, ◌++◌, ap, subst, sym, arith}
 use Rattle.std.proofs.Math.Nat.{mul-le-mul_left}
+use Rattle.luma_field.specs.Parts.{whole_parts}
+use Rattle.luma_field.specs.Raster.{RasterSize}
+use Rattle.luma_field.specs.Rows.{looked_at, SaysLines}
 use Rattle.luma_row.specs.declared.light.TheConstants.{EVEN}
 use Rattle.luma_row.specs.declared.place.Place.{Place}
 use Rattle.luma_row.specs.declared.row.CodeRow.{CodeRow}
@@ -17,6 +20,7 @@ use Rattle.luma_truth.specs.Inside.{core, HasMargin, LiesInside}
 use Rattle.luma_truth.specs.Whole.{IsOnWholePixels}
 use Rattle.luma_truth.proofs.CleanDrawing.{carries_its_word}
 use Rattle.luma_truth.proofs.FirstOfAll.{not_nearly}
+use Rattle.luma_truth.proofs.LineOfAField.{has_its_line, OneCode}
 use Rattle.luma_truth.proofs.Kept.{refines_kept, IsKept}
 use Rattle.luma_truth.proofs.NearPairs.{at_pair, pair_is, IsClose}
 use Rattle.luma_truth.proofs.NoLess.{none_before}
@@ -193,3 +197,15 @@ only_its_word one drawing row code long drawn is read =
     let found = is_found drawing row long drawn is in
     subst (λ (c : CodeRow). (says_bits c.levels ≡ true) × (number_of c.levels ≡ drawing.word))
     (one row found.0 code found.1 read) (found.2, found.3)
+
+-- so a field has its line
+pub has_the_line : OneCode → (drawing : Drawing) (raster : RasterSize) (field lines row : List ℕ)
+    (before behind : List (List ℕ)) → length row ≡ 1440 → IsDrawn drawing row → IsOnWholePixels drawing
+    → looked_at raster (whole_parts raster.width field) ≡ before ++ (row ∷ behind) → length before < 20
+    → SaysLines raster field lines → (first rest : List ℕ) × (lines ≡ first ++ (drawing.word ∷ rest))
+has_the_line one drawing raster field lines row before behind long drawn is looked few said =
+    let near = lies_near drawing.word drawing.dark drawing.swing is.twos (end_of drawing is) row
+    (is_lit drawing row drawn is long) in
+    has_its_line one drawing raster field lines row before behind near.place (is_row row long) drawn near.lies
+    (close_inside drawing is near.place near.kept.close near.kept.front)
+    (close_has_margin drawing is near.place near.kept.close) looked few said

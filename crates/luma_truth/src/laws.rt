@@ -60,8 +60,8 @@ pub fn a_drawing_that_stands_alone_is_found()
         → LiesInside drawing place }
 {}
 
-/// In a row of 1,440 pixels each drawing on whole pixels is found and says its word, whatever the word is and wherever
-/// it begins. Such a row says nothing else; and rounding its pixels changes nothing.
+/// In a row of 1,440 pixels each drawing on whole pixels is found and says its word, whatever the word is. Such a row
+/// says nothing else, and a field has its line. Rounding its pixels changes nothing.
 pub fn a_drawing_on_whole_pixels_is_found()
     ensures found { (drawing : Drawing) (row : List ℕ) → length row ≡ 1_440 → IsDrawn drawing row
         → IsOnWholePixels drawing → (code : CodeRow) × IsCode row code × (says_bits code.levels ≡ true)
@@ -69,6 +69,10 @@ pub fn a_drawing_on_whole_pixels_is_found()
     ensures only { (drawing : Drawing) (row : List ℕ) (code : CodeRow) → length row ≡ 1_440 → IsDrawn drawing row
         → IsOnWholePixels drawing → IsCode row code
         → (says_bits code.levels ≡ true) × (number_of code.levels ≡ drawing.word) }
+    ensures field { (drawing : Drawing) (raster : RasterSize) (field lines row : List ℕ) (before behind : List (List ℕ))
+        → length row ≡ 1_440 → IsDrawn drawing row → IsOnWholePixels drawing
+        → looked_at raster (whole_parts raster.width field) ≡ before ++ (row ∷ behind) → length before < 20
+        → SaysLines raster field lines → (first rest : List ℕ) × (lines ≡ first ++ (drawing.word ∷ rest)) }
     ensures drawn { (drawing : Drawing) → FitsARow drawing 1_440 → IsOnWholePixels drawing
         → IsDrawn drawing (rounded drawing 1_440) }
     ensures worked { FitsARow eleven 1_440 × IsOnWholePixels eleven }
