@@ -23,4 +23,6 @@ mod Rounded
 mod Searched
 mod StepByStep
 mod TenHours
+mod TenHoursFound
+mod TenHoursRow
 mod Thresholds

@@ -45,7 +45,7 @@ each_most (suc n) most f each all k h =
       | inr last ↦ subst (λ (j : ℕ). most ≤ f j) (sym last) (omega (arith, all, before))
     ]
 
-one_of_greatest : (most : ℕ) (worth : ℕ → ℕ) (other : ℕ) → other < most → worth other ≤ greatest most worth
+pub one_of_greatest : (most : ℕ) (worth : ℕ → ℕ) (other : ℕ) → other < most → worth other ≤ greatest most worth
 unfolding greatest
 one_of_greatest zero worth other h = absurd (omega arith)
 one_of_greatest (suc n) worth other h =
@@ -55,7 +55,7 @@ one_of_greatest (suc n) worth other h =
       | inr last ↦ subst (λ (m : ℕ). worth m ≤ max (greatest n worth) (worth n)) (sym last) (omega arith)
     ]
 
-greatest_within : (most : ℕ) (worth : ℕ → ℕ) (bound : ℕ) → ((other : ℕ) → other < most → worth other ≤ bound)
+pub greatest_within : (most : ℕ) (worth : ℕ → ℕ) (bound : ℕ) → ((other : ℕ) → other < most → worth other ≤ bound)
     → greatest most worth ≤ bound
 unfolding greatest
 greatest_within zero worth bound all = omega arith
@@ -64,7 +64,7 @@ greatest_within (suc n) worth bound all =
     let l = all n (omega arith) in
     omega (arith, g, l)
 
-greatest_less : (most : ℕ) (worth : ℕ → ℕ) (bound : ℕ) → 0 < bound
+pub greatest_less : (most : ℕ) (worth : ℕ → ℕ) (bound : ℕ) → 0 < bound
     → ((other : ℕ) → other < most → worth other < bound) → greatest most worth < bound
 unfolding greatest
 greatest_less zero worth bound some all = omega arith
