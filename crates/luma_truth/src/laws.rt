@@ -39,6 +39,14 @@ pub fn a_rounded_row_is_drawn()
     ensures enough { HasMargin ten_hours (record { first = 408; last = 10_016 }) }
 {}
 
+/// The row of 720 pixels with the label `10:00:00:00` is found and read: its word lies at the place that the law before
+/// this one speaks of.
+pub fn the_worked_row_is_read()
+    ensures lies { LiesAt (rounded ten_hours 720) (record { first = 408; last = 10_016 }) }
+    ensures read { (code : CodeRow) × IsCode (rounded ten_hours 720) code × (says_bits code.levels ≡ true)
+        × (number_of code.levels ≡ ten_hours.word) }
+{}
+
 /// A field has the line of a clean drawing in one of the first 20 rows that are looked at.
 pub fn a_field_has_the_line_of_a_clean_drawing()
     ensures { (drawing : Drawing) (raster : RasterSize) (field lines row : List ℕ) (before behind : List (List ℕ))
