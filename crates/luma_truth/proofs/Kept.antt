@@ -6,32 +6,52 @@ use Rattle.std.proofs.lemmas.Bool.Decides.{nat_tests}
 use Rattle.luma_row.specs.declared.place.Place.{Place}
 use Rattle.luma_row.specs.Choice.{IsFirstBest}
 use Rattle.luma_row.specs.Climb.{halved, moved, neighbour, worth, Climbs, Moves, Refines}
-use Rattle.luma_row.specs.KeptBest.{IsBestOf}
 use Rattle.luma_row.specs.Place.{apart, fits, score}
-use Rattle.luma_row.proofs.OneMore.{comes, first_of_one, stays}
 use Rattle.luma_truth.proofs.NearPairs.{enough, pulled, IsClose}
 use Rattle.luma_truth.proofs.NoLess.{moves_on}
 use Rattle.luma_truth.proofs.OnPixels.{IsLit}
 
 -- there is a first of the greatest
-best_of : (most : ℕ) (worth : ℕ → ℕ) → (sum : ℕ) × (number : ℕ) × IsBestOf (most + 1) worth sum number
-best_of zero worth = (worth 0, 0, first_of_one worth (worth 0) refl)
+last_or_below : (other most : ℕ) → other < suc most + 1 → (other < most + 1) ⊎ (other ≡ suc most)
+last_or_below other most h = grind arith
+
+best_of : (most : ℕ) (worth : ℕ → ℕ) → (number : ℕ) × IsFirstBest (most + 1) worth number
+best_of zero worth = (
+  0,
+  record {
+    below = omega arith;
+    greatest = λ other h.
+        let e : other ≡ 0 = omega arith in
+        subst (λ (n : ℕ). worth n ≤ worth 0) (sym e) (omega arith);
+    first = λ other h. absurd (omega arith);
+  },
+)
 best_of (suc n) worth =
     let b = best_of n worth in
-    let e : n + 1 ≡ suc n = omega arith in
-    let cases : (worth (n + 1) ≤ b.0) ⊎ (b.0 < worth (n + 1)) = grind arith in
+    let best = b.1 in
+    let cases : (worth (suc n) ≤ worth b.0) ⊎ (worth b.0 < worth (suc n)) = grind arith in
     elim cases [
       | inl less ↦ (
         b.0,
-        b.1,
-        subst (λ (k : ℕ). IsBestOf (k + 1) worth b.0 b.1) e
-            (stays (n + 1) worth b.0 b.1 (worth (n + 1)) b.2 refl less),
+        record {
+          below = let h = best.below in omega (arith, h);
+          greatest = λ other h. elim (last_or_below other n h) [
+            | inl below ↦ best.greatest other below
+            | inr last ↦ subst (λ (k : ℕ). worth k ≤ worth b.0) (sym last) less
+          ];
+          first = best.first;
+        },
       )
       | inr more ↦ (
-        worth (n + 1),
-        n + 1,
-        subst (λ (k : ℕ). IsBestOf (k + 1) worth (worth (n + 1)) (n + 1)) e
-            (comes (n + 1) worth b.0 b.1 (worth (n + 1)) b.2 refl more),
+        suc n,
+        record {
+          below = omega arith;
+          greatest = λ other h. elim (last_or_below other n h) [
+            | inl below ↦ let g = best.greatest other below in omega (arith, g, more)
+            | inr last ↦ subst (λ (k : ℕ). worth k ≤ worth (suc n)) (sym last) (omega arith)
+          ];
+          first = λ other h. let g = best.greatest other (omega (arith, h)) in omega (arith, g, more);
+        },
       )
     ]
 
@@ -96,9 +116,8 @@ climbs_kept word dark swing twos end row step zero from is few kept = (from, ref
 climbs_kept word dark swing twos end row step (suc moves) from is few kept =
     let before = climbs_kept word dark swing twos end row step moves from is few kept in
     let best = best_of 8 (worth row before.0 step) in
-    let to = neighbour before.0 step best.1 in
-    let first : IsFirstBest 9 (worth row before.0 step) best.1 = best.2.best in
-    let move : Moves row step before.0 to = (best.1, first, refl) in
+    let to = neighbour before.0 step best.0 in
+    let move : Moves row step before.0 to = (best.0, best.1, refl) in
     (to, (before.0, before.1, move), move_kept word dark swing twos end row step before.0 to is few before.2 move)
 
 halved_few : (step times most : ℕ) → step ≤ most → halved step times ≤ most

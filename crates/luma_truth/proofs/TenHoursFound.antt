@@ -7,7 +7,7 @@ use Rattle.std.proofs.lemmas.List.FromFn.{get_or-map-range_with_len}
 use Rattle.luma_row.specs.declared.place.Place.{Place}
 use Rattle.luma_row.specs.declared.row.CodeRow.{CodeRow}
 use Rattle.luma_row.specs.Choice.{all_of, sum_of, IsFirstBest}
-use Rattle.luma_row.specs.Climb.{neighbour, worth, Climbs, Moves, Refines}
+use Rattle.luma_row.specs.Climb.{halved, neighbour, worth, Climbs, Moves, Refines}
 use Rattle.luma_row.specs.Coarse.{best_at, coarse_fall, coarse_sum, fall_at, pixel_of, step_to, sum_at, IsCoarse}
 use Rattle.luma_row.specs.Earliest.{earlier, fits_nearly}
 use Rattle.luma_row.specs.Levels.{number_of, says_bits}
@@ -15,7 +15,6 @@ use Rattle.luma_row.specs.Light.{fall, light, IsRow}
 use Rattle.luma_row.specs.Place.{score}
 use Rattle.luma_row.specs.Row.{IsCode, LiesAt}
 use Rattle.luma_row.specs.Width.{distance, distances, grain, start, starts}
-use Rattle.luma_row.proofs.MoveByMove.{one_step, still}
 use Rattle.luma_truth.specs.Drawing.{rounded}
 use Rattle.luma_truth.specs.Near.{IsNear}
 use Rattle.luma_truth.specs.Worked.{ten_hours}
@@ -310,11 +309,29 @@ stays_g : is_best (worth ten_hours_row (record { first = 408; last = 10016 }) 0)
 unfolding all_of sum_of score fall light ten_hours_row
 stays_g = refl
 
+-- a place that stays where it is does so any number of times
+still : (step moves more : ℕ) (from at : Place) → Climbs ten_hours_row step moves from at
+    → Moves ten_hours_row step at at → Climbs ten_hours_row step (moves + more) from at
+still step moves zero from at climbs move =
+    let e : moves ≡ moves + 0 = omega arith in
+    subst (λ (n : ℕ). Climbs ten_hours_row step n from at) e climbs
+still step moves (suc more) from at climbs move =
+    let e : suc (moves + more) ≡ moves + suc more = omega arith in
+    subst (λ (n : ℕ). Climbs ten_hours_row step n from at) e (at, still step moves more from at climbs move, move)
+
+-- one more step of the refinement, and six moves with it
+one_step : (steps step : ℕ) (between to : Place) → Refines ten_hours_row 32 steps coarse between
+    → step ≡ halved 32 steps → Climbs ten_hours_row step 6 between to → Refines ten_hours_row 32 (steps + 1) coarse to
+one_step steps step between to refines is climbs =
+    let e : suc steps ≡ steps + 1 = omega arith in
+    subst (λ (n : ℕ). Refines ten_hours_row 32 n coarse to) e
+    (between, refines, subst (λ (s : ℕ). Climbs ten_hours_row s 6 between to) is climbs)
+
 -- six moves with a step: none, or one and then none
 none_of_six : (step top : ℕ) (at : Place) → is_best (worth ten_hours_row at step) 0 top ≡ true
     → at ≡ neighbour at step 0 → Climbs ten_hours_row step 6 at at
 none_of_six step top at is same =
-    still ten_hours_row step 0 6 at at refl
+    still step 0 6 at at refl
     (subst (λ (to : Place). Moves ten_hours_row step at to) (sym same) (move_of at step 0 top is))
 
 one_of_six : (step number top next_top : ℕ) (from at : Place) → is_best (worth ten_hours_row from step) number top ≡ true
@@ -323,26 +340,26 @@ one_of_six : (step number top next_top : ℕ) (from at : Place) → is_best (wor
 one_of_six step number top next_top from at moves there is same =
     let first : Climbs ten_hours_row step 1 from at =
     (from, refl, subst (λ (to : Place). Moves ten_hours_row step from to) (sym there) (move_of from step number top moves)) in
-    still ten_hours_row step 1 5 from at first
+    still step 1 5 from at first
     (subst (λ (to : Place). Moves ten_hours_row step at to) (sym same) (move_of at step 0 next_top is))
 
 refined : Refines ten_hours_row 32 8 coarse deepest
 refined =
-    let s0 = one_step ten_hours_row 32 0 32 coarse (record { first = 418; last = 10018 }) (record { first = 418; last = 10018 }) refl refl
+    let s0 = one_step 0 32 (record { first = 418; last = 10018 }) (record { first = 418; last = 10018 }) refl refl
     (none_of_six 32 302170208 (record { first = 418; last = 10018 }) stays_a refl) in
-    let s1 = one_step ten_hours_row 32 1 16 coarse (record { first = 418; last = 10018 }) (record { first = 418; last = 10002 }) s0 refl
+    let s1 = one_step 1 16 (record { first = 418; last = 10018 }) (record { first = 418; last = 10002 }) s0 refl
     (one_of_six 16 1 302172928 302172928 (record { first = 418; last = 10018 }) (record { first = 418; last = 10002 }) moves_b refl stays_b refl) in
-    let s2 = one_step ten_hours_row 32 2 8 coarse (record { first = 418; last = 10002 }) (record { first = 410; last = 10010 }) s1 refl
+    let s2 = one_step 2 8 (record { first = 418; last = 10002 }) (record { first = 410; last = 10010 }) s1 refl
     (one_of_six 8 5 302174992 302174992 (record { first = 418; last = 10002 }) (record { first = 410; last = 10010 }) moves_c refl stays_c refl) in
-    let s3 = one_step ten_hours_row 32 3 4 coarse (record { first = 410; last = 10010 }) (record { first = 410; last = 10014 }) s2 refl
+    let s3 = one_step 3 4 (record { first = 410; last = 10010 }) (record { first = 410; last = 10014 }) s2 refl
     (one_of_six 4 2 302175440 302175440 (record { first = 410; last = 10010 }) (record { first = 410; last = 10014 }) moves_d refl stays_d refl) in
-    let s4 = one_step ten_hours_row 32 4 2 coarse (record { first = 410; last = 10014 }) (record { first = 408; last = 10016 }) s3 refl
+    let s4 = one_step 4 2 (record { first = 410; last = 10014 }) (record { first = 408; last = 10016 }) s3 refl
     (one_of_six 2 5 302175688 302175688 (record { first = 410; last = 10014 }) (record { first = 408; last = 10016 }) moves_e refl stays_e refl) in
-    let s5 = one_step ten_hours_row 32 5 1 coarse (record { first = 408; last = 10016 }) (record { first = 408; last = 10016 }) s4 refl
+    let s5 = one_step 5 1 (record { first = 408; last = 10016 }) (record { first = 408; last = 10016 }) s4 refl
     (none_of_six 1 302175688 (record { first = 408; last = 10016 }) stays_f refl) in
-    let s6 = one_step ten_hours_row 32 6 0 coarse (record { first = 408; last = 10016 }) (record { first = 408; last = 10016 }) s5 refl
+    let s6 = one_step 6 0 (record { first = 408; last = 10016 }) (record { first = 408; last = 10016 }) s5 refl
     (none_of_six 0 302175688 (record { first = 408; last = 10016 }) stays_g refl) in
-    let s7 = one_step ten_hours_row 32 7 0 coarse (record { first = 408; last = 10016 }) (record { first = 408; last = 10016 }) s6 refl
+    let s7 = one_step 7 0 (record { first = 408; last = 10016 }) (record { first = 408; last = 10016 }) s6 refl
     (none_of_six 0 302175688 (record { first = 408; last = 10016 }) stays_g refl) in
     s7
 
