@@ -107,7 +107,7 @@ mixed_within : (dark swing all : ℕ) → all ≤ 10240 → 10240 * dark + swing
 mixed_within dark swing all few = let m = mul-le-mul_left swing few in omega (arith, m)
 
 -- what a pixel covers is at least as light as the part of a 1
-lit_light : (drawing : Drawing) (pixel bit : ℕ) → bit < 90 → has_bit drawing.word bit ≡ true
+pub lit_light : (drawing : Drawing) (pixel bit : ℕ) → bit < 90 → has_bit drawing.word bit ≡ true
     → 10240 * drawing.dark + drawing.swing * share drawing pixel bit ≤ pixel_light drawing pixel
 unfolding pixel_light share
 lit_light drawing pixel bit h is =
@@ -119,7 +119,7 @@ all_within : (drawing : Drawing) (pixel n : ℕ) → n + held_edge drawing pixel
 all_within drawing pixel n h = omega arith
 
 -- and at least as dark as that of a 0
-dark_light : (drawing : Drawing) (pixel bit : ℕ) → bit < 90 → has_bit drawing.word bit ≡ false
+pub dark_light : (drawing : Drawing) (pixel bit : ℕ) → bit < 90 → has_bit drawing.word bit ≡ false
     → pixel_light drawing pixel + drawing.swing * share drawing pixel bit ≤ 10240 * (drawing.dark + drawing.swing)
 unfolding pixel_light share
 dark_light drawing pixel bit h is =
@@ -130,16 +130,33 @@ dark_light drawing pixel bit h is =
     mixed_dark drawing.dark drawing.swing here all (all_within drawing pixel (all + here) (omega (arith, few)))
 
 -- it is at least dark and at most light
-drawn_light : (drawing : Drawing) (pixel : ℕ) → pixel_light drawing pixel ≤ 10240 * (drawing.dark + drawing.swing)
+pub drawn_light : (drawing : Drawing) (pixel : ℕ) → pixel_light drawing pixel ≤ 10240 * (drawing.dark + drawing.swing)
 unfolding pixel_light share
 drawn_light drawing pixel =
     let all = sum_of 90 (part (held_edge drawing pixel) (has_bit drawing.word)) in
     let few = parts_within (held_edge drawing pixel) (has_bit drawing.word) (held_up drawing pixel) 90 in
     mixed_within drawing.dark drawing.swing all (all_within drawing pixel all few)
 
-drawn_dark : (drawing : Drawing) (pixel : ℕ) → 10240 * drawing.dark ≤ pixel_light drawing pixel
+pub drawn_dark : (drawing : Drawing) (pixel : ℕ) → 10240 * drawing.dark ≤ pixel_light drawing pixel
 unfolding pixel_light
 drawn_dark drawing pixel = omega arith
+
+mixed_none : (dark swing all : ℕ) → all ≤ 0 → 10240 * dark + swing * all ≤ 10240 * dark
+mixed_none dark swing all none = let m = mul-le-mul_left swing none in omega (arith, m)
+
+-- a pixel in which no cell lies is dark
+pub outside_light : (drawing : Drawing) (pixel : ℕ)
+    → (10240 * pixel + 10240 ≤ edge drawing 0) ⊎ (edge drawing 90 ≤ 10240 * pixel)
+    → pixel_light drawing pixel ≤ 10240 * drawing.dark
+unfolding pixel_light share
+outside_light drawing pixel outside =
+    let all = sum_of 90 (part (held_edge drawing pixel) (has_bit drawing.word)) in
+    let few = parts_within (held_edge drawing pixel) (has_bit drawing.word) (held_up drawing pixel) 90 in
+    let same : held_edge drawing pixel 90 ≤ held_edge drawing pixel 0 = elim outside [
+      | inl before ↦ omega (arith, before)
+      | inr behind ↦ omega (arith, behind)
+    ] in
+    mixed_none drawing.dark drawing.swing all (omega (arith, few, same))
 
 -- what is said of a pixel, where a part of it lies outside of the cell
 left_out : (swing part outside : ℕ) → part + outside ≡ 10240 → swing * part + swing * outside ≡ 10240 * swing

@@ -13,7 +13,7 @@ use Rattle.luma_truth.specs.Drawing.{Drawing}
 use Rattle.luma_truth.specs.Inside.{LiesInside}
 use Rattle.luma_truth.specs.Alone.{FallsNoLess, IsSummit, StandsAlone, StandsFirst}
 
-either : (b : Bool) → (b ≡ true) ⊎ (b ≡ false)
+pub either : (b : Bool) → (b ≡ true) ⊎ (b ≡ false)
 either true = inl refl
 either false = inr refl
 
@@ -52,7 +52,7 @@ worth_of row place step number less some more =
           absurd (omega (arith, nothing))
     ]
 
-moves_on : (row : List ℕ) (step : ℕ) (from to : Place) → Moves row step from to → FallsNoLess row from to
+pub moves_on : (row : List ℕ) (step : ℕ) (from to : Place) → Moves row step from to → FallsNoLess row from to
 moves_on row step from to moves =
     let number = moves.0 in
     let cases : (number ≡ 0) ⊎ (0 < number) = grind arith in
@@ -86,7 +86,7 @@ pub place_falls : (row : List ℕ) (place : Place) (lies : LiesAt row place) →
 place_falls row place lies = refines_on row (2 * grain (length row)) 8 lies.coarse lies.deepest lies.fine
 
 -- where the word fits at no place before it, it is the earliest
-none_before : (row : List ℕ) (place : Place) (cells : ℕ) → ((less : ℕ) → less < cells
+pub none_before : (row : List ℕ) (place : Place) (cells : ℕ) → ((less : ℕ) → less < cells
     → fits_nearly row place (earlier place (suc less)) ≡ false) → earliest_within row place cells ≡ place
 unfolding earliest_within
 none_before row place zero none = refl

@@ -3,12 +3,12 @@ use Rattle.std.proofs.Common.{◌≡◌, ℕ, ◌+◌, ◌/◌, ◌<◌, ◌≤�
 use Rattle.std.proofs.lemmas.List.FromFn.{get_or-map-range_with_len, length-map-range_with_len}
 use Rattle.luma_truth.specs.Drawing.{pixel_light, rounded, Drawing, FitsARow, IsDrawn}
 
-pixel_is : (drawing : Drawing) (width pixel : ℕ) → pixel < width
+pub pixel_is : (drawing : Drawing) (width pixel : ℕ) → pixel < width
     → get_or (rounded drawing width) pixel 0 ≡ (pixel_light drawing pixel + 5120) / 10240
 pixel_is drawing width pixel h =
     get_or-map-range_with_len (λ p. (pixel_light drawing p + 5120) / 10240) 0 width pixel pixel 0 h (omega arith)
 
-length_is : (drawing : Drawing) (width : ℕ) → length (rounded drawing width) ≡ width
+pub length_is : (drawing : Drawing) (width : ℕ) → length (rounded drawing width) ≡ width
 length_is drawing width = length-map-range_with_len (λ p. (pixel_light drawing p + 5120) / 10240) 0 width
 
 pub rounded_is_drawn : (drawing : Drawing) (width : ℕ) → FitsARow drawing width → 1 ≤ drawing.noise

@@ -10,7 +10,7 @@ both true true is = (is, is)
 both true false is = absurd (cc)
 both false b is = absurd (cc)
 
-each : (n : ℕ) (p : ℕ → Bool) (k : ℕ) → all_of n p ≡ true → k < n → p k ≡ true
+pub each : (n : ℕ) (p : ℕ → Bool) (k : ℕ) → all_of n p ≡ true → k < n → p k ≡ true
 unfolding all_of
 each zero p k all h = absurd (omega arith)
 each (suc n) p k all h =
@@ -21,7 +21,7 @@ each (suc n) p k all h =
       | inr same ↦ subst (λ (m : ℕ). p m ≡ true) (sym same) parts.1
     ]
 
-isnt : (b : Bool) → not b ≡ true → b ≡ false
+pub isnt : (b : Bool) → not b ≡ true → b ≡ false
 isnt true is = absurd (cc)
 isnt false is = refl
 

@@ -12,7 +12,8 @@ ghost use Rattle.luma_truth.specs.Alone.{FallsNoLess, IsSummit, StandsAlone, Sta
 ghost use Rattle.luma_truth.specs.Drawing.{rounded, Drawing, FitsARow, IsDrawn};
 ghost use Rattle.luma_truth.specs.Inside.{core, HasMargin, IsEnough, LiesInside};
 ghost use Rattle.luma_truth.specs.Near.{IsNear};
-ghost use Rattle.luma_truth.specs.Worked.{ten_hours};
+ghost use Rattle.luma_truth.specs.Whole.{IsOnWholePixels};
+ghost use Rattle.luma_truth.specs.Worked.{eleven, ten_hours};
 
 use luma_row::laws::a_row_says_one_thing;
 
@@ -38,6 +39,14 @@ pub fn a_rounded_row_is_drawn()
     ensures enough { HasMargin ten_hours (record { first = 408; last = 10_016 }) }
 {}
 
+/// The row of 720 pixels with the label `10:00:00:00` is found and read: its word lies at the place that the law before
+/// this one speaks of.
+pub fn the_worked_row_is_read()
+    ensures lies { LiesAt (rounded ten_hours 720) (record { first = 408; last = 10_016 }) }
+    ensures read { (code : CodeRow) × IsCode (rounded ten_hours 720) code × (says_bits code.levels ≡ true)
+        × (number_of code.levels ≡ ten_hours.word) }
+{}
+
 /// A field has the line of a clean drawing in one of the first 20 rows that are looked at.
 pub fn a_field_has_the_line_of_a_clean_drawing()
     ensures { (drawing : Drawing) (raster : RasterSize) (field lines row : List ℕ) (before behind : List (List ℕ))
@@ -58,6 +67,26 @@ pub fn a_drawing_that_stands_alone_is_found()
         → IsSummit row lies.deepest → StandsAlone drawing row lies.coarse → StandsFirst row lies.deepest
         → LiesInside drawing place }
 {}
+
+/// In a row of 1,440 pixels each drawing on whole pixels is found and says its word, whatever the word is. Such a row
+/// says nothing else, and a field has its line. Rounding its pixels changes nothing.
+pub fn a_drawing_on_whole_pixels_is_found()
+    ensures found { (drawing : Drawing) (row : List ℕ) → length row ≡ 1_440 → IsDrawn drawing row
+        → IsOnWholePixels drawing → (code : CodeRow) × IsCode row code × (says_bits code.levels ≡ true)
+        × (number_of code.levels ≡ drawing.word) }
+    ensures only { (drawing : Drawing) (row : List ℕ) (code : CodeRow) → length row ≡ 1_440 → IsDrawn drawing row
+        → IsOnWholePixels drawing → IsCode row code
+        → (says_bits code.levels ≡ true) × (number_of code.levels ≡ drawing.word) }
+    ensures field { (drawing : Drawing) (raster : RasterSize) (field lines row : List ℕ) (before behind : List (List ℕ))
+        → length row ≡ 1_440 → IsDrawn drawing row → IsOnWholePixels drawing
+        → looked_at raster (whole_parts raster.width field) ≡ before ++ (row ∷ behind) → length before < 20
+        → SaysLines raster field lines → (first rest : List ℕ) × (lines ≡ first ++ (drawing.word ∷ rest)) }
+    ensures drawn { (drawing : Drawing) → FitsARow drawing 1_440 → IsOnWholePixels drawing
+        → IsDrawn drawing (rounded drawing 1_440) }
+    ensures worked { FitsARow eleven 1_440 × IsOnWholePixels eleven }
+{
+    a_row_says_one_thing();
+}
 
 /// A place whose two ends are within a twelfth of a cell of the true ones lies inside.
 pub fn a_near_place_lies_inside()

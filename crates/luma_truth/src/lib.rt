@@ -20,10 +20,13 @@
 //!   cells (`specs/Near.antt`, `IsNear`).
 //! - The place that is found lies in the drawing where it is a summit, and each summit that falls no less than
 //!   the coarse place does (`specs/Alone.antt`, `IsSummit` and `StandsAlone`).
+//! - In a row of 1,440 pixels each drawing on whole pixels is found and says its word, with nothing else to be
+//!   shown of it (`specs/Whole.antt`, `IsOnWholePixels`; `laws::a_drawing_on_whole_pixels_is_found`).
+//! - The worked row of 720 pixels is found and read (`laws::the_worked_row_is_read`).
 //!
-//! Read `specs/Drawing.antt`, `Inside`, `Near`, `Alone` and `Worked`, in this order, and `laws` beside them. No law
-//! says that a drawing stands alone: where other bits of a word fall as its sync pairs do, it does not. Nothing here
-//! runs.
+//! Read `specs/Drawing.antt`, `Inside`, `Near`, `Alone`, `Whole` and `Worked`, in this order, and `laws` beside them.
+//! No law says that a drawing stands alone: where other bits of a word fall as its sync pairs do, it does not. Nothing
+//! here runs.
 #![tactic(auto)]
 
 pub mod laws;
