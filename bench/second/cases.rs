@@ -6,6 +6,7 @@ use crate::labels::{COUNTS, Count, Label, Way};
 use crate::noisy;
 use crate::pictures;
 use crate::vitc::{file_header, line_bits, runs_of, spell_line};
+use crate::words::is_page;
 
 pub struct Case {
     pub words: Vec<String>,
@@ -47,7 +48,7 @@ pub fn case(seed: u64, number: u64) -> Case {
     if d.one_in(25) {
         spoil_words(&mut words, d);
     }
-    if words == ["help"] {
+    while is_page(&words) {
         words.push("help".into());
     }
     spoil(&mut input, d);

@@ -7,6 +7,7 @@ mod chase;
 mod draws;
 mod fields;
 mod frames;
+mod held;
 mod intervals;
 mod labels;
 mod lines;
@@ -24,6 +25,7 @@ mod words;
 
 use cases::{Case, case};
 use draws::Draws;
+use held::Held;
 use run::Run;
 use std::fs::File;
 use std::io::{Read, Write};
@@ -40,13 +42,18 @@ struct Asked {
     first: u64,
     seed: u64,
     jobs: u64,
+    /// What holds the program in memory, or none: then it is loaded for each case.
+    runner: Option<PathBuf>,
 }
 
-const USAGE: &str = "cases PROGRAM ROOM COUNT FIRST SEED JOBS, cases told WORDS.. < INPUT, or cases served";
+const USAGE: &str = "cases PROGRAM ROOM COUNT FIRST SEED JOBS [RUNNER], cases told WORDS.. < INPUT, or cases served";
 
 fn asked() -> Option<Asked> {
     let words: Vec<String> = std::env::args().skip(1).collect();
-    let [program, room, count, first, seed, jobs] = &words[..] else { return None };
+    let [program, room, count, first, seed, jobs, runner @ ..] = &words[..] else { return None };
+    if runner.len() > 1 {
+        return None;
+    }
     Some(Asked {
         program: program.into(),
         room: room.into(),
@@ -54,6 +61,7 @@ fn asked() -> Option<Asked> {
         first: first.parse().ok()?,
         seed: seed.parse().ok()?,
         jobs: jobs.parse().ok().filter(|jobs| *jobs > 0)?,
+        runner: runner.first().map(PathBuf::from),
     })
 }
 
@@ -64,7 +72,7 @@ struct Given {
     status: Option<i32>,
 }
 
-/// Runs the program on a case: on a file, or now and then through a pipe in pieces of any length.
+/// Loads the program and runs it on a case: on a file, or now and then through a pipe in pieces of any length.
 fn given(asked: &Asked, room: &Path, case: &Case, pieces: Option<&mut Draws>) -> std::io::Result<Given> {
     let (input, output, note) = (room.join("in"), room.join("out"), room.join("note"));
     let mut command = Command::new(&asked.program);
@@ -120,6 +128,7 @@ fn difference(wanted: &Run, given: &Given) -> Option<String> {
 fn work(asked: &Asked, lane: u64, next: &AtomicU64, differ: &Mutex<Vec<u64>>) -> std::io::Result<()> {
     let room = asked.room.join(lane.to_string());
     std::fs::create_dir_all(&room)?;
+    let mut held = asked.runner.as_ref().map(|runner| Held::begin(&asked.program, runner, &room)).transpose()?;
     loop {
         let number = next.fetch_add(1, Ordering::Relaxed);
         if number >= asked.first + asked.count {
@@ -129,7 +138,10 @@ fn work(asked: &Asked, lane: u64, next: &AtomicU64, differ: &Mutex<Vec<u64>>) ->
         let wanted = words::run(&case.words, &case.input);
         let mut pieces = Draws::of(asked.seed ^ 1, number);
         let is_pieced = pieces.one_in(8);
-        let given = given(asked, &room, &case, is_pieced.then_some(&mut pieces))?;
+        let given = match &mut held {
+            Some(held) => held.run(&case, is_pieced.then(|| pieces.next() as u32))?,
+            None => given(asked, &room, &case, is_pieced.then_some(&mut pieces))?,
+        };
         if let Some(what) = difference(&wanted, &given) {
             let mut differ = differ.lock().expect("no lane panics with the list");
             differ.push(number);
