@@ -88,7 +88,7 @@ def difference(ended, wanted):
 class Second:
     """The second reading, as a process that is asked."""
 
-    def __init__(self, made, seconds=60):
+    def __init__(self, made, seconds=600):
         self.made, self.seconds, self.process = made, seconds, None
         ended = self.told((b"luma-vitc", b"25", b"360", b"1", b"0", b"1"), b"", 100)
         self.knows_luma = ended is not None and ended[0] == 0

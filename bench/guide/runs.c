@@ -39,7 +39,7 @@
 
 enum { EXITED, KILLED, TOO_LONG };
 enum { NO_FAULT, READ_PIECES, READ_FAILS, WRITE_FAILS, WRITE_PIECES, NO_MEMORY };
-enum { INT3 = 0xcc, WALL_SECONDS = 60, STOPS = 6, PAGE = 4096 };
+enum { INT3 = 0xcc, WALL_SECONDS = 600, STOPS = 6, PAGE = 4096 };
 
 // A block, or a conditional jump.
 struct point {
