@@ -1,6 +1,7 @@
 """What a run is to end with: by the table of statuses, and by the second reading."""
 import os
 import re
+import resource
 import select
 import struct
 import subprocess
@@ -19,6 +20,8 @@ NOTES = {
     8: rb"",
 }
 FAILED = 255
+# what the second reading may take of memory
+MEMORY = 2 << 30
 
 
 def is_text(words):
@@ -56,15 +59,22 @@ def complaint(case, ended, most_output):
     return None
 
 
-def difference(case, ended, wanted):
+def is_cut(case, ended):
+    """Whether a read or a write failed, so that what was written is a front of what the run would have written."""
+    return ended.is_faulted and case.fault in ("read-fails", "write-fails")
+
+
+def front(ended, whole):
+    """What is wrong with what was written before a fault, or nothing. Of an output that is full the front is known."""
+    is_front = whole.output.startswith(ended.output)
+    return None if is_front else "what was written before the fault is no front of the whole"
+
+
+def difference(ended, wanted):
     """What differs from the second reading, or nothing."""
     status, output, note = wanted
     if status == FAILED:
         return "the second reading panicked"
-    if ended.code == 6 and case.fault == "no-memory":
-        return None
-    if ended.is_faulted and case.fault in ("read-fails", "write-fails"):
-        return None if output.startswith(ended.output) else "what was written before the fault is no front of the whole"
     if ended.code != status:
         return f"status {ended.code}, wanted {status}"
     if ended.note != note:
@@ -78,14 +88,15 @@ def difference(case, ended, wanted):
 class Second:
     """The second reading, as a process that is asked."""
 
-    def __init__(self, made, seconds=60):
+    def __init__(self, made, seconds=600):
         self.made, self.seconds, self.process = made, seconds, None
-        ended = self.told((b"luma-vitc", b"25", b"360", b"1", b"0", b"1"), b"")
+        ended = self.told((b"luma-vitc", b"25", b"360", b"1", b"0", b"1"), b"", 100)
         self.knows_luma = ended is not None and ended[0] == 0
 
     def begin(self):
         self.process = subprocess.Popen([self.made, "served"], stdin=subprocess.PIPE, stdout=subprocess.PIPE,
                                         stderr=subprocess.DEVNULL, bufsize=0)
+        resource.prlimit(self.process.pid, resource.RLIMIT_AS, (MEMORY, MEMORY))
 
     def end(self):
         if self.process:
@@ -118,9 +129,10 @@ class Second:
         if not select.select([self.process.stdout], [], [], self.seconds)[0]:
             raise OSError("no answer in time")
 
-    def told(self, words, data):
-        """What a run is to end with: status, output and note; none if the reading gives no answer in time."""
-        parts = [struct.pack("<II", 0, len(words))]
+    def told(self, words, data, most):
+        """What a run is to end with: status, the first `most` bytes of its output, and note; none if the reading gives
+        no answer in time."""
+        parts = [struct.pack("<III", 0, most, len(words))]
         for part in (*words, data):
             parts += [struct.pack("<I", len(part)), part]
         try:

@@ -1,8 +1,9 @@
-"""What no run has reached: a table of functions, the code of the blocks, and the jumps that went one way only."""
+"""What no run has reached: a table of functions, the code of the blocks, the jumps that went one way only, and the
+places at which runs turned away from it."""
 import bisect
 import collections
 
-from .blocks import crate_of
+from .blocks import JUMP, TO, crate_of
 
 
 def table(program, reached):
@@ -64,3 +65,79 @@ def code(program, reached, part):
             how = "always" if taken else "never"
             lines.append(f"{how} taken: {jump.at:x}  {texts[jump.at]}")
     return "\n".join(lines)
+
+
+# Where runs turned away
+
+# how many instructions before such a place are shown
+BEFORE = 4
+
+
+def ways(program):
+    """To which blocks each block leads: by its jump, by its end, and into a function that it calls. Where a jump by a
+    table or a call by a pointer leads is not known."""
+    place = {block.at: number for number, block in enumerate(program.blocks)}
+    order, texts, found = program.order, program.texts, []
+    for block in program.blocks:
+        end = bisect.bisect_left(order, block.at) + block.length
+        last = texts[order[end - 1]]
+        jump, to = JUMP.match(last), TO.search(last)
+        those = [int(to[1], 16)] if jump and to else []
+        is_over = jump and jump[1] in ("jmp", "ret") or last.startswith(("ud2", "hlt"))
+        if not is_over and end < len(order):
+            those.append(order[end])
+        found.append([place[at] for at in those if at in place])
+    return found
+
+
+def behind(first, leads, known):
+    """The blocks that can be reached from these, without those that are known."""
+    found, left = set(), [number for number in first if number not in known]
+    while left:
+        number = left.pop()
+        if number not in found:
+            found.add(number)
+            left += [to for to in leads[number] if to not in known]
+    return found
+
+
+def fronts(program, reached, part):
+    """The blocks that no run reached though one came to a block that leads there, or to which nothing is known to lead;
+    those with most code that only they lead to come first. Code that several lead to comes last."""
+    count = len(program.blocks)
+    leads, came = ways(program), collections.defaultdict(list)
+    for number, those in enumerate(leads):
+        for to in those:
+            came[to].append(number)
+    never = {number for number in range(count) if not reached[number]}
+    known = set(range(count)) - never
+    first = [number for number in sorted(never) if not came[number] or any(one in known for one in came[number])]
+    rows, alone = [], set()
+    for number in first:
+        only = never - behind((one for one in first if one != number), leads, known | {number})
+        alone |= only
+        rows.append((sum(program.blocks[one].length for one in only), number))
+    lines = []
+    for size, number in sorted(rows, key=lambda row: (-row[0], row[1])):
+        if part in name_of(program, number):
+            lines += front(program, number, [one for one in came[number] if one in known], size)
+    left = sum(program.blocks[one].length for one in never - alone)
+    lines.append(f"{len(first)} places; {left} instructions more to which several of them lead")
+    return "\n".join(lines)
+
+
+def name_of(program, number):
+    return program.functions[program.blocks[number].function].name
+
+
+def front(program, number, sources, size):
+    """A place, with the ends of the blocks from which runs could have come."""
+    block, order, texts = program.blocks[number], program.order, program.texts
+    one = program.functions[block.function]
+    lines = [f"{size} instructions: {block.at:x} {one.name}+{block.at - one.at:#x}"]
+    for source in sources[:3]:
+        end = bisect.bisect_left(order, program.blocks[source].at) + program.blocks[source].length
+        lines += [f"    {order[k]:x}  {texts[order[k]]}" for k in range(max(0, end - BEFORE), end)]
+    start = bisect.bisect_left(order, block.at)
+    lines += [f"  > {order[k]:x}  {texts[order[k]]}" for k in range(start, start + min(block.length, BEFORE))]
+    return lines

@@ -1,5 +1,6 @@
 // Runs a program again and again, each time with other words and another input, and tells what a run was the first to
-// reach: basic blocks, and the two ways of conditional jumps. Part of bench/guided, which says how and why.
+// reach: basic blocks, and the two ways of conditional jumps. Part of bench/guided, which says how and why. bench/cases
+// gives it an empty list, and so has runs that cost no loading.
 //
 // It is loaded before the program (LD_PRELOAD), and stops it before its own code begins. Each run is a child of the
 // program at this place, with the words in place of its own.
@@ -38,7 +39,7 @@
 
 enum { EXITED, KILLED, TOO_LONG };
 enum { NO_FAULT, READ_PIECES, READ_FAILS, WRITE_FAILS, WRITE_PIECES, NO_MEMORY };
-enum { INT3 = 0xcc, WALL_SECONDS = 60, STOPS = 6, PAGE = 4096 };
+enum { INT3 = 0xcc, WALL_SECONDS = 600, STOPS = 6, PAGE = 4096 };
 
 // A block, or a conditional jump.
 struct point {
@@ -376,8 +377,11 @@ static void become(uint32_t count, char **words, char **own)
     dup2(input_file, 0);
     dup2(output_file, 1);
     dup2(note_file, 2);
-    close(asked);
-    close(telling);
+    // (0 and 1 are its own input and output by now)
+    if (asked > 2)
+        close(asked);
+    if (telling > 2)
+        close(telling);
     for (uint32_t i = 0; i < count; i++)
         own[i + 1] = words[i];
     own[count + 1] = NULL;

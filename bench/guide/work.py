@@ -78,13 +78,13 @@ class Job:
 
     # Runs
 
-    def step(self, case, is_first=False):
-        """Runs a case, and judges it: by the statuses, and by the second reading if it reached new code, else now and
-        then."""
+    def step(self, case, is_first=False, is_compared=False):
+        """Runs a case, and judges it: by the statuses, and by the second reading if that is wanted or it reached new
+        code, else now and then. Answers how it ended."""
         ended = self.runner.run(case, is_first or self.draws.randrange(WAYS) == 0)
         self.counts.runs += 1
         wrong = judge.complaint(case, ended, self.asked.most_output)
-        if not wrong and (ended.new or self.draws.randrange(self.asked.compare) == 0):
+        if not wrong and (is_compared or ended.new or self.draws.randrange(self.asked.compare) == 0):
             wrong = self.compared(case, ended)
         if wrong:
             self.counts.differ += 1
@@ -94,11 +94,16 @@ class Job:
             self.counts.kept += 1
             self.known.add(os.path.basename(keep(case, self.asked.corpus)))
             self.add(case)
+        return ended
 
     def compared(self, case, ended):
         """What differs from the second reading, if it knows the command."""
-        if ended.code == 8 or len(ended.output) >= self.asked.most_output:
+        # (a run whose output is full, or which had no memory, may have gigabytes still to write)
+        if ended.code in (6, 8) or len(ended.output) >= self.asked.most_output:
             return None
+        if judge.is_cut(case, ended):
+            whole = self.step(case._replace(fault="none", number=0), is_compared=True)
+            return judge.front(ended, whole)
         if case.command() == "help" and not ended.code:
             return None
         if case.command() == "luma-vitc" and not self.second.knows_luma:
@@ -106,17 +111,18 @@ class Job:
                 return None
             wanted = luma.wanted(case, ended)
         else:
-            wanted = self.second.told(case.words, case.input)
+            wanted = self.second.told(case.words, case.input, self.asked.most_output)
             self.counts.unanswered += wanted is None
         if wanted is None:
             return None
         self.counts.compared += 1
-        return judge.difference(case, ended, wanted)
+        return judge.difference(ended, wanted)
 
     def work(self, cases, is_over, only_these=False):
         """Runs these cases, and then what it draws, until it is over."""
         for case in cases:
             self.add(case)
+            self.known.add(case.name())
         try:
             for case in cases:
                 if is_over():

@@ -6,6 +6,7 @@ use crate::labels::{COUNTS, Count, Label, Way};
 use crate::noisy;
 use crate::pictures;
 use crate::vitc::{file_header, line_bits, runs_of, spell_line};
+use crate::words::is_page;
 
 pub struct Case {
     pub words: Vec<String>,
@@ -17,20 +18,29 @@ const COMMANDS: [&str; 19] = [
     "ltc-convert", "ltc-load", "ltc-pcm", "pcm-ltc", "wav-ltc", "mtc-read", "vitc-read", "vitc-make", "chase", "label",
 ];
 
+/// The kinds that have numbers of their own, one in twenty each.
+pub const KINDS: [(u64, &str); 3] = [(9, "path"), (14, "luma-vitc"), (19, "labels")];
+
+/// The kind of the case with a number, if it has one of those.
+pub fn kind(number: u64) -> Option<&'static str> {
+    KINDS.iter().find(|kind| kind.0 == number % 20).map(|kind| kind.1)
+}
+
 /// The case with a number.
 pub fn case(seed: u64, number: u64) -> Case {
     let d = &mut Draws::of(seed, number);
     // (by its number, so that each other case is the one that its seed and number were before)
-    if number % 20 == 9 || number % 20 == 14 {
-        let mut case = if number % 20 == 9 { noisy::case(d) } else { pictures::case(d) };
-        if number % 20 == 14 && d.one_in(25) {
+    let kind = kind(number).unwrap_or("");
+    if kind == "path" || kind == "luma-vitc" {
+        let mut case = if kind == "path" { noisy::case(d) } else { pictures::case(d) };
+        if kind == "luma-vitc" && d.one_in(25) {
             spoil_words(&mut case.words, d);
         }
         spoil(&mut case.input, d);
         return case;
     }
     let drawn = if d.one_in(40) { "number" } else { d.pick(&COMMANDS) };
-    let command = if number % 20 == 19 { "labels" } else { drawn };
+    let command = if kind == "labels" { kind } else { drawn };
     let mut words = vec![command.to_string()];
     words.extend(values(command, d));
     let mut input = match command {
@@ -47,7 +57,7 @@ pub fn case(seed: u64, number: u64) -> Case {
     if d.one_in(25) {
         spoil_words(&mut words, d);
     }
-    if words == ["help"] {
+    while is_page(&words) {
         words.push("help".into());
     }
     spoil(&mut input, d);

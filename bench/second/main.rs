@@ -7,6 +7,7 @@ mod chase;
 mod draws;
 mod fields;
 mod frames;
+mod held;
 mod intervals;
 mod labels;
 mod lines;
@@ -22,8 +23,9 @@ mod sound;
 mod vitc;
 mod words;
 
-use cases::{Case, case};
+use cases::{Case, KINDS, case, kind};
 use draws::Draws;
+use held::Held;
 use run::Run;
 use std::fs::File;
 use std::io::{Read, Write};
@@ -40,13 +42,49 @@ struct Asked {
     first: u64,
     seed: u64,
     jobs: u64,
+    /// Which of the numbers are run.
+    kinds: Kinds,
+    /// What holds the program in memory, or none: then it is loaded for each case.
+    runner: Option<PathBuf>,
 }
 
-const USAGE: &str = "cases PROGRAM ROOM COUNT FIRST SEED JOBS, cases told WORDS.. < INPUT, or cases served";
+/// All numbers, or those of one kind alone, or all but those.
+enum Kinds {
+    All,
+    Only(&'static str),
+    Without(&'static str),
+}
+
+impl Kinds {
+    /// `all`, `only-KIND` or `without-KIND`.
+    fn read(word: &str) -> Option<Kinds> {
+        let named = |name: &str| KINDS.iter().map(|kind| kind.1).find(|kind| *kind == name);
+        match word.split_once('-') {
+            None => (word == "all").then_some(Kinds::All),
+            Some(("only", name)) => named(name).map(Kinds::Only),
+            Some(("without", name)) => named(name).map(Kinds::Without),
+            Some(_) => None,
+        }
+    }
+
+    fn has(&self, number: u64) -> bool {
+        match self {
+            Kinds::All => true,
+            Kinds::Only(name) => kind(number) == Some(name),
+            Kinds::Without(name) => kind(number) != Some(name),
+        }
+    }
+}
+
+const USAGE: &str =
+    "cases PROGRAM ROOM COUNT FIRST SEED JOBS KINDS [RUNNER], cases told WORDS.. < INPUT, or cases served";
 
 fn asked() -> Option<Asked> {
     let words: Vec<String> = std::env::args().skip(1).collect();
-    let [program, room, count, first, seed, jobs] = &words[..] else { return None };
+    let [program, room, count, first, seed, jobs, kinds, runner @ ..] = &words[..] else { return None };
+    if runner.len() > 1 {
+        return None;
+    }
     Some(Asked {
         program: program.into(),
         room: room.into(),
@@ -54,6 +92,8 @@ fn asked() -> Option<Asked> {
         first: first.parse().ok()?,
         seed: seed.parse().ok()?,
         jobs: jobs.parse().ok().filter(|jobs| *jobs > 0)?,
+        kinds: Kinds::read(kinds)?,
+        runner: runner.first().map(PathBuf::from),
     })
 }
 
@@ -64,7 +104,7 @@ struct Given {
     status: Option<i32>,
 }
 
-/// Runs the program on a case: on a file, or now and then through a pipe in pieces of any length.
+/// Loads the program and runs it on a case: on a file, or now and then through a pipe in pieces of any length.
 fn given(asked: &Asked, room: &Path, case: &Case, pieces: Option<&mut Draws>) -> std::io::Result<Given> {
     let (input, output, note) = (room.join("in"), room.join("out"), room.join("note"));
     let mut command = Command::new(&asked.program);
@@ -120,16 +160,23 @@ fn difference(wanted: &Run, given: &Given) -> Option<String> {
 fn work(asked: &Asked, lane: u64, next: &AtomicU64, differ: &Mutex<Vec<u64>>) -> std::io::Result<()> {
     let room = asked.room.join(lane.to_string());
     std::fs::create_dir_all(&room)?;
+    let mut held = asked.runner.as_ref().map(|runner| Held::begin(&asked.program, runner, &room)).transpose()?;
     loop {
         let number = next.fetch_add(1, Ordering::Relaxed);
         if number >= asked.first + asked.count {
             return Ok(());
         }
+        if !asked.kinds.has(number) {
+            continue;
+        }
         let case = case(asked.seed, number);
         let wanted = words::run(&case.words, &case.input);
         let mut pieces = Draws::of(asked.seed ^ 1, number);
         let is_pieced = pieces.one_in(8);
-        let given = given(asked, &room, &case, is_pieced.then_some(&mut pieces))?;
+        let given = match &mut held {
+            Some(held) => held.run(&case, is_pieced.then(|| pieces.next() as u32))?,
+            None => given(asked, &room, &case, is_pieced.then_some(&mut pieces))?,
+        };
         if let Some(what) = difference(&wanted, &given) {
             let mut differ = differ.lock().expect("no lane panics with the list");
             differ.push(number);
@@ -178,10 +225,10 @@ fn main() {
         }
     });
     let (differ, took) = (differ.into_inner().expect("all lanes ended"), began.elapsed());
-    let each = took.max(Duration::from_millis(1)).as_secs_f64() / asked.count.max(1) as f64;
+    let count = (asked.first..asked.first + asked.count).filter(|number| asked.kinds.has(*number)).count();
+    let each = took.max(Duration::from_millis(1)).as_secs_f64() / count.max(1) as f64;
     println!(
-        "{} cases from {}, seed {}: {} differ; {:.1} s, {:.0} us a case",
-        asked.count,
+        "{count} cases from {}, seed {}: {} differ; {:.1} s, {:.0} us a case",
         asked.first,
         asked.seed,
         differ.len(),

@@ -1,12 +1,17 @@
 //! `path`: the cells of the best path through a sound, the whole sound at once.
 use crate::sound::Slicing;
 
-const JUMP: usize = 3;
+const JUMP: u8 = 3;
 const EARLY: i64 = 1 << 28;
 
+/// How many lengths a cell may have, and how far back a cell of the longest one begins.
+const LENGTHS: usize = 45;
+const LONGEST: usize = 96;
+
 /// The lengths of a cell, in steps.
-fn lengths() -> Vec<usize> {
-    (4..25).chain((26..49).step_by(2)).chain((52..97).step_by(4)).collect()
+fn lengths() -> [usize; LENGTHS] {
+    let all = (4..25).chain((26..49).step_by(2)).chain((52..97).step_by(4));
+    all.collect::<Vec<_>>().try_into().expect("there are so many")
 }
 
 /// How many steps a sample has, and how many samples are summed in one step.
@@ -34,12 +39,13 @@ impl Grid {
 
 /// The sum of the latest 512 sizes divided by their number, at each, with a factor before the division.
 fn latest_means(sizes: &[i64], factor: i64) -> Vec<i64> {
-    (1..=sizes.len())
-        .map(|end| {
-            let latest = &sizes[end.saturating_sub(512)..end];
-            factor * latest.iter().sum::<i64>() / latest.len() as i64
-        })
-        .collect()
+    let mut sum = 0;
+    let mean = |(place, size): (usize, &i64)| {
+        sum += size;
+        sum -= place.checked_sub(512).map_or(0, |before| sizes[before]);
+        factor * sum / (place + 1).min(512) as i64
+    };
+    sizes.iter().enumerate().map(mean).collect()
 }
 
 /// Each sample clipped, and held.
@@ -94,16 +100,19 @@ impl Cell {
 }
 
 /// For each length and sign at its end.
-type Table<T> = Vec<[T; 2]>;
+type Row<T> = [[T; 2]; LENGTHS];
 
 /// The best paths to each step.
 struct Paths {
-    lengths: Vec<usize>,
+    lengths: [usize; LENGTHS],
     /// The held sound so far, summed.
     sums: Vec<i64>,
-    /// By step, and the length and the sign before: the worth of the best that a cell from there can have before it, and how it follows.
-    starts: Vec<Table<(i64, usize)>>,
-    ones: Vec<Table<bool>>,
+    /// Of the latest steps, each in its place, by the length and the sign before: the worth of the best that a cell from
+    /// there can have before it.
+    starts: Vec<Row<i64>>,
+    /// By step, and the length and the sign before: how the cell follows the best before it.
+    ways: Vec<Row<u8>>,
+    ones: Vec<Row<bool>>,
     best: Vec<(i64, usize, usize)>,
 }
 
@@ -113,9 +122,14 @@ impl Paths {
         for sound in held {
             sums.push(sums[sums.len() - 1] + sound);
         }
-        let lengths = lengths();
-        let first = vec![[(0, JUMP); 2]; lengths.len()];
-        let mut paths = Paths { lengths, sums, starts: vec![first], ones: vec![Vec::new()], best: vec![(0, 0, 0)] };
+        let mut paths = Paths {
+            lengths: lengths(),
+            sums,
+            starts: vec![[[0; 2]; LENGTHS]; LONGEST + 1],
+            ways: vec![[[JUMP; 2]; LENGTHS]],
+            ones: vec![[[false; 2]; LENGTHS]],
+            best: vec![(0, 0, 0)],
+        };
         for end in 1..=held.len() {
             paths.step(end, sizes[end - 1]);
         }
@@ -136,46 +150,46 @@ impl Paths {
     }
 
     fn step(&mut self, end: usize, size: i64) {
-        let (mut scores, mut ones): (Table<i64>, Table<bool>) = (Vec::new(), Vec::new());
+        let (mut scores, mut ones): (Row<i64>, Row<bool>) = ([[0; 2]; LENGTHS], [[false; 2]; LENGTHS]);
         let mut best: Option<(i64, usize, usize)> = None;
         for (place, length) in self.lengths.iter().enumerate() {
-            let before = |sign: usize| match end.checked_sub(*length) {
-                Some(first) => self.starts[first][place][sign].0,
-                None => -EARLY,
+            let before = match end.checked_sub(*length) {
+                Some(first) => self.starts[first % (LONGEST + 1)][place],
+                None => [-EARLY; 2],
             };
-            let worth = |is_one| self.worth(end as i64, *length as i64, is_one);
-            let (mut pair, mut kinds) = ([0; 2], [false; 2]);
+            let worth = [false, true].map(|is_one| self.worth(end as i64, *length as i64, is_one));
             for sign in 0..2 {
                 let factor = 1 - 2 * sign as i64;
-                let (zero, one) = (factor * worth(false) + before(1 - sign), factor * worth(true) + before(sign));
-                (pair[sign], kinds[sign]) = (zero.max(one), one > zero);
-                if best.is_none_or(|it| pair[sign] > it.0) {
-                    best = Some((pair[sign], place, sign));
+                let (zero, one) = (factor * worth[0] + before[1 - sign], factor * worth[1] + before[sign]);
+                (scores[place][sign], ones[place][sign]) = (zero.max(one), one > zero);
+                if best.is_none_or(|it| scores[place][sign] > it.0) {
+                    best = Some((scores[place][sign], place, sign));
                 }
             }
-            scores.push(pair);
-            ones.push(kinds);
         }
         let best = best.expect("there are lengths");
-        self.starts.push((0..scores.len()).map(|place| [0, 1].map(|sign| self.way(&scores, best.0, place, sign, size))).collect());
+        let (mut starts, mut ways): (Row<i64>, Row<u8>) = ([[0; 2]; LENGTHS], [[0; 2]; LENGTHS]);
+        for place in 0..LENGTHS {
+            for sign in 0..2 {
+                (starts[place][sign], ways[place][sign]) = self.way(&scores, best.0, place, sign, size);
+            }
+        }
+        self.starts[end % (LONGEST + 1)] = starts;
+        self.ways.push(ways);
         self.ones.push(ones);
         self.best.push(best);
     }
 
     /// The best that a cell of a length can have before it, of a sign: in the same length, behind a shorter one, a
     /// longer one, in a jump.
-    fn way(&self, scores: &Table<i64>, best: i64, place: usize, sign: usize, size: i64) -> (i64, usize) {
+    fn way(&self, scores: &Row<i64>, best: i64, place: usize, sign: usize, size: i64) -> (i64, u8) {
         let length = |place: usize| self.lengths[place] as i64;
         let neighbour = |other: usize| scores[other][sign] - size * (length(other) - length(place)).abs();
-        let mut ways = vec![(scores[place][sign], 0)];
-        if place > 0 {
-            ways.push((neighbour(place - 1), 1));
-        }
-        if place + 1 < scores.len() {
-            ways.push((neighbour(place + 1), 2));
-        }
-        ways.push((best - 3 * length(place) * size, JUMP));
-        ways.into_iter().reduce(|a, b| if b.0 > a.0 { b } else { a }).expect("a jump is one")
+        let shorter = place.checked_sub(1).map(|other| (neighbour(other), 1));
+        let longer = (place + 1 < LENGTHS).then(|| (neighbour(place + 1), 2));
+        let jump = (best - 3 * length(place) * size, JUMP);
+        let others = [shorter, longer, Some(jump)].into_iter().flatten();
+        others.fold((scores[place][sign], 0), |a, b| if b.0 > a.0 { b } else { a })
     }
 
     /// The cells of the best path to a step, in order.
@@ -185,7 +199,7 @@ impl Paths {
             let (length, is_one) = (self.lengths[place], self.ones[end][place][sign]);
             let before = if is_one { sign } else { 1 - sign };
             let first = end.saturating_sub(length);
-            let way = if first > 0 { self.starts[first][place][before].1 } else { JUMP };
+            let way = if first > 0 { self.ways[first][place][before] } else { JUMP };
             cells.push(Cell { end, length, is_one, sign, jumps: way == JUMP });
             (place, sign) = match way {
                 0 => (place, before),

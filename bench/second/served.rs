@@ -43,14 +43,14 @@ fn put_case(seed: u64, number: u64, to: &mut impl Write) -> Result<()> {
     put(&case.input, to)
 }
 
-/// A run: its status, its output and its note.
-fn put_run(words: &[String], input: &[u8], to: &mut impl Write) -> Result<()> {
+/// A run: its status, its output (of a long one the first `most` bytes) and its note.
+fn put_run(words: &[String], input: &[u8], most: usize, to: &mut impl Write) -> Result<()> {
     let (status, output, note) = match catch_unwind(|| words::run(words, input)) {
         Ok(run) => (run.end.status() as u32, run.output, run.end.note()),
         Err(_) => (FAILED, Vec::new(), String::new()),
     };
     to.write_all(&status.to_le_bytes())?;
-    put(&output, to)?;
+    put(&output[..output.len().min(most)], to)?;
     put(note.as_bytes(), to)
 }
 
@@ -59,10 +59,10 @@ pub fn serve() -> Result<()> {
     let (mut from, mut to) = (stdin().lock(), std::io::BufWriter::new(stdout().lock()));
     while let Ok(asked) = number(&mut from) {
         if asked == TOLD {
-            let count = number(&mut from)?;
+            let (most, count) = (number(&mut from)? as usize, number(&mut from)?);
             let words = (0..count).map(|_| Ok(String::from_utf8_lossy(&bytes(&mut from)?).into_owned()));
             let words = words.collect::<Result<Vec<String>>>()?;
-            put_run(&words, &bytes(&mut from)?, &mut to)?;
+            put_run(&words, &bytes(&mut from)?, most, &mut to)?;
         } else {
             put_case(long_number(&mut from)?, long_number(&mut from)?, &mut to)?;
         }

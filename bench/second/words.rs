@@ -121,11 +121,31 @@ pub fn run(words: &[String], input: &[u8]) -> Run {
         "label" => labelled(words),
         "labels" => answered(words, input),
         "version" => Words::of(words, 0, 0).map(|_| Run::text("tc 1.0.0\n".into(), End::Done)),
-        // (what `help` prints is no rule of a format: its cases have words behind it)
-        "help" => Words::of(words, 0, 0).map(|_| Run::text(String::new(), End::Done)),
+        // (what `help` prints is no rule of a format: no case has its words)
+        "help" => asked_of_help(words),
         _ => return fault("command"),
     };
     ran.unwrap_or_else(Run::usage)
+}
+
+/// The words that have a page of their own.
+const PAGES: [&str; 25] = [
+    "ltc-read", "ltc-worn", "ltc-rough", "ltc-fly", "ltc-spans", "ltc-mtc", "ltc-jam", "ltc-chase", "ltc-make",
+    "ltc-convert", "ltc-load", "ltc-pcm", "pcm-ltc", "wav-ltc", "mtc-read", "vitc-read", "vitc-make", "luma-vitc",
+    "chase", "number", "label", "labels", "help", "version", "statuses",
+];
+
+fn asked_of_help(words: &[String]) -> Read<Run> {
+    let mut w = Words::of(words, 0, 1)?;
+    if w.next().is_some() {
+        w.value(|word| PAGES.contains(&word).then_some(()))?;
+    }
+    Ok(Run::text(String::new(), End::Done))
+}
+
+/// Whether a page is printed by these words.
+pub fn is_page(words: &[String]) -> bool {
+    words.first().is_some_and(|word| word == "help") && asked_of_help(words).is_ok()
 }
 
 /// What is heard of a recording.
