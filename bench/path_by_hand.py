@@ -44,7 +44,7 @@ def held_samples(samples, threshold):
     """Each sample clipped, and held."""
     peak, total, side = 0, 0, 0
     for sample, (size, many) in zip(samples, latest_means([abs(sample) for sample in samples])):
-        most = 3 * size // many
+        most = max(size // many, min(3 * size // many, 9 * peak // 8))
         clipped = max(-most, min(most, sample))
         now = abs(clipped)
         peak += -(-(now - peak) // 4) if now > peak else -(-(-peak // 1024))
@@ -204,7 +204,7 @@ def broken(cells, threshold):
             base = high * high // 64 * 64
             breaks = breaks or heard < floor * (before[-1].length + cell.length)
             if usual:
-                breaks = breaks or max(spreads) > usual[0] // 2 * 4 + base or max(outsides) > usual[1] // 2 * 16 + base
+                breaks = breaks or max(spreads) > usual[0] // 2 * 4 + 2 * base or max(outsides) > usual[1] // 2 * 16 + 2 * base
             if not cell.jumps:
                 spread, outside = sum(spreads), sum(outsides)
                 usual = (max(spread, 1), outside) if usual is None else (

@@ -52,8 +52,9 @@ fn latest_means(sizes: &[i64], factor: i64) -> Vec<i64> {
 fn held(samples: &[i64], threshold: i64) -> Vec<(i64, i64)> {
     let sizes: Vec<i64> = samples.iter().map(|s| s.abs()).collect();
     let (mut peak, mut sum, mut side) = (0i64, 0i64, 0i64);
-    let clip = |(sample, most): (&i64, i64)| (*sample).clamp(-most, most);
-    let hold = |clipped: i64| {
+    let clip_and_hold = |((sample, mean), most): ((&i64, i64), i64)| {
+        let most = most.min(9 * peak / 8).max(mean);
+        let clipped = (*sample).clamp(-most, most);
         let size = clipped.abs();
         peak += if size > peak { (size - peak + 3) / 4 } else { -((peak + 1_023) / 1_024) };
         sum += size - sum / 1_024;
@@ -62,7 +63,7 @@ fn held(samples: &[i64], threshold: i64) -> Vec<(i64, i64)> {
         side = if is_far { clipped.signum() } else { side };
         (clipped, clipped + side * (m / 2))
     };
-    samples.iter().zip(latest_means(&sizes, 3)).map(clip).map(hold).collect()
+    samples.iter().zip(latest_means(&sizes, 1)).zip(latest_means(&sizes, 3)).map(clip_and_hold).collect()
 }
 
 /// The sound of each step, and the held sound.
@@ -301,7 +302,7 @@ fn breaks(cells: &[Measured], place: usize, slow: i64, usual: &mut Usual, thresh
     let (one, two) = (it.first.fit(length, low, high), it.second.fit(length, low, high));
     let base = high * high / 64 * 64;
     let is_odd = usual.is_some_and(|(spread, outside)| {
-        one.0.max(two.0) > 4 * (spread / 2) + base || one.1.max(two.1) > 16 * (outside / 2) + base
+        one.0.max(two.0) > 4 * (spread / 2) + 2 * base || one.1.max(two.1) > 16 * (outside / 2) + 2 * base
     });
     if !it.cell.jumps {
         let (spread, outside) = (one.0 + two.0, one.1 + two.1);

@@ -89,6 +89,13 @@ pub record IsBestStart (ends : Numbers) (best : ℤ) (level place : ℕ) (sign :
       → IsBeginning LENGTHS (step ∷ before) 0 place sign start.number start.way
   pub size : (most : ℕ) → AreWithin most ends → IsWithin most best → IsWithin (most + 3 * 2 ^ 22) start.number
 
+-- before the first length
+pub no_starts : (ends : Numbers) (best : ℤ) (level : ℕ) (so_far : Starts) → StartsSoFar ends best level 0 so_far
+no_starts ends best level so_far = record {
+  starts = λ step before pb sb level_is ends_are best_is place sign none. absurd (omega arith);
+  size = λ bound within best_within place sign none. absurd (omega arith);
+}
+
 -- a length more of starts
 pub one_more_start : (ends : Numbers) (best : ℤ) (level n : ℕ) (old new : Starts) (plus minus : Start)
     → StartsSoFar ends best level n old

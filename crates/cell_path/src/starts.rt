@@ -67,10 +67,17 @@ pub(crate) fn best_starts(ends: &Numbers, best: i64, level: u32) -> Starts
             minus: [Way::Same; PLACES],
         },
     };
-    for place in 0..PLACES {
+    // The shortest and the longest stand apart, so that no length between them is asked whether it has both neighbours.
+    let least_plus = best_start(ends, best, level, 0, Sign::Plus);
+    let least_minus = best_start(ends, best, level, 0, Sign::Minus);
+    starts.put(0, least_plus, least_minus);
+    for place in 1..PLACES - 1 {
         let plus = best_start(ends, best, level, place, Sign::Plus);
         let minus = best_start(ends, best, level, place, Sign::Minus);
         starts.put(place, plus, minus);
     }
+    let most_plus = best_start(ends, best, level, PLACES - 1, Sign::Plus);
+    let most_minus = best_start(ends, best, level, PLACES - 1, Sign::Minus);
+    starts.put(PLACES - 1, most_plus, most_minus);
     starts
 }

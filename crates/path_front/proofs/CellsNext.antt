@@ -16,7 +16,7 @@ use Rattle.step_grid.specs.declared.grid.Grid.{Grid}
 use Rattle.step_grid.specs.declared.grid.Grid.TheVariants.{Repeat, Sum}
 use Rattle.path_front.specs.Clip.{clip_at, clipped, clipped_to}
 use Rattle.path_front.specs.Grid.{due, on_grid}
-use Rattle.path_front.specs.Hold.{held_at}
+use Rattle.path_front.specs.Hold.{held_at, loudness_of}
 use Rattle.path_front.specs.Steps.{sounds_of, with_held}
 use Rattle.path_front.specs.Cells.{cell_behind, measured_cells, plain, EndWithin}
 use Rattle.path_front.specs.Latest.{part, squares_of, sum_of}
@@ -103,20 +103,15 @@ last_is (placed ∷ before) = refl
 pub sounds_more : (grid : Grid) (least : ℕ) (sample : ℤ) (samples : List ℤ)
     → (extra : List Sounds) × (sounds_of grid least (sample ∷ samples) ≡ extra ++ sounds_of grid least samples)
 unfolding clipped with_held on_grid
-sounds_more (Repeat repeats) least sample samples = (
-  replicate repeats (record {
-    clipped = clipped_to (clip_at (sample ∷ samples)) sample;
-    held = held_at least (clipped_to (clip_at (sample ∷ samples)) sample ∷ clipped samples);
-  }),
-  refl,
-)
-sounds_more (Sum summed) least sample samples = (
-  option_to_list (due summed (record {
-    clipped = clipped_to (clip_at (sample ∷ samples)) sample;
-    held = held_at least (clipped_to (clip_at (sample ∷ samples)) sample ∷ clipped samples);
-  } ∷ with_held least (clipped samples))),
-  refl,
-)
+sounds_more (Repeat repeats) least sample samples =
+    let now = clipped_to (clip_at (loudness_of (clipped samples)).peak (sample ∷ samples)) sample in
+    (replicate repeats (record { clipped = now; held = held_at least (now ∷ clipped samples) }), refl)
+sounds_more (Sum summed) least sample samples =
+    let now = clipped_to (clip_at (loudness_of (clipped samples)).peak (sample ∷ samples)) sample in (
+      option_to_list (due summed (record { clipped = now; held = held_at least (now ∷ clipped samples) }
+          ∷ with_held least (clipped samples))),
+      refl,
+    )
 
 -- and changes no cell that was given
 pub cells_stay : (all now sounds front extra : List Sounds) (given : List Placed) → front ++ sounds ≡ all

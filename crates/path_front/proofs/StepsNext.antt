@@ -7,7 +7,8 @@ use Rattle.step_grid.specs.declared.grid.Grid.TheVariants.{Repeat, Sum}
 use Rattle.path_front.specs.declared.group.Sounds.{Sounds}
 use Rattle.path_front.specs.Clip.{clip_at, clipped, clipped_to, sizes_of}
 use Rattle.path_front.specs.Grid.{due, on_grid, GroupState, GroupStandsFor}
-use Rattle.path_front.specs.Hold.{held_at, HoldState, HoldStandsFor}
+use Rattle.path_front.specs.declared.hold.Loudness.{Loudness}
+use Rattle.path_front.specs.Hold.{held_at, loudness_of, HoldState, HoldStandsFor}
 use Rattle.path_front.specs.KeptSizes.{SizesState, SizesStandFor}
 use Rattle.path_front.specs.Steps.{with_held, GroupStands, StepsState, StepsStandFor}
 
@@ -48,7 +49,7 @@ pub fed : (grid : Grid) (state : StepsState) (clip : SizesState) (hold : HoldSta
     (latest now : Sounds) (sample : ℤ) (samples : List ℤ) (given : List Sounds)
     → state.grid ≡ grid → state.left ≡ 0 → StepsStandFor state samples given
     → SizesStandFor clip (sizes_of (sample ∷ samples)) → hold.least ≡ state.hold.least
-    → now.clipped ≡ clipped_to (clip_at (sample ∷ samples)) sample
+    → now.clipped ≡ clipped_to (clip_at state.hold.loudness.peak (sample ∷ samples)) sample
     → ((before : List ℤ) → HoldStandsFor state.hold before → HoldStandsFor hold (now.clipped ∷ before))
     → ((before : List ℤ) → HoldStandsFor state.hold before → now.held ≡ held_at state.hold.least (now.clipped ∷ before))
     → ((before : List Sounds) → GroupStands grid state.group before → GroupStands grid group (now ∷ before))
@@ -64,8 +65,11 @@ pub fed : (grid : Grid) (state : StepsState) (clip : SizesState) (hold : HoldSta
       levels = state.levels;
     }) (sample ∷ samples) given
 unfolding clipped with_held
-fed grid state clip hold group left latest now sample samples given grid_is none stand clips least clip_is holds
+fed grid state clip hold group left latest now sample samples given grid_is none stand clips least clip_at_peak holds
     held_is groups brings =
+    let clip_is : now.clipped
+    ≡ clipped_to (clip_at (loudness_of (clipped samples)).peak (sample ∷ samples)) sample =
+    clip_at_peak ∙ ap (λ (l : Loudness). clipped_to (clip_at l.peak (sample ∷ samples)) sample) stand.hold.loudness in
     let before = with_held state.hold.least (clipped samples) in
     let grouped : GroupStands grid state.group before =
     subst (λ g. GroupStands g state.group before) grid_is stand.group in

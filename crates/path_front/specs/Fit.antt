@@ -37,12 +37,12 @@ fit_of range cell =
 abbrev pub square_of : Range → ℕ
 square_of range = range.most * range.most / FINE * FINE
 
--- a half has more than four times the usual spread and the square of the level, or lies further outside than four times
--- what is usual and the level, in squares. What is usual is kept for both halves together.
+-- a half has more than twice the usual spread and twice the square of the level, or the square of how far it lies
+-- outside is more than eight times what is usual and that. What is usual is kept for both halves together.
 abbrev pub is_misfit : Usual → Range → Fit → Bool
 is_misfit usual range fit =
-    ltb (usual.spread / 2 * 4 + square_of range) (max fit.first.spread fit.second.spread)
-    || ltb (usual.outside / 2 * 16 + square_of range) (max fit.first.outside fit.second.outside)
+    ltb (usual.spread / 2 * 4 + 2 * square_of range) (max fit.first.spread fit.second.spread)
+    || ltb (usual.outside / 2 * 16 + 2 * square_of range) (max fit.first.outside fit.second.outside)
 
 -- slow means, which no cell moves towards more than four times what is usual, or twice the level
 abbrev pub moved : Usual → Range → Fit → Usual

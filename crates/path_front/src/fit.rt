@@ -106,7 +106,7 @@ impl Usual {
         let level = range.most * range.most / FINE * FINE;
         let spread = fit.first.spread.max(fit.second.spread);
         let outside = fit.first.outside.max(fit.second.outside);
-        self.spread / 2 * 4 + level < spread || self.outside / 2 * 16 + level < outside
+        self.spread / 2 * 4 + 2 * level < spread || self.outside / 2 * 16 + 2 * level < outside
     }
 
     /// What is usual after one more cell.

@@ -122,6 +122,14 @@ impl Hold {
         }
     }
 
+    /// How high the peak is.
+    pub(crate) fn peak(&self) -> u32
+        ensures value { result ≡ self.now.loudness.peak }
+        ensures most { result ≤ 2 ^ 15 }
+    {
+        self.loudness.peak
+    }
+
     /// Takes the next sample, and holds it: half of the mean size comes to it, on the side of the sound.
     pub(crate) fn hold(&mut self, sample: i32) -> i32
         requires sample { unsigned_abs sample ≤ 2 ^ 15 }

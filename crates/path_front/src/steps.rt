@@ -96,7 +96,7 @@ impl Steps {
         ensures steps { self.new.levels.count ≡ self.old.levels.count }
         ensures left { self.new.left ≤ 8 }
     {
-        let clipped = clip(&mut self.clip, sample);
+        let clipped = clip(&mut self.clip, self.hold.peak(), sample);
         let held = self.hold.hold(clipped);
         let sounds = Sounds { clipped, held };
         match self.grid {

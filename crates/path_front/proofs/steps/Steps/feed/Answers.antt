@@ -2,6 +2,7 @@ use Rattle.std.proofs.Common.{rules, ◌≡◌, ◌∷◌, FitsSigned, to_z-of_z
 use Rattle.std.specs.Int.{w16, w32}
 use Rattle.step_grid.specs.declared.grid.Grid.TheVariants.{Repeat, Sum}
 use Rattle.path_front.specs.declared.group.Sounds.{Sounds}
+use Rattle.path_front.specs.Clip.{clip_at, clipped_to}
 use Rattle.path_front.specs.Steps.{StepsState, StepsStandFor}
 use Rattle.path_front.proofs.StepsNext.{brings_mean, brings_none, brings_repeats, fed}
 use Rattle.path_front.proofs.steps.Steps.feed.Goals as goal
@@ -27,7 +28,8 @@ returns-in-Repeat-clause-stands c = λ samples given stand_now.
     let held = rw (to_z-of_z a) at c.hold-held.ensures.value in
     let x : FitsSigned w16 c.args.sample = search rules in
     let clips = (rw (to_z-of_z x) at c.clip-clipped.ensures.stands) samples stand.clip in
-    let clip = (rw (to_z-of_z x) at c.clip-clipped.ensures.value) samples stand.clip in
+    let clip = (rw (to_z-of_z x) at c.clip-clipped.ensures.value) samples stand.clip
+    ∙ ap (λ p. clipped_to (clip_at p (c.args.sample ∷ samples)) c.args.sample) c.peak.ensures.value in
     rw (to_z-of_z a, to_z-of_z b)
     (subst (λ g. StepsStandFor (record {
       grid = g;
@@ -64,7 +66,8 @@ returns-in-Some-clause-stands c = λ samples given stand_now.
     let held = rw (to_z-of_z a) at c.hold-held.ensures.value in
     let x : FitsSigned w16 c.args.sample = search rules in
     let clips = (rw (to_z-of_z x) at c.clip-clipped.ensures.stands) samples stand.clip in
-    let clip = (rw (to_z-of_z x) at c.clip-clipped.ensures.value) samples stand.clip in
+    let clip = (rw (to_z-of_z x) at c.clip-clipped.ensures.value) samples stand.clip
+    ∙ ap (λ p. clipped_to (clip_at p (c.args.sample ∷ samples)) c.args.sample) c.peak.ensures.value in
     let due_is = rw (to_z-of_z a, to_z-of_z b) at c.in-Some.ensures.due in
     let stands = rw (to_z-of_z a, to_z-of_z b) at c.add.ensures.stands in
     subst (λ g. StepsStandFor (record {
@@ -101,7 +104,8 @@ returns-in_default-clause-stands c = λ samples given stand_now.
     let held = rw (to_z-of_z a) at c.hold-held.ensures.value in
     let x : FitsSigned w16 c.args.sample = search rules in
     let clips = (rw (to_z-of_z x) at c.clip-clipped.ensures.stands) samples stand.clip in
-    let clip = (rw (to_z-of_z x) at c.clip-clipped.ensures.value) samples stand.clip in
+    let clip = (rw (to_z-of_z x) at c.clip-clipped.ensures.value) samples stand.clip
+    ∙ ap (λ p. clipped_to (clip_at p (c.args.sample ∷ samples)) c.args.sample) c.peak.ensures.value in
     let due_is = rw (to_z-of_z a, to_z-of_z b) at c.add.ensures.due in
     let stands = rw (to_z-of_z a, to_z-of_z b) at c.add.ensures.stands in
     subst (λ n. StepsStandFor (record {
