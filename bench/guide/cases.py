@@ -11,7 +11,7 @@ from .runs import FAULTS
 MOST_INPUT = 1 << 16
 MOST_WITH_FAULTS = 6
 FIRST_FAULTS = [(fault, number) for fault in ("read-fails", "write-fails") for number in (0, 1, 2, 5)]
-FIRST_FAULTS += [("read-pieces", 3), ("write-pieces", 2), ("no-memory", 0)]
+FIRST_FAULTS += [("read-pieces", 3), ("write-pieces", 2), ("no-memory", 0), ("note-fails", 0)]
 
 
 class Case(NamedTuple):

@@ -136,7 +136,8 @@ def changed_bytes(data, other, draws):
 
 def fault(draws):
     """How the system calls of a run fail: mostly not at all."""
-    kind = draws.choice(("read-pieces", "read-pieces", "read-fails", "write-fails", "write-pieces", "no-memory"))
+    kinds = ("read-pieces", "read-pieces", "read-fails", "write-fails", "write-pieces", "no-memory", "note-fails")
+    kind = draws.choice(kinds)
     most = draws.choice((2, 6, 30, 200))
     return kind, draws.randrange(10000) if kind.endswith("pieces") else draws.randrange(most)
 

@@ -38,7 +38,8 @@ def complaint(case, ended, most_output):
     """What is wrong with the end of a run whatever its command, or nothing."""
     if ended.how != EXITED:
         return f"signal {ended.code}" if ended.how == KILLED else "it did not end in time"
-    if ended.code not in NOTES or not re.fullmatch(NOTES[ended.code], ended.note):
+    note = rb"" if is_noteless(case, ended) else NOTES.get(ended.code)
+    if note is None or not re.fullmatch(note, ended.note):
         return f"status {ended.code}, note {ended.note[:200]!r}"
     is_full = len(ended.output) >= most_output
     # (the words are copied before they are judged, and there may be no memory for that)
@@ -64,15 +65,22 @@ def is_cut(case, ended):
     return ended.is_faulted and case.fault in ("read-fails", "write-fails")
 
 
+def is_noteless(case, ended):
+    """Whether the write of the note failed, which changes neither output nor status."""
+    return ended.is_faulted and case.fault == "note-fails"
+
+
 def front(ended, whole):
     """What is wrong with what was written before a fault, or nothing. Of an output that is full the front is known."""
     is_front = whole.output.startswith(ended.output)
     return None if is_front else "what was written before the fault is no front of the whole"
 
 
-def difference(ended, wanted):
+def difference(case, ended, wanted):
     """What differs from the second reading, or nothing."""
     status, output, note = wanted
+    if is_noteless(case, ended):
+        note = b""
     if status == FAILED:
         return "the second reading panicked"
     if ended.code != status:

@@ -38,7 +38,7 @@
 #include <unistd.h>
 
 enum { EXITED, KILLED, TOO_LONG };
-enum { NO_FAULT, READ_PIECES, READ_FAILS, WRITE_FAILS, WRITE_PIECES, NO_MEMORY };
+enum { NO_FAULT, READ_PIECES, READ_FAILS, WRITE_FAILS, WRITE_PIECES, NO_MEMORY, NOTE_FAILS };
 enum { INT3 = 0xcc, WALL_SECONDS = 600, STOPS = 6, PAGE = 4096 };
 
 // A block, or a conditional jump.
@@ -111,6 +111,10 @@ ssize_t write(int file, const void *bytes, size_t size)
 {
     if (file == 1 && is_refused(WRITE_FAILS)) {
         errno = ENOSPC;
+        return -1;
+    }
+    if (file == 2 && is_refused(NOTE_FAILS)) {
+        errno = EBADF;
         return -1;
     }
     if (is_run && file == 1 && fault == WRITE_PIECES)

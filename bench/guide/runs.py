@@ -8,7 +8,7 @@ HERE = os.path.dirname(os.path.abspath(__file__))
 EXITED, KILLED, TOO_LONG = range(3)
 MOST_WORDS = 400
 # how calls of the program may be made to fail: these are those of `runs.c`, in its order
-FAULTS = ("none", "read-pieces", "read-fails", "write-fails", "write-pieces", "no-memory")
+FAULTS = ("none", "read-pieces", "read-fails", "write-fails", "write-pieces", "no-memory", "note-fails")
 
 
 class Ended(NamedTuple):

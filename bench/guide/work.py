@@ -116,7 +116,7 @@ class Job:
         if wanted is None:
             return None
         self.counts.compared += 1
-        return judge.difference(ended, wanted)
+        return judge.difference(case, ended, wanted)
 
     def work(self, cases, is_over, only_these=False):
         """Runs these cases, and then what it draws, until it is over."""

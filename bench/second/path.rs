@@ -108,8 +108,8 @@ struct Paths {
     lengths: [usize; LENGTHS],
     /// The held sound so far, summed.
     sums: Vec<i64>,
-    /// Of the latest steps, each in its place, by the length and the sign before: the worth of the best that a cell from
-    /// there can have before it.
+    /// Of the latest steps, by the length and the sign before: the worth of the best that a cell from there can have
+    /// before it. The steps stand in a ring.
     starts: Vec<Row<i64>>,
     /// By step, and the length and the sign before: how the cell follows the best before it.
     ways: Vec<Row<u8>>,
