@@ -10,18 +10,29 @@
  * behind the sample that brings some. */
 enum { FINENESS = 16, PIECE = 1024, ROOM = 2 };
 
+/* Three readers take each sample, and a word is told by the first that has it. One reads the samples, at any speed. The
+ * others read sums of the latest five and seven, in which hiss weighs less, at up to twice the speed. They go on in
+ * turn by STEP samples, in which there is hardly more than a word. */
+enum { READERS = 3, STEP = 256 };
+
 struct LTCDecoder {
-    tc_reader reader;
-    LTCFrameExt *queue; /* a ring of `size`, the oldest at head */
+    tc_reader readers[READERS];
+    uint64_t began[READERS]; /* how many samples the decoder had taken when a reader was started */
+    LTCFrameExt *queue;      /* a ring of `size`, the oldest at head */
     size_t size, head, count;
-    ltc_off_t taken; /* the samples that the reader took */
-    short low, high; /* of the samples since the word before */
+    uint64_t taken;          /* samples */
+    uint64_t told;           /* where the latest word ended, in ticks since the first sample */
+    short low, high;         /* of the samples since the word before */
 };
 
 /* Each system's words are read as those of 30 frames: the fields lie alike in all of them, and the bits come back as
- * they were. The threshold follows the level at a quarter of it, which reads dull sound too, down to 60 dB below full
+ * they were. The thresholds follow the level at a quarter of it, which reads dull sound too, down to 60 dB below full
  * scale. */
-static const tc_settings settings = {30, 2, 2, 32, FINENESS, 1, 0};
+static const tc_settings settings[READERS] = {
+    {30, 2, 2, 32, FINENESS, 1, 0},
+    {30, 2, 2, 32 * 5, FINENESS, 5, 0},
+    {30, 2, 2, 32 * 7, FINENESS, 7, 0},
+};
 
 static void forget_levels(LTCDecoder *d) {
     d->low = SHRT_MAX;
@@ -38,9 +49,15 @@ LTCDecoder *ltc_decoder_create(int apv, int queue_size) {
     memset(d, 0, sizeof *d);
     d->size = queue_size < 1 ? 1 : (size_t)queue_size;
     d->queue = calloc(d->size, sizeof *d->queue);
-    if (d->queue == NULL || !tc_reader_init(&d->reader, &settings)) {
+    if (d->queue == NULL) {
         ltc_decoder_free(d);
         return NULL;
+    }
+    for (int which = 0; which < READERS; which++) {
+        if (!tc_reader_init(&d->readers[which], &settings[which])) {
+            ltc_decoder_free(d);
+            return NULL;
+        }
     }
     forget_levels(d);
     return d;
@@ -80,9 +97,18 @@ static void set_bits(LTCFrame *frame, const tc_event *event) {
 
 static ltcsnd_sample_t eight_bits(short sample) { return (ltcsnd_sample_t)((sample + 32768) >> 8); }
 
-/* Puts a word into the queue. Where it is full the oldest word goes. */
-static void put(LTCDecoder *d, const tc_event *event, ltc_off_t first) {
+/* Puts a word into the queue, if it is not told yet: the middle of one that another reader had lies before the end of
+ * the word that was told. Where the queue is full the oldest word goes. A sum of samples is late by half of them. first
+ * is where the decoder's first sample lies. */
+static void put(LTCDecoder *d, const tc_event *event, int which, ltc_off_t first) {
     LTCFrameExt *frame = &d->queue[(d->head + d->count) % d->size];
+    uint64_t late = FINENESS * (settings[which].smooth - 1) / 2;
+    uint64_t end = d->began[which] * FINENESS + event->tick - (event->tick < late ? event->tick : late);
+    uint64_t begin = end < event->length ? 0 : end - event->length;
+    if (end - event->length / 2 < d->told) {
+        return;
+    }
+    d->told = end;
     if (d->count == d->size) {
         d->head = (d->head + 1) % d->size;
     } else {
@@ -90,8 +116,8 @@ static void put(LTCDecoder *d, const tc_event *event, ltc_off_t first) {
     }
     memset(frame, 0, sizeof *frame);
     set_bits(&frame->ltc, event);
-    frame->off_end = first + (ltc_off_t)(event->tick / FINENESS) - 1; /* the next word begins behind it */
-    frame->off_start = first + (ltc_off_t)((event->tick - event->length) / FINENESS);
+    frame->off_end = first + (ltc_off_t)(end / FINENESS) - 1; /* the next word begins behind it */
+    frame->off_start = first + (ltc_off_t)(begin / FINENESS);
     frame->reverse = event->direction == TC_BACKWARD ? (int)(event->length / FINENESS) : 0;
     for (int bit = 0; bit < LTC_FRAME_BIT_COUNT; bit++) {
         frame->biphase_tics[bit] = (float)(frame->off_end - frame->off_start + 1) / LTC_FRAME_BIT_COUNT;
@@ -102,30 +128,57 @@ static void put(LTCDecoder *d, const tc_event *event, ltc_off_t first) {
     forget_levels(d);
 }
 
-/* Reads 16-bit samples, of which the first lies at posinfo. */
+/* Gives a reader samples, of which the first is the decoder's sample number `place`, up to one that brings a word: how
+ * many. The word is in *word, whose kind is TC_WORD then. */
+static size_t take(LTCDecoder *d, int which, const short *samples, size_t count, uint64_t place, tc_event *word) {
+    size_t at = 0;
+    word->kind = 0;
+    while (at < count && word->kind != TC_WORD) {
+        tc_event events[ROOM];
+        tc_taken taken = tc_reader_write_s16(&d->readers[which], samples + at, count - at, events, ROOM);
+        at += taken.used;
+        for (size_t i = 0; i < taken.made && word->kind != TC_WORD; i++) {
+            *word = events[i];
+        }
+        if (taken.full) { /* after more than two days of code: the word that runs is lost */
+            tc_reader_start(&d->readers[which], &settings[which]);
+            d->began[which] = place + at;
+        }
+    }
+    return at;
+}
+
+static void hear_levels(LTCDecoder *d, const short *samples, size_t count) {
+    for (size_t i = 0; i < count; i++) {
+        d->low = samples[i] < d->low ? samples[i] : d->low;
+        d->high = samples[i] > d->high ? samples[i] : d->high;
+    }
+}
+
+/* Reads 16-bit samples, of which the first lies at posinfo: up to each word of the first reader, and then the same
+ * samples by the others. */
 void ltc_decoder_write_s16(LTCDecoder *d, short *buf, size_t size, ltc_off_t posinfo) {
     if (d == NULL || buf == NULL) {
         return;
     }
+    ltc_off_t first = posinfo - (ltc_off_t)d->taken; /* where the decoder's first sample lies */
     for (size_t at = 0; at < size;) {
-        tc_event events[ROOM];
-        ltc_off_t first = posinfo + (ltc_off_t)at - d->taken; /* where the reader's first sample lies */
-        tc_taken taken = tc_reader_write_s16(&d->reader, buf + at, size - at, events, ROOM);
-        for (size_t i = at; i < at + taken.used; i++) {
-            d->low = buf[i] < d->low ? buf[i] : d->low;
-            d->high = buf[i] > d->high ? buf[i] : d->high;
-        }
-        for (size_t i = 0; i < taken.made; i++) {
-            if (events[i].kind == TC_WORD) {
-                put(d, &events[i], first);
+        tc_event word, summed;
+        size_t count = take(d, 0, buf + at, size - at < STEP ? size - at : STEP, d->taken, &word);
+        hear_levels(d, buf + at, count);
+        for (int which = 1; which < READERS; which++) {
+            for (size_t done = 0; done < count;) {
+                done += take(d, which, buf + at + done, count - done, d->taken + done, &summed);
+                if (summed.kind == TC_WORD) {
+                    put(d, &summed, which, first);
+                }
             }
         }
-        at += taken.used;
-        d->taken += (ltc_off_t)taken.used;
-        if (taken.full) { /* after more than two days of code: the word that runs is lost */
-            tc_reader_start(&d->reader, &settings);
-            d->taken = 0;
+        if (word.kind == TC_WORD) {
+            put(d, &word, 0, first);
         }
+        at += count;
+        d->taken += count;
     }
 }
 
