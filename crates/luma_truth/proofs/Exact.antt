@@ -73,10 +73,12 @@ rounded_is_exact drawing fits is =
       of_row = subst (λ (n : ℕ). FitsARow drawing n) (sym long) fits;
       least = λ pixel h.
           let value = pixel_is drawing 1440 pixel (omega (arith, h, long)) in
-          let same = rounds_to_itself drawing.dark drawing.swing (pixel_light drawing pixel) (is_whole drawing pixel is) in
+          let same = rounds_to_itself drawing.dark drawing.swing (pixel_light drawing pixel)
+          (is_whole drawing pixel is) in
           omega (arith, value, same);
       most = λ pixel h.
           let value = pixel_is drawing 1440 pixel (omega (arith, h, long)) in
-          let same = rounds_to_itself drawing.dark drawing.swing (pixel_light drawing pixel) (is_whole drawing pixel is) in
+          let same = rounds_to_itself drawing.dark drawing.swing (pixel_light drawing pixel)
+          (is_whole drawing pixel is) in
           omega (arith, value, same);
     }

@@ -34,7 +34,8 @@ fall_at_begin word dark swing twos end row is before k o place r behind a b few 
     let zero_is = is.ones 0 (omega arith) in
     let one = is.front before k (before + k) refl (omega (arith, a)) in
     let two = is.most (before + k) o place b (omega (arith, c)) in
-    let three = is.bright 0 place 100 (place + 100) (omega arith) zero_is refl (omega (arith, a, b)) (omega (arith, a, b)) in
+    let three = is.bright 0 place 100 (place + 100) (omega arith) zero_is refl (omega (arith, a, b))
+    (omega (arith, a, b)) in
     let four = is.least (place + 100) r behind c within in
     let darker = mul-le-mul_left dark less in
     let lighter = mul-le-mul_left swing few in

@@ -1,5 +1,5 @@
--- A drawing on whole pixels is found: the search of whole pixels comes out a quarter of a pixel beside it, each move keeps
--- near it, and no earlier place is taken. There the cores lie in their cells, so the row says the word.
+-- A drawing on whole pixels is found: the search of whole pixels comes out a quarter of a pixel beside it, each move
+-- keeps near it, and no earlier place is taken. There the cores lie in their cells, so the row says the word.
 use Rattle.std.proofs.Common.{◌≡◌, ℕ, ◌+◌, ◌-◌, ◌*◌, ◌/◌, ◌<◌, ◌≤◌, ◌⊎◌, inl, inr, true, List, length}
 use Rattle.std.proofs.Common.{◌∷◌, ◌++◌, ap, subst, sym, arith}
 use Rattle.std.proofs.Math.Nat.{mul-le-mul_left}
@@ -41,7 +41,8 @@ unfolding fall
 fall_beside word dark swing twos end row is pair h before place behind a b c =
     let end_is = is.within in
     let true_end = end + 2400 * pair in
-    let one = is.bright (10 * pair) before 236 true_end (omega arith) (is.ones pair h) a (omega (arith, a)) (omega arith) in
+    let one = is.bright (10 * pair) before 236 true_end (omega arith) (is.ones pair h) a (omega (arith, a))
+    (omega arith) in
     let two = is.least true_end 4 place (omega (arith, b)) (omega (arith, b, end_is)) in
     let three = is.dim (10 * pair + 1) place 236 (true_end + 240) (omega arith) (is.zeros pair h) (omega (arith, b))
     (omega (arith, b)) (omega arith) in
@@ -70,7 +71,12 @@ coarse_kept word dark swing twos end row is =
     let sum = sum_from 9 (EVEN + 232 * swing) (pair_fall row (coarse_at end))
     (pair_beside word dark swing twos end row is) in
     record {
-      close = record { first_below = omega arith; first_above = omega arith; last_below = omega arith; last_above = omega arith };
+      close = record {
+        first_below = omega arith;
+        first_above = omega arith;
+        last_below = omega arith;
+        last_above = omega arith;
+      };
       front = omega (arith, end_is);
       falls = omega (arith, sum);
     }
@@ -160,7 +166,8 @@ lies_near word dark swing twos end row is =
     let few : 2 * grain (length row) ≤ 64 = omega (arith, long) in
     let found = refines_kept word dark swing twos end row (2 * grain (length row)) 8 (coarse_at end) is few
     (coarse_kept word dark swing twos end row is) in
-    let first = none_before row found.0 8 (λ cells h. not_nearly word dark swing twos end row found.0 is found.2 cells) in
+    let first = none_before row found.0 8
+    (λ cells h. not_nearly word dark swing twos end row found.0 is found.2 cells) in
     record {
       place = found.0;
       lies = record {

@@ -1,5 +1,5 @@
--- A place that is near the true one stays near it in each move: a move goes no further than four pixels, and only to where
--- all falls no less.
+-- A place that is near the true one stays near it in each move: a move goes no further than four pixels, and only to
+-- where all falls no less.
 use Rattle.std.proofs.Common.{◌≡◌, ℕ, zero, suc, ◌+◌, ◌*◌, ◌/◌, ◌%◌, ◌<◌, ◌≤◌, ◌⊎◌, inl, inr, true, List, length}
 use Rattle.std.proofs.Common.{refl, sym, subst, arith}
 use Rattle.std.proofs.lemmas.Bool.Decides.{nat_tests}

@@ -1,5 +1,5 @@
--- A sync pair that is looked for a little beside its place falls less, by the swing of each sixteenth that it is beside.
--- So a place whose nine falls are nearly the most is near the true one.
+-- A sync pair that is looked for a little beside its place falls less, by the swing of each sixteenth that it is
+-- beside. So a place whose nine falls are nearly the most is near the true one.
 use Rattle.std.proofs.Common.{◌≡◌, ℕ, ◌+◌, ◌-◌, ◌*◌, ◌/◌, ◌<◌, ◌≤◌, ◌⊎◌, inl, inr, List, refl, arith}
 use Rattle.std.proofs.Math.Nat.{mul-le-mul_left}
 use Rattle.luma_row.specs.declared.light.TheConstants.{EVEN}

@@ -267,7 +267,8 @@ narrower_falls_less word dark swing twos end row is wide early narrow h =
     let apart = distance (length row) wide in
     let first = start (length row) early in
     let last = last_in_row row wide early is.long (omega (arith, narrow)) h in
-    let cases : (sum_at row apart early < 9 * (EVEN + 240 * swing)) ⊎ (9 * (EVEN + 240 * swing) ≤ sum_at row apart early)
+    let cases : (sum_at row apart early < 9 * (EVEN + 240 * swing))
+    ⊎ (9 * (EVEN + 240 * swing) ≤ sum_at row apart early)
     = grind arith in
     elim cases [
       | inl less ↦ less
@@ -287,7 +288,8 @@ earlier_falls_less word dark swing twos end row is early before h =
     let apart = distance (length row) 15 in
     let first = start (length row) early in
     let last = last_in_row row 15 early is.long (omega arith) h in
-    let cases : (sum_at row apart early < 9 * (EVEN + 240 * swing)) ⊎ (9 * (EVEN + 240 * swing) ≤ sum_at row apart early)
+    let cases : (sum_at row apart early < 9 * (EVEN + 240 * swing))
+    ⊎ (9 * (EVEN + 240 * swing) ≤ sum_at row apart early)
     = grind arith in
     elim cases [
       | inl less ↦ less
@@ -329,7 +331,8 @@ true_sum word dark swing twos end row is =
     let there = true_pixel twos end apart first pair is.end_is (distance_is (length row) 15 is.long)
     (start_is (length row) (twos + 1) is.long) in
     let full = true_fall word dark swing twos end row is pair h in
-    let moved = subst (λ (place : ℕ). EVEN + 240 * swing ≤ fall row (place - 240) place (place + 240)) (sym there) full in
+    let moved = subst (λ (place : ℕ). EVEN + 240 * swing ≤ fall row (place - 240) place (place + 240)) (sym there)
+    full in
     omega (arith, same, moved))
 
 -- it is one of those that are looked at

@@ -1,5 +1,6 @@
 -- The worked row of 720 pixels is found, by counting: all sums that the search of whole pixels looks at, and each move.
-use Rattle.std.proofs.Common.{◌≡◌, ℕ, zero, suc, ◌+◌, ◌-◌, ◌*◌, ◌/◌, ◌<◌, ◌≤◌, ◌==◌, Bool, true, false, not, ◌&&◌, leb, ltb}
+use Rattle.std.proofs.Common.{◌≡◌, ℕ, zero, suc, ◌+◌, ◌-◌, ◌*◌, ◌/◌, ◌<◌, ◌≤◌, ◌==◌, Bool, true, false, not, ◌&&◌}
+use Rattle.std.proofs.Common.{leb, ltb}
 use Rattle.std.proofs.Common.{◌⊎◌, inl, inr, List, length, get_or, refl, ap, sym, subst, ◌∙◌, arith}
 use Rattle.std.proofs.Math.Nat.{mul-le-mul_left}
 use Rattle.std.proofs.lemmas.Bool.Decides.{nat_tests}
@@ -90,8 +91,8 @@ told wide early few h =
     let s = starts_are (distance (length ten_hours_row) wide) in
     let d = distance_is wide in
     let f = start_is early in
-    let last = looked_at_in_row wide early (distance (length ten_hours_row) wide) (start (length ten_hours_row) early) few d
-    f (omega (arith, s)) in
+    let last = looked_at_in_row wide early (distance (length ten_hours_row) wide)
+    (start (length ten_hours_row) early) few d f (omega (arith, s)) in
     sum_is (distance (length ten_hours_row) wide) (start (length ten_hours_row) early) last
     ∙ (ap (λ (a : ℕ). sum_of 9 (told_fall a (start (length ten_hours_row) early))) d
     ∙ ap (λ (a : ℕ). sum_of 9 (told_fall (9120 + 32 * wide) a)) f)
@@ -334,12 +335,17 @@ none_of_six step top at is same =
     still step 0 6 at at refl
     (subst (λ (to : Place). Moves ten_hours_row step at to) (sym same) (move_of at step 0 top is))
 
-one_of_six : (step number top next_top : ℕ) (from at : Place) → is_best (worth ten_hours_row from step) number top ≡ true
+one_of_six : (step number top next_top : ℕ) (from at : Place)
+    → is_best (worth ten_hours_row from step) number top ≡ true
     → at ≡ neighbour from step number → is_best (worth ten_hours_row at step) 0 next_top ≡ true
     → at ≡ neighbour at step 0 → Climbs ten_hours_row step 6 from at
 one_of_six step number top next_top from at moves there is same =
-    let first : Climbs ten_hours_row step 1 from at =
-    (from, refl, subst (λ (to : Place). Moves ten_hours_row step from to) (sym there) (move_of from step number top moves)) in
+    let first : Climbs ten_hours_row step 1 from at = (
+      from,
+      refl,
+      subst (λ (to : Place). Moves ten_hours_row step from to) (sym there)
+          (move_of from step number top moves),
+    ) in
     still step 1 5 from at first
     (subst (λ (to : Place). Moves ten_hours_row step at to) (sym same) (move_of at step 0 next_top is))
 
@@ -348,13 +354,17 @@ refined =
     let s0 = one_step 0 32 (record { first = 418; last = 10018 }) (record { first = 418; last = 10018 }) refl refl
     (none_of_six 32 302170208 (record { first = 418; last = 10018 }) stays_a refl) in
     let s1 = one_step 1 16 (record { first = 418; last = 10018 }) (record { first = 418; last = 10002 }) s0 refl
-    (one_of_six 16 1 302172928 302172928 (record { first = 418; last = 10018 }) (record { first = 418; last = 10002 }) moves_b refl stays_b refl) in
+    (one_of_six 16 1 302172928 302172928 (record { first = 418; last = 10018 }) (record { first = 418; last = 10002 })
+    moves_b refl stays_b refl) in
     let s2 = one_step 2 8 (record { first = 418; last = 10002 }) (record { first = 410; last = 10010 }) s1 refl
-    (one_of_six 8 5 302174992 302174992 (record { first = 418; last = 10002 }) (record { first = 410; last = 10010 }) moves_c refl stays_c refl) in
+    (one_of_six 8 5 302174992 302174992 (record { first = 418; last = 10002 }) (record { first = 410; last = 10010 })
+    moves_c refl stays_c refl) in
     let s3 = one_step 3 4 (record { first = 410; last = 10010 }) (record { first = 410; last = 10014 }) s2 refl
-    (one_of_six 4 2 302175440 302175440 (record { first = 410; last = 10010 }) (record { first = 410; last = 10014 }) moves_d refl stays_d refl) in
+    (one_of_six 4 2 302175440 302175440 (record { first = 410; last = 10010 }) (record { first = 410; last = 10014 })
+    moves_d refl stays_d refl) in
     let s4 = one_step 4 2 (record { first = 410; last = 10014 }) (record { first = 408; last = 10016 }) s3 refl
-    (one_of_six 2 5 302175688 302175688 (record { first = 410; last = 10014 }) (record { first = 408; last = 10016 }) moves_e refl stays_e refl) in
+    (one_of_six 2 5 302175688 302175688 (record { first = 410; last = 10014 }) (record { first = 408; last = 10016 })
+    moves_e refl stays_e refl) in
     let s5 = one_step 5 1 (record { first = 408; last = 10016 }) (record { first = 408; last = 10016 }) s4 refl
     (none_of_six 1 302175688 (record { first = 408; last = 10016 }) stays_f refl) in
     let s6 = one_step 6 0 (record { first = 408; last = 10016 }) (record { first = 408; last = 10016 }) s5 refl
@@ -380,7 +390,8 @@ none_nearly = refl
 row_lies : LiesAt ten_hours_row deepest
 row_lies =
     let first = none_before ten_hours_row deepest 8 (λ cells h.
-    isnt (fits_nearly ten_hours_row deepest (earlier deepest (suc cells))) (each 8 is_not_nearly cells none_nearly h)) in
+    isnt (fits_nearly ten_hours_row deepest (earlier deepest (suc cells)))
+    (each 8 is_not_nearly cells none_nearly h)) in
     let best = best_is in
     record {
       coarse = coarse;
