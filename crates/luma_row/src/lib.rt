@@ -22,7 +22,8 @@
 //!
 //! Read `width`, `light` and `place`, then `coarse`, `climb` and `earliest`, which find the word, then `cells`,
 //! `heights`, `levels` and `row`, each with its file of specs/. Places are counted in sixteenths of a pixel. Nothing
-//! here allocates or overflows, whatever the pixels are. `vitc_reader` writes bits as the runs of a line, and reads them.
+//! here allocates or overflows, whatever the pixels are. `vitc_reader` writes bits as the runs of a line, and reads
+//! them.
 #![tactic(auto)]
 
 mod best;

@@ -17,8 +17,8 @@ use Rattle.tc_top.specs.SoundAgain.{IsSlicedAgain}
 
 -- what a further command makes of what a job wrote: `mtc-read` of what `ltc-mtc` sends, `ltc-read` of what `ltc-jam`
 -- copies, `pcm-ltc` and `wav-ltc` of what `ltc-pcm` sounds, `vitc-read` of what `luma-vitc` writes of a picture,
--- `number` and `label` of what the other writes, `labels` of its own answers, and each command of its line of `help` and
--- of the values and examples of its page. There is a line for each job whose output another command reads
+-- `number` and `label` of what the other writes, `labels` of its own answers, and each command of its line of `help`
+-- and of the values and examples of its page. There is a line for each job whose output another command reads
 abbrev pub ReadsOn : Job → List ℕ → List ℕ → Type 0
 ReadsOn (LtcMtc flight) = SendsTheFrames flight
 ReadsOn (LtcJam jam) = IsReportedClean jam

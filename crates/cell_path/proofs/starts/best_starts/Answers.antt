@@ -23,7 +23,8 @@ loop-place-init c =
     let bs = rw (to_z-of_z f) at c.best_start-least_minus.ensures.size in
     rw (to_z-of_z f) (one_more_start c.args.ends.now c.args.best c.args.level 0
     (none_yet c) c.put.new.self c.best_start-least_plus.result c.best_start-least_minus.result
-    (no_starts c.args.ends.now c.args.best c.args.level (none_yet c)) p.plus p.plus_way p.minus p.minus_way p.others p.other_ways
+    (no_starts c.args.ends.now c.args.best c.args.level (none_yet c))
+    p.plus p.plus_way p.minus p.minus_way p.others p.other_ways
     (record { begins = ab; size = as_ }) (record { begins = bb; size = bs }))
 
 pub loop-place-preserved : goal.loop-place-preserved

@@ -7,4 +7,5 @@ abbrev pub invariant-rows : goal.invariant-rows
 invariant-rows l =
     l.room.items
     ++ page_lines l.topic (map (λ row. row_of row.0.now row.1.0.now row.1.1.now row.1.2.now) (drop l.told-index l.rows))
-    ≡ l.fn.room.items ++ page_lines l.topic (map (λ row. row_of row.0.now row.1.0.now row.1.1.now row.1.2.now) l.fn.rows)
+    ≡ l.fn.room.items
+    ++ page_lines l.topic (map (λ row. row_of row.0.now row.1.0.now row.1.1.now row.1.2.now) l.fn.rows)
