@@ -1,0 +1,9 @@
+mod BestIsTape
+mod Exact
+mod NoGreater
+mod OnSides
+mod Rising
+mod Runs
+mod SameCells
+mod SteadyPath
+mod TapeScore

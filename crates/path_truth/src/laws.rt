@@ -1,0 +1,61 @@
+//! What follows from the definitions alone: from a steady tape to its best path.
+ghost use Rattle.std.specs.Prelude.{◌≡◌, ℕ, pos, ◌≤ℤ◌, List};
+ghost use Rattle.cell_path.specs.declared.cell.Cell.{Cell};
+ghost use Rattle.cell_path.specs.declared.cell.Step.{Step};
+ghost use Rattle.cell_path.specs.declared.lengths.TheConstants.{LENGTHS};
+ghost use Rattle.cell_path.specs.Best.{IsBestOfAll};
+ghost use Rattle.cell_path.specs.Lengths.{length_in};
+ghost use Rattle.cell_path.specs.Path.{score, IsPath};
+ghost use Rattle.path_truth.specs.Sides.{sum_of_sizes, KeepsItsSides};
+ghost use Rattle.path_truth.specs.Tape.{GoOn, IsSteady};
+ghost use Rattle.path_truth.specs.Worked.{ambiguous, as_a_one, as_zeros, noisy, noisy_tape};
+
+use cell_path::laws::cells_are_decided_of_each_sound;
+
+/// No score is greater than the sizes of the sound, summed.
+pub fn no_score_is_greater_than_the_sound()
+    ensures { (lengths : List ℕ) (steps : List Step) (path : List Cell)
+        → score lengths steps path ≤ℤ pos (sum_of_sizes steps) }
+{}
+
+/// The cells of a steady tape are a path through a sound that keeps its sides, and none has a greater score: theirs is
+/// the sum of the sizes.
+pub fn the_tape_has_the_greatest_score()
+    ensures path { (place : ℕ) (tape : List Cell) (steps : List Step) → IsSteady place tape
+        → KeepsItsSides (length_in LENGTHS place) steps tape → IsPath LENGTHS steps tape }
+    ensures score { (place : ℕ) (tape : List Cell) (steps : List Step) → IsSteady place tape
+        → KeepsItsSides (length_in LENGTHS place) steps tape
+        → score LENGTHS steps tape ≡ pos (sum_of_sizes steps) }
+{}
+
+/// Where a sound keeps the sides of a steady tape, its best path is the tape, whatever the sizes and the levels are. So
+/// noise below the level changes nothing.
+pub fn the_best_path_of_a_steady_tape_is_the_tape()
+    ensures best { (place : ℕ) (tape : List Cell) (steps : List Step) → IsSteady place tape
+        → KeepsItsSides (length_in LENGTHS place) steps tape → IsBestOfAll LENGTHS steps tape }
+    ensures only { (place : ℕ) (tape path : List Cell) (steps : List Step) → IsSteady place tape
+        → KeepsItsSides (length_in LENGTHS place) steps tape → IsBestOfAll LENGTHS steps path → path ≡ tape }
+{
+    cells_are_decided_of_each_sound();
+}
+
+/// A zero, a one and a zero of four steps each, with noise of seven eighths of the level, are a steady tape, and the
+/// sound keeps its sides. So its best path is the tape.
+pub fn a_noisy_sound_is_read()
+    ensures steady { IsSteady 0 noisy_tape }
+    ensures keeps { KeepsItsSides (length_in LENGTHS 0) noisy noisy_tape }
+    ensures read { IsBestOfAll LENGTHS noisy noisy_tape }
+{
+    cells_are_decided_of_each_sound();
+}
+
+/// A tape of ones alone is read as zeros of half the length: the one of eight steps keeps the sides of its sound, and
+/// is not its best path.
+pub fn ones_alone_are_read_as_zeros()
+    ensures steady { GoOn 4 as_a_one }
+    ensures keeps { KeepsItsSides (length_in LENGTHS 4) ambiguous as_a_one }
+    ensures read { IsBestOfAll LENGTHS ambiguous as_zeros }
+    ensures lost { IsBestOfAll LENGTHS ambiguous as_a_one → ⊥ }
+{
+    cells_are_decided_of_each_sound();
+}
