@@ -2,6 +2,7 @@ mod BestIsTape
 mod Exact
 mod NoGreater
 mod OnSides
+mod Recorded
 mod Rising
 mod Runs
 mod SameCells

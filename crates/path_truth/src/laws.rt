@@ -1,12 +1,13 @@
 //! What follows from the definitions alone: from a steady tape to its best path.
-ghost use Rattle.std.specs.Prelude.{◌≡◌, ℕ, pos, ◌≤ℤ◌, List};
+ghost use Rattle.std.specs.Prelude.{◌≡◌, ℕ, ◌%◌, ◌<◌, ◌≤◌, ℤ, pos, ◌+ℤ◌, ◌≤ℤ◌, unsigned_abs, List};
 ghost use Rattle.cell_path.specs.declared.cell.Cell.{Cell};
+ghost use Rattle.cell_path.specs.declared.cell.Sign.{Sign};
 ghost use Rattle.cell_path.specs.declared.cell.Step.{Step};
 ghost use Rattle.cell_path.specs.declared.lengths.TheConstants.{LENGTHS};
 ghost use Rattle.cell_path.specs.Best.{IsBestOfAll};
 ghost use Rattle.cell_path.specs.Lengths.{length_in};
-ghost use Rattle.cell_path.specs.Path.{score, IsPath};
-ghost use Rattle.path_truth.specs.Sides.{sum_of_sizes, KeepsItsSides};
+ghost use Rattle.cell_path.specs.Path.{score, signed, IsPath};
+ghost use Rattle.path_truth.specs.Sides.{sum_of_sizes, IsOnSide, KeepsItsSides};
 ghost use Rattle.path_truth.specs.Tape.{GoOn, IsSteady};
 ghost use Rattle.path_truth.specs.Worked.{ambiguous, as_a_one, as_zeros, noisy, noisy_tape};
 
@@ -38,6 +39,17 @@ pub fn the_best_path_of_a_steady_tape_is_the_tape()
 {
     cells_are_decided_of_each_sound();
 }
+
+/// Noise that does not reach the size of a step leaves it on its side.
+pub fn noise_below_the_size_keeps_the_side()
+    ensures { (sign : Sign) (size level : ℕ) (noise : ℤ) → unsigned_abs noise < size → 1 ≤ level
+        → IsOnSide sign (record { sound = signed sign (pos size) +ℤ noise; level = level }) }
+{}
+
+/// Each tape in cells of an even length has a sound that keeps its sides.
+pub fn each_tape_of_an_even_length_has_a_sound()
+    ensures { (n : ℕ) (tape : List Cell) → n % 2 ≡ 0 → (steps : List Step) × KeepsItsSides n steps tape }
+{}
 
 /// A zero, a one and a zero of four steps each, with noise of seven eighths of the level, are a steady tape, and the
 /// sound keeps its sides. So its best path is the tape.
