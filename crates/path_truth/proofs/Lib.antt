@@ -1,3 +1,4 @@
+mod Beaten
 mod BestIsTape
 mod Exact
 mod NoGreater

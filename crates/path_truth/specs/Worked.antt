@@ -1,4 +1,4 @@
--- Worked sounds, in steps of the mean size 8, and their tapes. Lists of steps and of cells begin with the latest.
+-- A worked sound and its tape. Lists of steps and of cells begin with the latest.
 use Rattle.std.specs.Prelude.{ℕ, pos, neg_ℤ, List, [], ◌∷◌}
 use Rattle.cell_path.specs.declared.cell.Bit.TheVariants.{Zero, One}
 use Rattle.cell_path.specs.declared.cell.Cell.{Cell}
@@ -6,37 +6,23 @@ use Rattle.cell_path.specs.declared.cell.Sign.TheVariants.{Plus, Minus}
 use Rattle.cell_path.specs.declared.cell.Step.{Step}
 use Rattle.cell_path.specs.declared.cell.Way.TheVariants.{Same, Jump}
 
--- a step above zero, and one below
+-- a step above zero, and one below; the mean size is 8
 abbrev pub above : ℕ → Step
 above size = record { sound = pos size; level = 8 }
 
 abbrev pub below : ℕ → Step
 below size = record { sound = neg_ℤ (pos size); level = 8 }
 
--- a zero, a one and a zero of four steps each: a level of 8 with noise of up to 7
+-- a zero, a one and a zero of four steps each, of the size 8 with noise of up to 7
 abbrev pub noisy : List Step
 noisy =
     below 4 ∷ below 8 ∷ below 15 ∷ below 1
     ∷ above 1 ∷ above 7 ∷ below 14 ∷ below 2
     ∷ above 9 ∷ above 1 ∷ above 15 ∷ above 3 ∷ []
 
--- their cells; lengths of four steps stand in place 0
+-- their cells; the length of four steps stands in place 0
 abbrev pub noisy_tape : List Cell
 noisy_tape =
     record { place = 0; bit = Zero; sign = Minus; way = Same }
     ∷ record { place = 0; bit = One; sign = Plus; way = Same }
     ∷ record { place = 0; bit = Zero; sign = Plus; way = Jump } ∷ []
-
--- a one of eight steps, which is also two zeros of four
-abbrev pub ambiguous : List Step
-ambiguous =
-    above 8 ∷ above 8 ∷ above 8 ∷ above 8 ∷ below 8 ∷ below 8 ∷ below 8 ∷ below 8 ∷ []
-
--- the one; lengths of eight steps stand in place 4
-abbrev pub as_a_one : List Cell
-as_a_one = record { place = 4; bit = One; sign = Plus; way = Jump } ∷ []
-
-abbrev pub as_zeros : List Cell
-as_zeros =
-    record { place = 0; bit = Zero; sign = Plus; way = Same }
-    ∷ record { place = 0; bit = Zero; sign = Minus; way = Jump } ∷ []

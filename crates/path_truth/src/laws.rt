@@ -7,9 +7,10 @@ ghost use Rattle.cell_path.specs.declared.lengths.TheConstants.{LENGTHS};
 ghost use Rattle.cell_path.specs.Best.{IsBestOfAll};
 ghost use Rattle.cell_path.specs.Lengths.{length_in};
 ghost use Rattle.cell_path.specs.Path.{score, signed, IsPath};
+ghost use Rattle.path_truth.specs.Lost.{ambiguous, as_a_one, as_zeros, free, free_tape, odd, odd_tape, silent, silent_tape};
 ghost use Rattle.path_truth.specs.Sides.{sum_of_sizes, IsOnSide, KeepsItsSides};
 ghost use Rattle.path_truth.specs.Tape.{GoOn, IsSteady};
-ghost use Rattle.path_truth.specs.Worked.{ambiguous, as_a_one, as_zeros, noisy, noisy_tape};
+ghost use Rattle.path_truth.specs.Worked.{noisy, noisy_tape};
 
 use cell_path::laws::cells_are_decided_of_each_sound;
 
@@ -71,3 +72,11 @@ pub fn ones_alone_are_read_as_zeros()
 {
     cells_are_decided_of_each_sound();
 }
+
+/// A steady tape may be lost where a one has an odd length, since its middle step counts for neither half; where steps
+/// are silent, since they have no side; and where the level is zero, since nothing costs anything.
+pub fn each_premise_is_needed()
+    ensures even { IsSteady 1 odd_tape × (IsBestOfAll LENGTHS odd odd_tape → ⊥) }
+    ensures side { IsSteady 0 silent_tape × (IsBestOfAll LENGTHS silent silent_tape → ⊥) }
+    ensures level { IsSteady 4 free_tape × (IsBestOfAll LENGTHS free free_tape → ⊥) }
+{}

@@ -3,7 +3,7 @@ use Rattle.cell_path.specs.declared.lengths.TheConstants.{LENGTHS}
 use Rattle.cell_path.specs.Lengths.{length_in}
 use Rattle.path_truth.specs.Sides.{KeepsItsSides}
 use Rattle.path_truth.specs.Tape.{IsSteady}
-use Rattle.path_truth.specs.Worked.{ambiguous, as_a_one, as_zeros}
+use Rattle.path_truth.specs.Lost.{ambiguous, as_a_one, as_zeros}
 use Rattle.path_truth.proofs.BestIsTape.{best_is_tape, tape_is_best}
 use Rattle.path_truth.proofs.laws.ones_alone_are_read_as_zeros.Goals as goal
 
