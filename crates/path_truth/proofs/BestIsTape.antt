@@ -105,7 +105,7 @@ same_tape place steps (other ∷ others) cell before has tape path first =
           (ap (λ k. runs k (cell ∷ before)) as_long ∙ sym same)
       | inr half ↦
           let later = later_place place cell.place tape.within path.within (omega (arith, half, long)) in
-          let at = tape.go.0.long in
+          let at = tape.go.0.place_is in
           absurd (not_first cell other before others (omega (arith, later, at)) first)
     ]
 
@@ -123,11 +123,11 @@ of_cells place steps (other ∷ others) (cell ∷ before) has kept tape is good 
 pub best_is_tape : (place : ℕ) (tape path : List Cell) (steps : List Step) → IsSteady place tape
     → KeepsItsSides (length_in LENGTHS place) steps tape → IsBestOfAll LENGTHS steps path → path ≡ tape
 best_is_tape place tape path steps steady keeps best =
-    let is_path = tape_path place tape steps steady.place_is steady.cells keeps in
+    let is_path = tape_path place tape steps steady.in_list steady.cells keeps in
     let worth = tape_score place tape steps steady.cells keeps in
     let good = as_good steps path tape worth (best.wins tape is_path) in
     let kept : IsKept place steps tape =
-    record { within = steady.place_is; go = steady.cells; keeps = keeps } in
+    record { within = steady.in_list; go = steady.cells; keeps = keeps } in
     of_cells place steps tape path steady.zero kept is_path best.is_path good
 
 nothing_kept : (place : ℕ) (tape : List Cell) → HasAZero tape → IsPath LENGTHS [] tape → ⊥
@@ -139,7 +139,7 @@ pub tape_is_best : ((step : Step) (steps : List Step) → (path : List Cell) × 
     → (place : ℕ) (tape : List Cell) (steps : List Step) → IsSteady place tape
     → KeepsItsSides (length_in LENGTHS place) steps tape → IsBestOfAll LENGTHS steps tape
 tape_is_best some place tape [] steady keeps =
-    absurd (nothing_kept place tape steady.zero (tape_path place tape [] steady.place_is steady.cells keeps))
+    absurd (nothing_kept place tape steady.zero (tape_path place tape [] steady.in_list steady.cells keeps))
 tape_is_best some place tape (step ∷ steps) steady keeps =
     let best = some step steps in
     subst (IsBestOfAll LENGTHS (step ∷ steps)) (best_is_tape place tape best.0 (step ∷ steps) steady keeps best.1) best.1

@@ -7,5 +7,6 @@ mod Recorded
 mod Rising
 mod Runs
 mod SameCells
+mod ShortTape
 mod SteadyPath
 mod TapeScore

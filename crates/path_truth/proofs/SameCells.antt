@@ -79,6 +79,6 @@ same_cells n place sign (c ∷ tape) (d ∷ path) long one two ends like is =
     let last = before_ends place c tape one.0 in
     let other = subst (λ s. EndsWith s path) before (before_ends place d path two.0) in
     let more = same_cells n place (sign_before c.bit c.sign) tape path long one.1 two.1 last other parts.1 in
-    let places : c.place ≡ d.place = one.0.long ∙ sym two.0.long in
+    let places : c.place ≡ d.place = one.0.place_is ∙ sym two.0.place_is in
     let ways : c.way ≡ d.way = one.0.way ∙ ap steady_way more ∙ sym two.0.way in
     ap₂ ◌∷◌ (same_cell c d places parts.0 signs ways) more

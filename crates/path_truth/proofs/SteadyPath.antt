@@ -70,7 +70,7 @@ steady_path steps cell [] heard path exact =
     let long : length steps ≡ n =
     begins_with (length steps) n (first-begins (length steps == n) exact.0.free) in
     record {
-      cells = (record { long = refl; way = path.2; follows = path.2 }, tt);
+      cells = (record { place_is = refl; way = path.2; follows = path.2 }, tt);
       sides = (
         sides-of cell.bit cell.sign n steps heard (omega arith) exact.0.worth,
         omega (arith, length-drop n steps),
@@ -87,7 +87,7 @@ steady_path steps cell (last ∷ before) heard path exact =
     let same = same_place cell.way cell.place (sign_before cell.bit cell.sign) last before way path.2 in
     record {
       cells = (
-        record { long = refl; way = way; follows = path.2 },
+        record { place_is = refl; way = way; follows = path.2 },
         subst (λ place. GoOn place (last ∷ before)) same more.cells,
       );
       sides = (

@@ -60,14 +60,14 @@ tape_score place [] steps go keeps =
 tape_score place (cell ∷ before) steps go keeps =
     let n = length_in LENGTHS cell.place in
     let like : KeepsItsSides n steps (cell ∷ before) =
-    subst (λ p. KeepsItsSides (length_in LENGTHS p) steps (cell ∷ before)) (sym go.0.long) keeps in
+    subst (λ p. KeepsItsSides (length_in LENGTHS p) steps (cell ∷ before)) (sym go.0.place_is) keeps in
     let long = keeps-long cell.bit cell.sign n steps like.0 in
     nothing_paid (signed cell.sign (sound_in cell.bit n steps)) (cost LENGTHS steps n cell.place cell.way before)
     (score LENGTHS (drop n steps) before) (sum_of_sizes steps) (sum_of_sizes (take n steps))
     (sum_of_sizes (drop n steps)) (sides-worth cell.bit cell.sign n steps like.0)
     (free place n steps cell before long go.0 like.1)
     (tape_score place before (drop n steps) go.1
-    (subst (λ p. KeepsItsSides (length_in LENGTHS p) (drop n steps) before) go.0.long like.1))
+    (subst (λ p. KeepsItsSides (length_in LENGTHS p) (drop n steps) before) go.0.place_is like.1))
     (sizes-parts n steps)
 
 pub tape_path : (place : ℕ) (cells : List Cell) (steps : List Step) → place < length LENGTHS → GoOn place cells
@@ -76,10 +76,10 @@ tape_path place [] steps within go keeps = keeps
 tape_path place (cell ∷ before) steps within go keeps =
     let n = length_in LENGTHS cell.place in
     let like : KeepsItsSides n steps (cell ∷ before) =
-    subst (λ p. KeepsItsSides (length_in LENGTHS p) steps (cell ∷ before)) (sym go.0.long) keeps in
-    let here : cell.place < 45 = omega (arith, go.0.long) in
+    subst (λ p. KeepsItsSides (length_in LENGTHS p) steps (cell ∷ before)) (sym go.0.place_is) keeps in
+    let here : cell.place < 45 = omega (arith, go.0.place_is) in
     let some : 0 < length steps =
     omega (arith, keeps-long cell.bit cell.sign n steps like.0, length_least cell.place here) in
     let rest = tape_path place before (drop n steps) within go.1
-    (subst (λ p. KeepsItsSides (length_in LENGTHS p) (drop n steps) before) go.0.long like.1) in
+    (subst (λ p. KeepsItsSides (length_in LENGTHS p) (drop n steps) before) go.0.place_is like.1) in
     (some, here, go.0.follows, rest)

@@ -18,7 +18,7 @@ pub record IsOnSide (sign : Sign) (step : Step) : Type 0 where
   pub side : pos 0 <ℤ signed sign step.sound
   pub level : 1 ≤ step.level
 
--- the latest n steps are, and there are so many
+-- the latest n steps are on this side, and there are so many
 abbrev pub AreOnSide : Sign → ℕ → List Step → Type 0
 AreOnSide sign zero steps = Unit {0}
 AreOnSide sign (suc n) [] = ⊥

@@ -14,11 +14,11 @@ steady_way (before ∷ more) = Same
 
 -- the cell's length stands in this place, and it follows these without a jump
 pub record GoesOn (place : ℕ) (cell : Cell) (before : List Cell) : Type 0 where
-  pub long : cell.place ≡ place
+  pub place_is : cell.place ≡ place
   pub way : cell.way ≡ steady_way before
   pub follows : Follows cell.way cell.place (sign_before cell.bit cell.sign) before
 
--- each cell does
+-- each cell goes on behind those before it
 abbrev pub GoOn : ℕ → List Cell → Type 0
 GoOn place [] = Unit {0}
 GoOn place (cell ∷ before) = GoesOn place cell before × GoOn place before
@@ -30,6 +30,6 @@ HasAZero (cell ∷ before) = (cell.bit ≡ Zero) ⊎ HasAZero before
 
 -- the cells have one length, which stands in this place of the list, and at least one of them is a zero
 pub record IsSteady (place : ℕ) (tape : List Cell) : Type 0 where
-  pub place_is : place < length LENGTHS
+  pub in_list : place < length LENGTHS
   pub cells : GoOn place tape
   pub zero : HasAZero tape

@@ -1,10 +1,13 @@
 //! What follows from the definitions alone: from a steady tape to its best path.
-ghost use Rattle.std.specs.Prelude.{◌≡◌, ℕ, ◌%◌, ◌<◌, ◌≤◌, ℤ, pos, ◌+ℤ◌, ◌≤ℤ◌, unsigned_abs, List};
+ghost use Rattle.std.specs.Prelude.{◌≡◌, ℕ, ◌%◌, ◌<◌, ◌≤◌, ℤ, pos, ◌+ℤ◌, ◌≤ℤ◌, unsigned_abs, List, length};
 ghost use Rattle.cell_path.specs.declared.cell.Cell.{Cell};
 ghost use Rattle.cell_path.specs.declared.cell.Sign.{Sign};
 ghost use Rattle.cell_path.specs.declared.cell.Step.{Step};
+ghost use Rattle.cell_path.specs.declared.follow.TheConstants.{FIRST};
 ghost use Rattle.cell_path.specs.declared.lengths.TheConstants.{LENGTHS};
+ghost use Rattle.cell_path.specs.declared.placed.Placed.{Placed};
 ghost use Rattle.cell_path.specs.Best.{IsBestOfAll};
+ghost use Rattle.cell_path.specs.Decided.{placed, AreDecidedInAll};
 ghost use Rattle.cell_path.specs.Lengths.{length_in};
 ghost use Rattle.cell_path.specs.Path.{score, signed, IsPath};
 ghost use Rattle.path_truth.specs.Lost.{ambiguous, as_a_one, as_zeros, free, free_tape, odd, odd_tape, silent, silent_tape};
@@ -12,16 +15,16 @@ ghost use Rattle.path_truth.specs.Sides.{sum_of_sizes, IsOnSide, KeepsItsSides};
 ghost use Rattle.path_truth.specs.Tape.{GoOn, IsSteady};
 ghost use Rattle.path_truth.specs.Worked.{noisy, noisy_tape};
 
-use cell_path::laws::cells_are_decided_of_each_sound;
+use cell_path::laws::{a_short_sound_decides_nothing, cells_are_decided_of_each_sound};
 
-/// No score is greater than the sizes of the sound, summed.
+/// No score is greater than the sum of the sizes of the sound.
 pub fn no_score_is_greater_than_the_sound()
     ensures { (lengths : List ℕ) (steps : List Step) (path : List Cell)
         → score lengths steps path ≤ℤ pos (sum_of_sizes steps) }
 {}
 
-/// The cells of a steady tape are a path through a sound that keeps its sides, and none has a greater score: theirs is
-/// the sum of the sizes.
+/// The cells of a steady tape are a path through a sound that keeps its sides, and their score is the sum of the sizes:
+/// none is greater.
 pub fn the_tape_has_the_greatest_score()
     ensures path { (place : ℕ) (tape : List Cell) (steps : List Step) → IsSteady place tape
         → KeepsItsSides (length_in LENGTHS place) steps tape → IsPath LENGTHS steps tape }
@@ -30,8 +33,7 @@ pub fn the_tape_has_the_greatest_score()
         → score LENGTHS steps tape ≡ pos (sum_of_sizes steps) }
 {}
 
-/// Where a sound keeps the sides of a steady tape, its best path is the tape, whatever the sizes and the levels are. So
-/// noise below the level changes nothing.
+/// If a sound keeps the sides of a steady tape, its best path is the tape, whatever its sizes and levels are.
 pub fn the_best_path_of_a_steady_tape_is_the_tape()
     ensures best { (place : ℕ) (tape : List Cell) (steps : List Step) → IsSteady place tape
         → KeepsItsSides (length_in LENGTHS place) steps tape → IsBestOfAll LENGTHS steps tape }
@@ -39,6 +41,15 @@ pub fn the_best_path_of_a_steady_tape_is_the_tape()
         → KeepsItsSides (length_in LENGTHS place) steps tape → IsBestOfAll LENGTHS steps path → path ≡ tape }
 {
     cells_are_decided_of_each_sound();
+}
+
+/// If such a sound ends before the first decision falls due, the cells that are decided in all are those of the tape.
+pub fn a_short_tape_is_decided()
+    ensures { (place : ℕ) (tape : List Cell) (steps : List Step) (all : List Placed) → IsSteady place tape
+        → KeepsItsSides (length_in LENGTHS place) steps tape → length steps < FIRST → AreDecidedInAll steps all
+        → all ≡ placed (length steps) tape }
+{
+    a_short_sound_decides_nothing();
 }
 
 /// Noise that does not reach the size of a step leaves it on its side.
@@ -52,7 +63,7 @@ pub fn each_tape_of_an_even_length_has_a_sound()
     ensures { (n : ℕ) (tape : List Cell) → n % 2 ≡ 0 → (steps : List Step) × KeepsItsSides n steps tape }
 {}
 
-/// A zero, a one and a zero of four steps each, with noise of seven eighths of the level, are a steady tape, and the
+/// A zero, a one and a zero of four steps each, with noise of seven eighths of their size, are a steady tape, and the
 /// sound keeps its sides. So its best path is the tape.
 pub fn a_noisy_sound_is_read()
     ensures steady { IsSteady 0 noisy_tape }
@@ -62,8 +73,8 @@ pub fn a_noisy_sound_is_read()
     cells_are_decided_of_each_sound();
 }
 
-/// A tape of ones alone is read as zeros of half the length: the one of eight steps keeps the sides of its sound, and
-/// is not its best path.
+/// A tape of ones alone is read as zeros of half the length, if that is in the list: a sound keeps the sides of a one of
+/// eight steps, and its best path is two zeros of four.
 pub fn ones_alone_are_read_as_zeros()
     ensures steady { GoOn 4 as_a_one }
     ensures keeps { KeepsItsSides (length_in LENGTHS 4) ambiguous as_a_one }
@@ -73,8 +84,8 @@ pub fn ones_alone_are_read_as_zeros()
     cells_are_decided_of_each_sound();
 }
 
-/// A steady tape may be lost where a one has an odd length, since its middle step counts for neither half; where steps
-/// are silent, since they have no side; and where the level is zero, since nothing costs anything.
+/// A steady tape may be lost if a one has an odd length, since its middle step counts for neither half; if steps are
+/// silent, since they have no side; and if the level is zero, since nothing costs anything.
 pub fn each_premise_is_needed()
     ensures even { IsSteady 1 odd_tape × (IsBestOfAll LENGTHS odd odd_tape → ⊥) }
     ensures side { IsSteady 0 silent_tape × (IsBestOfAll LENGTHS silent silent_tape → ⊥) }
