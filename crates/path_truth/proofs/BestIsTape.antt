@@ -1,5 +1,5 @@
--- The best path of the sound has the greatest score there is, so it counts each step as the tape does, and it is the
--- tape: cells of twice the length come later in the order of paths.
+-- The best path of the sound has the greatest score there is, so it counts each step as the tape
+-- does, and it is the tape: cells of twice the length come later in the order of paths.
 use Rattle.std.proofs.Common.{◌≡◌, ℕ, ◌+◌, ◌*◌, ◌/◌, ◌<◌, ◌≤◌, inl, inr, List, [], ◌∷◌}
 use Rattle.std.proofs.Common.{pos, refl, ap, subst, sym, ◌∙◌, arith}
 use Rattle.std.proofs.lemmas.Int.{ints}

@@ -1,4 +1,5 @@
--- A path whose score is the sum of the sizes counts each step once, with its own sign, and pays nothing.
+-- A path whose score is the sum of the sizes counts each step once, with its own sign, and pays
+-- nothing.
 use Rattle.std.proofs.Common.{◌≡◌, ℕ, ◌+◌, ℤ, pos, ◌+ℤ◌, ◌-ℤ◌, ◌≤ℤ◌, List, [], ◌∷◌, take, drop, arith}
 use Rattle.std.proofs.lemmas.Int.{ints}
 use Rattle.cell_path.specs.declared.cell.Cell.{Cell}

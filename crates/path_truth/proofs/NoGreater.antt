@@ -1,5 +1,5 @@
--- Each step counts once with a sign, or not at all, and no cost is below zero: so no score is greater than the sum of
--- the sizes.
+-- Each step counts once with a sign, or not at all, and no cost is below zero: so no score is
+-- greater than the sum of the sizes.
 use Rattle.std.proofs.Common.{◌≡◌, ℕ, zero, suc, ◌+◌, ◌-◌, ◌*◌, ◌/◌, ◌==◌, Bool, true, false, cond, List, [], ◌∷◌}
 use Rattle.std.proofs.Common.{ℤ, pos, negsuc, ◌+ℤ◌, ◌-ℤ◌, ◌≤ℤ◌, unsigned_abs, length, take, drop, refl, ap, sym}
 use Rattle.std.proofs.Common.{◌∙◌, arith}

@@ -1,4 +1,5 @@
--- Where no step is zero, steps that are worth their sizes with a sign are on its side, and the other way round.
+-- Where no step is zero, steps that are worth their sizes with a sign are on its side, and the
+-- other way round.
 use Rattle.std.proofs.Common.{◌≡◌, ℕ, zero, suc, ◌+◌, ◌-◌, ◌/◌, ◌%◌, ◌<◌, ◌≤◌, ◌⊎◌, inl, inr, List, [], ◌∷◌}
 use Rattle.std.proofs.Common.{ℤ, pos, negsuc, ◌+ℤ◌, ◌≤ℤ◌, ◌<ℤ◌, unsigned_abs, length, take, drop, refl, ap, arith}
 use Rattle.std.proofs.lemmas.Int.{ints}

@@ -1,5 +1,5 @@
--- Each steady tape of an even length has a sound that keeps its sides, and noise that does not reach a step's size
--- leaves it on its side.
+-- Each steady tape of an even length has a sound that keeps its sides, and noise that does not
+-- reach a step's size leaves it on its side.
 use Rattle.std.proofs.Common.{◌≡◌, ℕ, zero, suc, ◌+◌, ◌/◌, ◌%◌, ◌<◌, ◌≤◌, List, [], ◌∷◌, drop, refl, ap, subst}
 use Rattle.std.proofs.Common.{ℤ, pos, negsuc, ◌+ℤ◌, ◌<ℤ◌, unsigned_abs, sym, ◌∙◌, arith}
 use Rattle.std.proofs.lemmas.Int.{ints}

@@ -1,5 +1,5 @@
--- The sound changes its side where a cell begins, and in the middle of a one. So cells that keep the sides of the same
--- steps have the same runs of steps on one side.
+-- The sound changes its side where a cell begins, and in the middle of a one. So cells that keep
+-- the sides of the same steps have the same runs of steps on one side.
 use Rattle.std.proofs.Common.{◌≡◌, ℕ, zero, suc, ◌+◌, ◌/◌, ◌<◌, ◌≤◌, ◌⊎◌, inl, inr, List, [], ◌∷◌}
 use Rattle.std.proofs.Common.{ℤ, pos, ◌<ℤ◌, length, drop, refl, ap₂, subst, sym, arith}
 use Rattle.std.proofs.lemmas.Int.{ints}

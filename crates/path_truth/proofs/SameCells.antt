@@ -1,4 +1,5 @@
--- Cells of one length that have the runs of a tape with a zero are the tape's; or they have more than its length.
+-- Cells of one length that have the runs of a tape with a zero are the tape's; or they have more
+-- than its length.
 use Rattle.std.proofs.Common.{◌≡◌, ℕ, ◌/◌, ◌≤◌, ◌⊎◌, inl, inr, List, [], ◌∷◌}
 use Rattle.std.proofs.Common.{refl, ap, ap₂, subst, sym, ◌∙◌, arith}
 use Rattle.cell_path.specs.declared.cell.Bit.{Bit}

@@ -1,4 +1,5 @@
--- A sound in which no decision falls due decides the cells of its best path when it ends: all cells of the tape.
+-- A sound in which no decision falls due decides the cells of its best path when it ends: all cells
+-- of the tape.
 use Rattle.std.proofs.Common.{◌≡◌, ℕ, ◌+◌, ◌-◌, ◌/◌, ◌<◌, ◌≤◌, Bool, true, false, ◌&&◌, cond, leb, ltb, List, [], ◌∷◌}
 use Rattle.std.proofs.Common.{◌++◌, length, drop, refl, ap, ap₂, subst, sym, ◌∙◌, arith, append-nil}
 use Rattle.std.specs.List.{filter}

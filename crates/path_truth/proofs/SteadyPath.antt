@@ -1,5 +1,5 @@
--- A path that pays nothing has cells of one length, and where no step is zero each of them is on the sides of its
--- steps.
+-- A path that pays nothing has cells of one length, and where no step is zero each of them is on
+-- the sides of its steps.
 use Rattle.std.proofs.Common.{◌≡◌, ℕ, zero, suc, ◌+◌, ◌-◌, ◌*◌, ◌==◌, ◌<◌, ◌≤◌, Bool, true, false, cond, List, [], ◌∷◌}
 use Rattle.std.proofs.Common.{pos, length, drop, refl, subst, arith}
 use Rattle.std.proofs.lemmas.Bool.Decides.{nat_tests}

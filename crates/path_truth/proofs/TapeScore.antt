@@ -1,4 +1,5 @@
--- The cells of a steady tape are a path through a sound that keeps its sides, and their score is the sum of the sizes.
+-- The cells of a steady tape are a path through a sound that keeps its sides, and their score is
+-- the sum of the sizes.
 use Rattle.std.proofs.Common.{◌≡◌, ℕ, ◌+◌, ◌*◌, ◌==◌, ◌<◌, ◌≤◌, Bool, true, false, cond}
 use Rattle.std.proofs.Common.{ℤ, pos, ◌+ℤ◌, ◌-ℤ◌, List, [], ◌∷◌, length, take, drop, refl, ap, subst, sym, ◌∙◌, arith}
 use Rattle.std.proofs.lemmas.Bool.Decides.{nat_tests}

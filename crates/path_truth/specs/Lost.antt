@@ -1,5 +1,5 @@
--- Sounds whose best path is not the tape, since they lack one thing each. Lists of steps and of cells begin with the
--- latest.
+-- Sounds whose best path is not the tape, since they lack one thing each. Lists of steps and of
+-- cells begin with the latest.
 use Rattle.std.specs.Prelude.{pos, List, [], ◌∷◌}
 use Rattle.cell_path.specs.declared.cell.Bit.TheVariants.{Zero, One}
 use Rattle.cell_path.specs.declared.cell.Cell.{Cell}
@@ -28,7 +28,8 @@ odd =
     above 8 ∷ above 8 ∷ below 99 ∷ below 8 ∷ below 8
     ∷ above 8 ∷ above 8 ∷ above 8 ∷ above 8 ∷ above 8 ∷ []
 
--- the middle step of a one of odd length counts for neither half; the length of five steps stands in place 1
+-- the middle step of a one of odd length counts for neither half; the length of five steps stands
+-- in place 1
 abbrev pub odd_tape : List Cell
 odd_tape =
     record { place = 1; bit = One; sign = Plus; way = Same }

@@ -24,8 +24,8 @@ AreOnSide sign zero steps = Unit {0}
 AreOnSide sign (suc n) [] = ⊥
 AreOnSide sign (suc n) (step ∷ steps) = IsOnSide sign step × AreOnSide sign n steps
 
--- The latest n steps are on the sides of a bit with this sign: a zero has one side, and a one, which lasts an even
--- number of steps, the other in its first half.
+-- The latest n steps are on the sides of a bit with this sign: a zero has one side, and a one,
+-- which lasts an even number of steps, the other in its first half.
 abbrev pub KeepsSides : Bit → Sign → ℕ → List Step → Type 0
 KeepsSides Zero sign n steps = AreOnSide sign n steps
 KeepsSides One sign n steps =

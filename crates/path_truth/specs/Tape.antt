@@ -28,7 +28,8 @@ abbrev pub HasAZero : List Cell → Type 0
 HasAZero [] = ⊥
 HasAZero (cell ∷ before) = (cell.bit ≡ Zero) ⊎ HasAZero before
 
--- the cells have one length, which stands in this place of the list, and at least one of them is a zero
+-- the cells have one length, which stands in this place of the list, and at least one of them is a
+-- zero
 pub record IsSteady (place : ℕ) (tape : List Cell) : Type 0 where
   pub in_list : place < length LENGTHS
   pub cells : GoOn place tape

@@ -23,8 +23,8 @@ pub fn no_score_is_greater_than_the_sound()
         → score lengths steps path ≤ℤ pos (sum_of_sizes steps) }
 {}
 
-/// The cells of a steady tape are a path through a sound that keeps its sides, and their score is the sum of the sizes:
-/// none is greater.
+/// The cells of a steady tape are a path through a sound that keeps its sides, and their score is
+/// the sum of the sizes: none is greater.
 pub fn the_tape_has_the_greatest_score()
     ensures path { (place : ℕ) (tape : List Cell) (steps : List Step) → IsSteady place tape
         → KeepsItsSides (length_in LENGTHS place) steps tape → IsPath LENGTHS steps tape }
@@ -33,7 +33,8 @@ pub fn the_tape_has_the_greatest_score()
         → score LENGTHS steps tape ≡ pos (sum_of_sizes steps) }
 {}
 
-/// If a sound keeps the sides of a steady tape, its best path is the tape, whatever its sizes and levels are.
+/// If a sound keeps the sides of a steady tape, its best path is the tape, whatever its sizes and
+/// levels are.
 pub fn the_best_path_of_a_steady_tape_is_the_tape()
     ensures best { (place : ℕ) (tape : List Cell) (steps : List Step) → IsSteady place tape
         → KeepsItsSides (length_in LENGTHS place) steps tape → IsBestOfAll LENGTHS steps tape }
@@ -43,7 +44,8 @@ pub fn the_best_path_of_a_steady_tape_is_the_tape()
     cells_are_decided_of_each_sound();
 }
 
-/// If such a sound ends before the first decision falls due, the cells that are decided in all are those of the tape.
+/// If such a sound ends before the first decision falls due, the cells that are decided in all are
+/// those of the tape.
 pub fn a_short_tape_is_decided()
     ensures { (place : ℕ) (tape : List Cell) (steps : List Step) (all : List Placed) → IsSteady place tape
         → KeepsItsSides (length_in LENGTHS place) steps tape → length steps < FIRST → AreDecidedInAll steps all
@@ -63,8 +65,8 @@ pub fn each_tape_of_an_even_length_has_a_sound()
     ensures { (n : ℕ) (tape : List Cell) → n % 2 ≡ 0 → (steps : List Step) × KeepsItsSides n steps tape }
 {}
 
-/// A zero, a one and a zero of four steps each, with noise of seven eighths of their size, are a steady tape, and the
-/// sound keeps its sides. So its best path is the tape.
+/// A zero, a one and a zero of four steps each, with noise of seven eighths of their size, are a
+/// steady tape, and the sound keeps its sides. So its best path is the tape.
 pub fn a_noisy_sound_is_read()
     ensures steady { IsSteady 0 noisy_tape }
     ensures keeps { KeepsItsSides (length_in LENGTHS 0) noisy noisy_tape }
@@ -73,8 +75,8 @@ pub fn a_noisy_sound_is_read()
     cells_are_decided_of_each_sound();
 }
 
-/// A tape of ones alone is read as zeros of half the length, if that is in the list: a sound keeps the sides of a one of
-/// eight steps, and its best path is two zeros of four.
+/// A tape of ones alone is read as zeros of half the length, if that is in the list: a sound keeps
+/// the sides of a one of eight steps, and its best path is two zeros of four.
 pub fn ones_alone_are_read_as_zeros()
     ensures steady { GoOn 4 as_a_one }
     ensures keeps { KeepsItsSides (length_in LENGTHS 4) ambiguous as_a_one }
@@ -84,8 +86,9 @@ pub fn ones_alone_are_read_as_zeros()
     cells_are_decided_of_each_sound();
 }
 
-/// A steady tape may be lost if a one has an odd length, since its middle step counts for neither half; if steps are
-/// silent, since they have no side; and if the level is zero, since nothing costs anything.
+/// A steady tape may be lost if a one has an odd length, since its middle step counts for neither
+/// half; if steps are silent, since they have no side; and if the level is zero, since nothing
+/// costs anything.
 pub fn each_premise_is_needed()
     ensures even { IsSteady 1 odd_tape × (IsBestOfAll LENGTHS odd odd_tape → ⊥) }
     ensures side { IsSteady 0 silent_tape × (IsBestOfAll LENGTHS silent silent_tape → ⊥) }
