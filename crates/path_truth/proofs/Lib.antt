@@ -1,0 +1,12 @@
+mod Beaten
+mod BestIsTape
+mod Exact
+mod NoGreater
+mod OnSides
+mod Recorded
+mod Rising
+mod Runs
+mod SameCells
+mod ShortTape
+mod SteadyPath
+mod TapeScore

@@ -1,0 +1,4 @@
+pub mod Lost
+pub mod Sides
+pub mod Tape
+pub mod Worked

@@ -1,0 +1,38 @@
+-- A sound that keeps the sides of a tape. Lists of steps and of cells begin with the latest.
+use Rattle.std.specs.Prelude.{◌≡◌, ℕ, zero, suc, ◌+◌, ◌/◌, ◌%◌, ◌≤◌, pos, ◌<ℤ◌, unsigned_abs}
+use Rattle.std.specs.Prelude.{List, [], ◌∷◌, length, drop}
+use Rattle.cell_path.specs.declared.cell.Bit.{Bit}
+use Rattle.cell_path.specs.declared.cell.Bit.TheVariants.{Zero, One}
+use Rattle.cell_path.specs.declared.cell.Cell.{Cell}
+use Rattle.cell_path.specs.declared.cell.Sign.{Sign}
+use Rattle.cell_path.specs.declared.cell.Step.{Step}
+use Rattle.cell_path.specs.Path.{opposite, signed}
+
+-- the sizes of the sound, summed
+unfoldable pub sum_of_sizes : List Step → ℕ
+sum_of_sizes [] = 0
+sum_of_sizes (step ∷ steps) = unsigned_abs step.sound + sum_of_sizes steps
+
+-- the sound of a step is on this side of zero, and the mean size there is one or more
+pub record IsOnSide (sign : Sign) (step : Step) : Type 0 where
+  pub side : pos 0 <ℤ signed sign step.sound
+  pub level : 1 ≤ step.level
+
+-- the latest n steps are on this side, and there are so many
+abbrev pub AreOnSide : Sign → ℕ → List Step → Type 0
+AreOnSide sign zero steps = Unit {0}
+AreOnSide sign (suc n) [] = ⊥
+AreOnSide sign (suc n) (step ∷ steps) = IsOnSide sign step × AreOnSide sign n steps
+
+-- The latest n steps are on the sides of a bit with this sign: a zero has one side, and a one,
+-- which lasts an even number of steps, the other in its first half.
+abbrev pub KeepsSides : Bit → Sign → ℕ → List Step → Type 0
+KeepsSides Zero sign n steps = AreOnSide sign n steps
+KeepsSides One sign n steps =
+    (n % 2 ≡ 0) × AreOnSide sign (n / 2) steps × AreOnSide (opposite sign) (n / 2) (drop (n / 2) steps)
+
+-- a sound keeps the sides of cells of n steps each, the first of which begins with it
+abbrev pub KeepsItsSides : ℕ → List Step → List Cell → Type 0
+KeepsItsSides n steps [] = length steps ≡ 0
+KeepsItsSides n steps (cell ∷ before) =
+    KeepsSides cell.bit cell.sign n steps × KeepsItsSides n (drop n steps) before
