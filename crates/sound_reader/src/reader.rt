@@ -5,11 +5,11 @@ ghost use Rattle.direction_reader.specs.Events.{event_list, no_events};
 ghost use Rattle.direction_reader.specs.StandsFor.{MayTell, Tells};
 ghost use Rattle.limits.specs.declared.recording.TheConstants.{MAX_INTERVAL, MAX_INTERVALS};
 ghost use Rattle.sound_reader.specs.Settings.{AreInRange};
-ghost use Rattle.sound_reader.specs.Sound.{is_full, Brings, IsSettled, Reads, StandsFor};
+ghost use Rattle.sound_reader.specs.Sound.{is_full, Brings, IsSettled, Reads, SoundState, StandsFor};
 ghost use Rattle.sound_reader.specs.Waiting.{count_of, is_nothing};
 
 use crate::settings::SoundSettings;
-use crate::waiting::next;
+use crate::waiting::{is_empty, next};
 use direction_reader::{Brought, DirectionReader, Events};
 use limits::{MAX_INTERVAL, MAX_INTERVALS};
 use pcm_front::{Intervals, Slicer};
@@ -110,8 +110,62 @@ impl SoundReader {
         }
     }
 
-    /// Reads the intervals that wait, up to the first that brings an event, and gives what it brought.
+    /// Reads the intervals that wait, up to the first that brings an event, and gives what it brought. Nearly
+    /// always one waits, and brings nothing.
+    #[inline(always)]
     fn read_waiting(&mut self) -> Events
+        ensures rest { self.new ≡ record self.old { reader = self.new.reader; waiting = self.new.waiting } }
+        ensures brings { Brings self.old self.new [] (event_list result) }
+        ensures settled { result ≡ no_events → is_full self.new ≡ false → IsSettled self.new }
+    {
+        let brought = self.pass_one();
+        if is_nothing(brought) && is_empty(&self.waiting) {
+            return none();
+        }
+        self.read_rest(brought)
+    }
+
+    /// Reads the first interval that waits, if one does, and returns whether it may have brought an event.
+    #[inline(always)]
+    fn pass_one(&mut self) -> Brought
+        ensures rest { self.new ≡ record self.old { reader = self.new.reader; waiting = self.new.waiting } }
+        ensures may { MayTell self.new.reader result }
+        ensures some { is_nothing result ≡ false → 1 ≤ self.new.reader.intervals }
+        ensures brings { (own : Events) → Tells self.new.reader result own
+            → Brings self.old self.new [] (event_list own) }
+    {
+        if self.reader.intervals() >= MAX_INTERVALS {
+            return Brought::Nothing;
+        }
+        match next(&mut self.waiting) {
+            Some(x) => self.step(x),
+            None => Brought::Nothing,
+        }
+    }
+
+    /// Gives what the latest interval brought, or else what the others that wait bring, up to the first
+    /// that brings an event.
+    #[cold]
+    #[inline(never)]
+    fn read_rest(&mut self, brought: Brought) -> Events
+        requires may { MayTell self.old.reader brought }
+        requires some { is_nothing brought ≡ false → 1 ≤ self.old.reader.intervals }
+        ensures rest { self.new ≡ record self.old { reader = self.new.reader; waiting = self.new.waiting } }
+        ensures brings { (before : SoundState) → ((own : Events) → Tells self.old.reader brought own
+            → Brings before self.old [] (event_list own)) → Brings before self.new [] (event_list result) }
+        ensures settled { result ≡ no_events → is_full self.new ≡ false → IsSettled self.new }
+    {
+        if !is_nothing(brought) {
+            let events = self.reader.events(brought);
+            if !are_none(&events) {
+                return events;
+            }
+        }
+        self.read_others()
+    }
+
+    /// Reads the intervals that wait, up to the first that brings an event, and gives what it brought.
+    fn read_others(&mut self) -> Events
         ensures rest { self.new ≡ record self.old { reader = self.new.reader; waiting = self.new.waiting } }
         ensures brings { Brings self.old self.new [] (event_list result) }
         ensures settled { result ≡ no_events → is_full self.new ≡ false → IsSettled self.new }
@@ -126,10 +180,7 @@ impl SoundReader {
                 return events;
             }
         }
-        Events {
-            first: None,
-            second: None,
-        }
+        none()
     }
 
     /// Reads the intervals that wait, up to the first that may bring an event, and returns whether it
@@ -194,6 +245,16 @@ impl SoundReader {
         self.samples += count as u64;
         self.waiting = intervals;
         count
+    }
+}
+
+/// No event.
+fn none() -> Events
+    ensures { result ≡ no_events }
+{
+    Events {
+        first: None,
+        second: None,
     }
 }
 

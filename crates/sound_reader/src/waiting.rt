@@ -1,5 +1,5 @@
 //! Intervals that are found, and not read yet. Read next: `reader`.
-ghost use Rattle.std.specs.Prelude.{◌≡◌, ◌<◌, ◌++◌, [], IfSome, None};
+ghost use Rattle.std.specs.Prelude.{◌≡◌, ◌<◌, ◌++◌, [], IfSome, None, true};
 ghost use Rattle.std.specs.Option.{option_to_list};
 ghost use Rattle.pcm_front.specs.Distance.{IsInterval};
 ghost use Rattle.pcm_front.specs.Pace.{intervals_in};
@@ -30,4 +30,12 @@ pub(crate) fn next(waiting: &mut Intervals) -> Option<u32>
         return Some(waiting.length);
     }
     None
+}
+
+/// Whether there is none.
+#[inline(always)]
+pub(crate) fn is_empty(waiting: &Intervals) -> bool
+    ensures { result ≡ true → intervals_in waiting.now ≡ [] }
+{
+    waiting.whole == 0 && waiting.rest.is_none() && waiting.begun == 0
 }

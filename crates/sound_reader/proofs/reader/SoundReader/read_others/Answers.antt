@@ -5,7 +5,7 @@ use Rattle.direction_reader.specs.Reader.{ReaderState}
 use Rattle.direction_reader.specs.StandsFor.{MayTell, Tells}
 use Rattle.sound_reader.specs.Sound.{SoundState}
 use Rattle.sound_reader.proofs.StepsGoOn.{brings_on, tells_none}
-use Rattle.sound_reader.proofs.reader.SoundReader.read_waiting.Goals as goal
+use Rattle.sound_reader.proofs.reader.SoundReader.read_others.Goals as goal
 
 -- what may have brought an event brought none
 pub waiting-preserved : goal.waiting-preserved
@@ -29,6 +29,6 @@ waiting-preserved c =
 pub returns-clause-brings : goal.returns-clause-brings
 returns-clause-brings c =
     let new = c.pass_waiting-brought.new.self in
-    brings_on c.args.self.now c.waiting.self new [] [] [] [] c.waiting.invariant.brings
+    rw c.none.ensures (brings_on c.args.self.now c.waiting.self new [] [] [] [] c.waiting.invariant.brings
     (c.pass_waiting-brought.ensures.brings no_events
-    (tells_none new.reader c.pass_waiting-brought.result (sym c.is_nothing.ensures ∙ c.if-is_nothing.true)))
+    (tells_none new.reader c.pass_waiting-brought.result (sym c.is_nothing.ensures ∙ c.if-is_nothing.true))))
