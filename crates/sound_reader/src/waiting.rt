@@ -1,5 +1,5 @@
 //! Intervals that are found, and not read yet. Read next: `reader`.
-ghost use Rattle.std.specs.Prelude.{◌≡◌, ◌<◌, ◌++◌, [], IfSome, None, true};
+ghost use Rattle.std.specs.Prelude.{◌≡◌, ◌<◌, ◌++◌, [], ◌∷◌, IfSome, None};
 ghost use Rattle.std.specs.Option.{option_to_list};
 ghost use Rattle.pcm_front.specs.Distance.{IsInterval};
 ghost use Rattle.pcm_front.specs.Pace.{intervals_in};
@@ -32,10 +32,15 @@ pub(crate) fn next(waiting: &mut Intervals) -> Option<u32>
     None
 }
 
-/// Whether there is none.
+/// The interval, if it is the rest of a distance and alone.
 #[inline(always)]
-pub(crate) fn is_empty(waiting: &Intervals) -> bool
-    ensures { result ≡ true → intervals_in waiting.now ≡ [] }
+pub(crate) fn alone(found: &Intervals) -> Option<u32>
+    requires { AreIntervals found.now }
+    ensures range { IfSome result IsInterval }
+    ensures value { IfSome result (λ x. intervals_in found.now ≡ x ∷ []) }
 {
-    waiting.whole == 0 && waiting.rest.is_none() && waiting.begun == 0
+    if found.whole > 0 || found.begun > 0 {
+        return None;
+    }
+    found.rest
 }

@@ -5,7 +5,7 @@ use Rattle.direction_reader.specs.Reader.{ReaderState}
 use Rattle.direction_reader.specs.StandsFor.{MayTell, Tells}
 use Rattle.sound_reader.specs.Sound.{SoundState}
 use Rattle.sound_reader.proofs.StepsGoOn.{brings_on, tells_none}
-use Rattle.sound_reader.proofs.reader.SoundReader.read_others.Goals as goal
+use Rattle.sound_reader.proofs.reader.SoundReader.read_waiting.Goals as goal
 
 -- what may have brought an event brought none
 pub waiting-preserved : goal.waiting-preserved

@@ -1,7 +1,7 @@
 use Rattle.std.proofs.Common.{◌≡◌, []}
 use Rattle.sound_reader.specs.Sound.{Brings}
 use Rattle.sound_reader.specs.Waiting.{count_of}
-use Rattle.sound_reader.proofs.reader.SoundReader.read_others.Given as goal
+use Rattle.sound_reader.proofs.reader.SoundReader.read_waiting.Given as goal
 
 abbrev pub invariant-waiting : goal.invariant-waiting
 invariant-waiting l = record {
