@@ -41,7 +41,11 @@ impl Level {
         ensures value { result ≡ level_after self sum }
         ensures range { IsInRange result }
     {
-        self.raised().grown(sum.unsigned_abs() + RAISE).lowered()
+        let size = sum.unsigned_abs();
+        Level {
+            peak: (self.peak as i32 - fall(self.peak + RAISE, size + RAISE)) as u32,
+            sum: self.sum - self.sum / 1_024 + size,
+        }
     }
 
     /// It stands higher.
@@ -67,7 +71,8 @@ impl Level {
     {
         let mut level = self.raised();
         let mut place = at;
-        'many: while SIZES <= end - place {
+        let mut left = (end - at) / SIZES;
+        'many: while left > 0 {
             let sizes = sizes_at(samples, place);
             level = level
                 .grown(u32::from(sizes[0]))
@@ -75,6 +80,7 @@ impl Level {
                 .grown(u32::from(sizes[2]))
                 .grown(u32::from(sizes[3]));
             place += SIZES;
+            left -= 1;
         }
         'each: while place < end {
             level = level.grown(u32::from(samples.at(place).unsigned_abs()) + RAISE);
