@@ -71,8 +71,7 @@ impl Level {
     {
         let mut level = self.raised();
         let mut place = at;
-        let mut left = (end - at) / SIZES;
-        'many: while left > 0 {
+        'many: while SIZES <= end - place {
             let sizes = sizes_at(samples, place);
             level = level
                 .grown(u32::from(sizes[0]))
@@ -80,7 +79,6 @@ impl Level {
                 .grown(u32::from(sizes[2]))
                 .grown(u32::from(sizes[3]));
             place += SIZES;
-            left -= 1;
         }
         'each: while place < end {
             level = level.grown(u32::from(samples.at(place).unsigned_abs()) + RAISE);

@@ -1,4 +1,4 @@
-use Rattle.std.proofs.Common.{◌≡◌, ◌+◌, ◌-◌, ◌*◌, ◌≤◌}
+use Rattle.std.proofs.Common.{◌≡◌, ◌-◌, ◌≤◌}
 use Rattle.std.specs.List.{fold}
 use Rattle.std.specs.Prelude.{slice_range}
 use Rattle.pcm_front.specs.Level.{level_after}
@@ -10,12 +10,12 @@ abbrev pub invariant-many : goal.invariant-many
 invariant-many g l = record {
   range : IsRaised l.level;
   order : l.at ≤ l.place;
-  within : l.place + 4 * l.left ≤ l.end;
+  within : l.place ≤ l.end;
   so_far : lowered l.level ≡ fold level_after l.fn.self (slice_range (g.S.Samples.list l.samples) l.at l.place);
 }
 
 abbrev pub decreases-many : goal.decreases-many
-decreases-many g l = l.left
+decreases-many g l = l.end - l.place
 
 abbrev pub invariant-each : goal.invariant-each
 invariant-each g l = record {
