@@ -4,7 +4,7 @@ use Rattle.std.specs.List.{fold}
 use Rattle.std.specs.Prelude.{slice_range, unsigned_abs}
 use Rattle.pcm_front.specs.declared.level.Level.{Level}
 use Rattle.pcm_front.specs.Level.{level_after}
-use Rattle.pcm_front.specs.Sizes.{level_grown, raised_size, size_at}
+use Rattle.pcm_front.specs.Sizes.{level_grown, size_at}
 use Rattle.pcm_front.proofs.QuietRuns.{fold_range}
 
 -- one sample more

@@ -1,8 +1,8 @@
 -- A size of sixteen bits that stands 1023 higher has sixteen bits again, so vectors compute it without loss.
 use Rattle.std.specs.Int.{w16, cast_unsigned}
 use Rattle.std.specs.Simd.Lanes.{top}
-use Rattle.std.proofs.Common.{FitsSigned, to_z, of_z, to_z-of_z, ◌≡◌, ℕ, ◌+◌, ◌-◌, ◌%◌, ◌<◌, ◌≤◌, ℤ, pos, negsuc, cond}
-use Rattle.std.proofs.Common.{Bool, true, false, refl, ap, sym, ◌∙◌, arith}
+use Rattle.std.proofs.Common.{FitsSigned, to_z, of_z, ◌≡◌, ℕ, ◌+◌, ◌-◌, ◌%◌, ◌<◌, ◌≤◌, ℤ, pos, negsuc, cond}
+use Rattle.std.proofs.Common.{true, false, refl, ap, ◌∙◌, arith}
 use Rattle.std.specs.Prelude.{int_lt, unsigned_abs}
 use Rattle.std.proofs.lemmas.Int.{ints, of_z-to_z}
 use Rattle.pcm_front.specs.Sizes.{raised_size}

@@ -1,6 +1,6 @@
 use Rattle.std.specs.Int.{w16}
-use Rattle.std.proofs.Common.{rules, FitsSigned, to_z-of_z, ◌≡◌, ap₂, ap, ◌∷◌, ◌∙◌, refl}
-use Rattle.pcm_front.specs.Sizes.{size_at, raised_size}
+use Rattle.std.proofs.Common.{rules, FitsSigned, ap₂, ap, ◌∷◌, ◌∙◌, refl}
+use Rattle.pcm_front.specs.Sizes.{raised_size}
 use Rattle.pcm_front.proofs.RaisedSizes.{raised_lane}
 use Rattle.pcm_front.proofs.sizes.sizes_at.Goals as goal
 

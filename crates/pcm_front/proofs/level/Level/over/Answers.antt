@@ -1,9 +1,7 @@
 use Rattle.std.specs.Int.{w16}
-use Rattle.std.proofs.Common.{FitsSigned, rules, ◌≡◌, ◌+◌, ◌<◌, ◌≤◌, ◌∙◌, length, ap, arith, to_z-of_z}
-use Rattle.std.specs.List.{fold}
-use Rattle.std.specs.Prelude.{slice_range, unsigned_abs}
-use Rattle.pcm_front.specs.Level.{level_after}
-use Rattle.pcm_front.specs.Sizes.{lowered, raised_size, size_at}
+use Rattle.std.proofs.Common.{FitsSigned, rules, ◌+◌, ◌≤◌, ◌∙◌, length, ap, arith, to_z-of_z}
+use Rattle.std.specs.Prelude.{unsigned_abs}
+use Rattle.pcm_front.specs.Sizes.{lowered}
 use Rattle.pcm_front.proofs.RaisedLevels.{one_more}
 use Rattle.pcm_front.proofs.level.Level.over.Goals as goal
 
