@@ -3,7 +3,7 @@ ghost use Rattle.std.specs.Prelude.{◌≡◌, ℕ, ◌+◌, ◌*◌, ◌^◌, �
 ghost use Rattle.luma_row.specs.Cells.{cell, cells_of, counts, standing_out, stands_out, swing};
 ghost use Rattle.luma_row.specs.KeptCells.{AreCells};
 ghost use Rattle.luma_row.specs.KeptLight.{AreSums};
-ghost use Rattle.luma_row.specs.KeptPlace.{IsInRow};
+ghost use Rattle.luma_row.specs.KeptPlace.{IsNear};
 ghost use Rattle.luma_row.specs.Light.{IsRow};
 
 use crate::light::{Sums, light};
@@ -19,7 +19,7 @@ pub(crate) type Cells = [u32; BITS];
 fn cell(row: &[u8], sums: &Sums, place: Place, bit: usize) -> u32
     requires row { IsRow row.now }
     requires sums { AreSums row.now sums.now }
-    requires place { IsInRow place }
+    requires place { IsNear place }
     requires bit { bit < 90 }
     ensures cell { result ≡ cell row.now place bit }
     ensures most { result ≤ 2 ^ 24 }
@@ -33,7 +33,7 @@ fn cell(row: &[u8], sums: &Sums, place: Place, bit: usize) -> u32
 pub(crate) fn cells_of(row: &[u8], sums: &Sums, place: Place) -> Cells
     requires row { IsRow row.now }
     requires sums { AreSums row.now sums.now }
-    requires place { IsInRow place }
+    requires place { IsNear place }
     ensures cells { result ≡ cells_of row.now place }
     ensures most { AreCells result }
 {
@@ -86,7 +86,7 @@ fn standing_out(cells: &Cells, total: u32) -> u32
 
 /// Whether the row counts.
 pub(crate) fn counts(place: Place, cells: &Cells, total: u32) -> bool
-    requires place { IsInRow place }
+    requires place { IsNear place }
     requires cells { AreCells cells.now }
     requires total { total ≡ swing cells.now }
     ensures { result ≡ counts place cells.now }

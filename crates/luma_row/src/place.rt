@@ -46,7 +46,7 @@ impl Place {
 
     /// The fall of a sync pair.
     #[inline(always)]
-    fn pair_fall(self, row: &[u8], sums: &Sums, pair: u32) -> u32
+    pub(crate) fn pair_fall(self, row: &[u8], sums: &Sums, pair: u32) -> u32
         requires row { IsRow row.now }
         requires sums { AreSums row.now sums.now }
         requires near { IsNear self }
