@@ -94,8 +94,12 @@ impl Row {
         self.fall(16 * pixel, 16 * pixel - reach, 16 * pixel + reach)
     }
 
+    fn pair(&self, place: Place, j: i64) -> i64 {
+        self.fall(place.at(80 * j + 8), place.at(80 * j), place.at(80 * j + 16))
+    }
+
     fn sum(&self, place: Place) -> i64 {
-        (0..9).map(|j| self.fall(place.at(80 * j + 8), place.at(80 * j), place.at(80 * j + 16))).sum()
+        (0..9).map(|j| self.pair(place, j)).sum()
     }
 
     fn fits(&self, place: Place) -> bool {
@@ -128,15 +132,16 @@ impl Row {
         place
     }
 
-    /// The place, or the earliest up to eight cells before it whose falls lack half a fall of it at most.
+    /// The earliest place from eight cells before this one to eight behind it at which each pair falls half as much as
+    /// the nine pairs do here in the mean; or this one.
     fn earliest(&self, place: Place) -> Place {
-        let own = self.sum(place).max(0);
-        let earlier = |cells| {
-            let less = cells * (place.v - place.u) / 80;
-            Place { u: place.u - less, v: place.v - less }
+        let (nine, apart) = (self.sum(place).max(0), place.v - place.u);
+        let earlier = |cells: i64| {
+            let less = cells * apart / 80 - apart / 10;
+            Place { u: (place.u - less).max(0), v: place.v - less }
         };
-        let falls_nearly = |other: &Place| self.fits(*other) && own - self.sum(*other).max(0) <= own / 18;
-        (1..=8).rev().map(earlier).filter(|other| other.u > 0).find(falls_nearly).unwrap_or(place)
+        let all_fall = |other: &Place| (0..9).all(|j| 18 * self.pair(*other, j).max(0) >= nine);
+        (0..=16).rev().map(earlier).find(all_fall).unwrap_or(place)
     }
 
     fn cells(&self, place: Place) -> Vec<i64> {
@@ -148,7 +153,7 @@ impl Place {
     /// Where so many eighths of a cell of the word end.
     fn at(self, eighths: i64) -> i64 {
         let apart = self.v - self.u;
-        (640 * self.u + eighths * apart - 8 * apart) / 640
+        (640 * self.u + eighths * apart - 8 * apart).max(0) / 640
     }
 }
 

@@ -26,8 +26,8 @@ falls_enough row sum place pair = leb sum (18 * (pair_fall row place pair - EVEN
 abbrev pub all_fall : List ℕ → ℕ → Place → Bool
 all_fall row sum place = all_of 9 (falls_enough row sum place)
 
--- the earliest place fewer cells back than this at which all pairs fall, measured by those of the place with the deepest
--- falls; and that place itself where there is none
+-- the earliest place fewer cells back than this at which all pairs fall, measured by the place with the deepest falls;
+-- that place itself where there is none
 unfoldable pub earliest_within : List ℕ → Place → ℕ → Place
 earliest_within row deepest zero = deepest
 earliest_within row deepest (suc cells) =

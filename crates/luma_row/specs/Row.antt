@@ -23,7 +23,7 @@ abbrev pub has_contrast : List ℕ → Bool
 has_contrast row = leb 8 (lightest row - darkest row)
 
 -- where a word lies in a row: its sync pairs fall at the coarse place, which is made finer, and the earliest place is
--- taken at which the word fits nearly as well
+-- taken at which all of them fall
 pub record LiesAt (row : List ℕ) (place : Place) : Type 0 where
   pub coarse : Place
   pub sum : ℕ

@@ -63,7 +63,7 @@ fn all_fall(row: &[u8], sums: &Sums, sum: u32, place: Place) -> bool
     true
 }
 
-/// The earliest place at which all pairs fall, from eight cells before the one with the deepest falls to eight behind it.
+/// The earliest place at which all pairs fall, from eight cells before the one with the deepest falls to eight behind.
 pub(crate) fn earliest(row: &[u8], sums: &Sums, deepest: Place) -> Place
     requires row { IsRow row.now }
     requires sums { AreSums row.now sums.now }
