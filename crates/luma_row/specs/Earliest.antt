@@ -1,7 +1,7 @@
 -- The place of the word: the earliest at which all nine sync pairs fall. Where a 1 and a 0 come again in each ten bits,
 -- some cells later, nine pairs fall there as deep. Some cells earlier eight may fall deeper, but not the first one: it
 -- lies before the word, where all is dark.
-use Rattle.std.specs.Prelude.{ℕ, zero, suc, ◌+◌, ◌-◌, ◌*◌, ◌/◌, leb, Bool, cond, List}
+use Rattle.std.specs.Prelude.{◌≡◌, ℕ, zero, suc, ◌+◌, ◌-◌, ◌*◌, ◌/◌, ◌<◌, leb, Bool, true, false, cond, List}
 use Rattle.luma_row.specs.declared.light.TheConstants.{EVEN}
 use Rattle.luma_row.specs.declared.place.Place.{Place}
 use Rattle.luma_row.specs.Choice.{all_of}
@@ -37,3 +37,15 @@ earliest_within row deepest (suc cells) =
 -- the earliest of those from eight cells earlier to eight cells later
 abbrev pub earliest : List ℕ → Place → Place
 earliest row deepest = earliest_within row deepest 17
+
+-- all pairs fall so many cells back, and at none of the 17 places that is further back
+pub record IsEarliestAt (row : List ℕ) (deepest place : Place) (cells : ℕ) : Type 0 where
+  pub within : cells < 17
+  pub place_is : place ≡ back deepest cells
+  pub here : all_fall row (falls row deepest) (back deepest cells) ≡ true
+  pub none : (more : ℕ) → cells < more → more < 17 → all_fall row (falls row deepest) (back deepest more) ≡ false
+
+-- all pairs fall at none of the 17 places, so the deepest is taken
+pub record IsNowhereEarlier (row : List ℕ) (deepest place : Place) : Type 0 where
+  pub place_is : place ≡ deepest
+  pub none : (cells : ℕ) → cells < 17 → all_fall row (falls row deepest) (back deepest cells) ≡ false
