@@ -3,7 +3,7 @@ ghost use Rattle.std.specs.Prelude.{◌≡◌, ◌^◌, ◌≤◌, min, max, IfN
 ghost use Rattle.std.specs.List.{fold};
 ghost use Rattle.luma_row.specs.declared.row.CodeRow.{CodeRow};
 ghost use Rattle.luma_row.specs.KeptLevels.{AreLevels};
-ghost use Rattle.luma_row.specs.Light.{IsRow};
+ghost use Rattle.luma_row.specs.Light.{darkest, IsRow};
 ghost use Rattle.luma_row.specs.Row.{has_contrast, IsCode};
 
 use crate::cells::{cells_of, counts, swing_of};
@@ -44,6 +44,17 @@ fn has_contrast(row: &[u8]) -> bool
     8 <= lightest.saturating_sub(darkest)
 }
 
+/// The darkest pixel of a row.
+fn darkest(row: &[u8]) -> u8
+    ensures { result ≡ darkest row.now }
+{
+    let mut darkest = 255;
+    for at in 0..row.len() {
+        darkest = darkest.min(row[at]);
+    }
+    darkest
+}
+
 impl RowReader {
     /// Tables for any row.
     pub fn new() -> RowReader {
@@ -72,7 +83,7 @@ impl RowReader {
         }
         let deepest = refine(row, &self.sums, coarse.place);
         let place = earliest(row, &self.sums, deepest);
-        let cells = cells_of(row, &self.sums, place);
+        let cells = cells_of(row, &self.sums, darkest(row), place);
         let swing = swing_of(&cells);
         if !counts(place, &cells, swing) {
             return None;
