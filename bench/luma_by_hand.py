@@ -113,6 +113,10 @@ class Row:
 
     # What it says
 
+    def cell(self, begin, end):
+        """The light of a part, beyond that of the darkest pixel."""
+        return max(0, self.light(end) - self.light(begin) - min(self.pixels) * (end - begin))
+
     def code(self):
         """The place of the word, the swing and the heights of the 90 bits, or None."""
         if max(self.pixels) - min(self.pixels) < 8:
@@ -121,9 +125,7 @@ class Row:
         if place is None:
             return None
         place = self.earliest(self.fine(place))
-        cells = [
-            self.light(self.at(place, 8 * cell + 7)) - self.light(self.at(place, 8 * cell + 1)) for cell in range(CELLS)
-        ]
+        cells = [self.cell(self.at(place, 8 * cell + 1), self.at(place, 8 * cell + 7)) for cell in range(CELLS)]
         swings = [cells[10 * pair] - cells[10 * pair + 1] for pair in range(PAIRS)]
         swing = sum(swings)
         if 160 * swing < 81 * (place[1] - place[0]) or sum(72 * one >= swing for one in swings) < 7:

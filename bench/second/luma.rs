@@ -36,6 +36,7 @@ struct Found {
 struct Row {
     light: Vec<i64>,
     width: i64,
+    darkest: i64,
 }
 
 impl Row {
@@ -46,7 +47,8 @@ impl Row {
                 light.push(light[light.len() - 1] + *pixel as i64);
             }
         }
-        Row { light, width: pixels.len() as i64 }
+        let darkest = pixels.iter().min().map_or(0, |pixel| *pixel as i64);
+        Row { light, width: pixels.len() as i64, darkest }
     }
 
     /// The light up to a place: behind the row nothing more comes.
@@ -144,8 +146,13 @@ impl Row {
         (0..=16).rev().map(earlier).find(all_fall).unwrap_or(place)
     }
 
+    /// The light of a part, beyond that of the darkest pixel.
+    fn cell(&self, from: i64, to: i64) -> i64 {
+        (self.up_to(to) - self.up_to(from) - self.darkest * (to - from)).max(0)
+    }
+
     fn cells(&self, place: Place) -> Vec<i64> {
-        (0..90).map(|i| self.up_to(place.at(8 * i + 7)) - self.up_to(place.at(8 * i + 1))).collect()
+        (0..90).map(|i| self.cell(place.at(8 * i + 1), place.at(8 * i + 7))).collect()
     }
 }
 
