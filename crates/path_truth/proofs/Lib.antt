@@ -1,6 +1,9 @@
 mod Beaten
 mod BestIsTape
+mod Clipping
 mod Exact
+mod Holding
+mod MeanSize
 mod NoGreater
 mod OnSides
 mod Recorded
@@ -8,5 +11,7 @@ mod Rising
 mod Runs
 mod SameCells
 mod ShortTape
+mod SoundSides
 mod SteadyPath
+mod Stretched
 mod TapeScore

@@ -1,4 +1,5 @@
 pub mod Lost
 pub mod Sides
+pub mod Sound
 pub mod Tape
 pub mod Worked
