@@ -11,6 +11,7 @@ mod Rising
 mod Runs
 mod SameCells
 mod ShortTape
+mod SoundLength
 mod SoundSides
 mod SteadyPath
 mod Stretched

@@ -58,12 +58,12 @@ repeated-drop zero latest before = refl
 repeated-drop (suc k) latest before = repeated-drop k latest before
 
 -- the latest sample, as it is heard
-abbrev latest_of : ℕ → ℤ → List ℤ → Sounds
+abbrev pub latest_of : ℕ → ℤ → List ℤ → Sounds
 latest_of least sample before =
     let left = clipped_to (clip_at (loudness_of (clipped before)).peak (sample ∷ before)) sample in
     record { clipped = left; held = held_at least (left ∷ clipped before) }
 
-sounds-cons : (k least : ℕ) (sample : ℤ) (before : List ℤ) → sounds_of (Repeat k) least (sample ∷ before)
+pub sounds-cons : (k least : ℕ) (sample : ℤ) (before : List ℤ) → sounds_of (Repeat k) least (sample ∷ before)
     ≡ replicate k (latest_of least sample before) ++ sounds_of (Repeat k) least before
 unfolding clipped with_held on_grid
 sounds-cons k least sample before = refl
