@@ -2,8 +2,12 @@ mod Beaten
 mod BestIsTape
 mod Clipping
 mod Exact
+mod FairCells
+mod FairFit
+mod FairSound
 mod Holding
 mod MeanSize
+mod NoBreak
 mod NoGreater
 mod OnSides
 mod Recorded
