@@ -65,7 +65,7 @@ one-sum low high sign x is on = record {
 }
 
 -- the first n samples have such a sum
-pub HaveSum : ℕ → ℕ → ℕ → Sign → List ℤ → Type 0
+unfoldable pub HaveSum : ℕ → ℕ → ℕ → Sign → List ℤ → Type 0
 HaveSum low high n sign sounds = (size : ℕ) × IsSumOf low high n size (squares_of sounds) sign (total sounds)
 
 total-append : (xs ys : List ℤ) → total (xs ++ ys) ≡ total xs +ℤ total ys

@@ -7,6 +7,7 @@ mod FairFit
 mod FairSound
 mod Holding
 mod MeanSize
+mod MeasuredTape
 mod NoBreak
 mod NoGreater
 mod OnSides
@@ -19,4 +20,5 @@ mod SoundLength
 mod SoundSides
 mod SteadyPath
 mod Stretched
+mod TapeIntervals
 mod TapeScore

@@ -13,7 +13,7 @@ use Rattle.path_front.specs.Levels.{above, is_faint, mean_level}
 use Rattle.path_truth.proofs.FairCells.{above-both, mean-level, take-fair, AreFair, IsFair, IsLevel}
 use Rattle.path_truth.proofs.FairFit.{half-fits, square-least, times, IsSmall}
 
-neither : (a b : Bool) → a ≡ false → b ≡ false → (a || b) ≡ false
+pub neither : (a b : Bool) → a ≡ false → b ≡ false → (a || b) ≡ false
 neither false b one two = two
 neither true b one two = absurd cc
 

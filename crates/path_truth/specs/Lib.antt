@@ -1,3 +1,4 @@
+pub mod Intervals
 pub mod Lost
 pub mod Sides
 pub mod Sound
