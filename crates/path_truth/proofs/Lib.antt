@@ -11,11 +11,14 @@ mod MeasuredTape
 mod NoBreak
 mod NoGreater
 mod OnSides
+mod PlainSound
 mod Recorded
 mod Rising
 mod Runs
 mod SameCells
+mod ShortSound
 mod ShortTape
+mod SoundIntervals
 mod SoundLength
 mod SoundSides
 mod SteadyPath

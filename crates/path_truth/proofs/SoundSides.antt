@@ -72,16 +72,18 @@ no-sounds : (k least : ℕ) → path_steps (sounds_of (Repeat k) least []) ≡ [
 unfolding path_steps clipped with_held on_grid
 no-sounds k least = refl
 
-before-keeps : (least low high : ℕ) (sample : ℤ) (before : List ℤ) → KeepsItsLevel least low high (sample ∷ before)
+pub before-keeps : (least low high : ℕ) (sample : ℤ) (before : List ℤ) → KeepsItsLevel least low high (sample ∷ before)
     → KeepsItsLevel least low high before
 before-keeps least low high sample before keeps =
     record { some = keeps.some; heard = keeps.heard; near = keeps.near; sizes = keeps.sizes.1 }
 
-record IsHeardAs (low high : ℕ) (sample : ℤ) (heard : Sounds) : Type 0 where
+pub record IsHeardAs (low high : ℕ) (sample : ℤ) (heard : Sounds) : Type 0 where
+  pub sized : IsSized low high heard.clipped
   pub loud : 1 ≤ unsigned_abs heard.clipped
+  pub plain : (sign : Sign) → pos 0 <ℤ signed sign sample → pos 0 <ℤ signed sign heard.clipped
   pub side : (sign : Sign) → pos 0 <ℤ signed sign sample → pos 0 <ℤ signed sign heard.held
 
-heard-as : (least low high : ℕ) (sample : ℤ) (before : List ℤ) → KeepsItsLevel least low high (sample ∷ before)
+pub heard-as : (least low high : ℕ) (sample : ℤ) (before : List ℤ) → KeepsItsLevel least low high (sample ∷ before)
     → IsHeardAs low high sample (latest_of least sample before)
 heard-as least low high sample before keeps =
     let peak = (loudness_of (clipped before)).peak in
@@ -97,6 +99,8 @@ heard-as least low high sample before keeps =
     } in
     let some = keeps.some in
     record {
+      sized = left.sized;
+      plain = left.side;
       loud = omega (arith, left.sized.least, some);
       side = λ sign on. held-side least low high sign (clipped_to most sample) (clipped before) level (left.side sign on);
     }
