@@ -16,6 +16,7 @@ mod Recorded
 mod Rising
 mod Runs
 mod SameCells
+mod Sections
 mod ShortSound
 mod ShortTape
 mod SoundIntervals

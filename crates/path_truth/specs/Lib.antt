@@ -1,5 +1,6 @@
 pub mod Intervals
 pub mod Lost
+pub mod OnEnds
 pub mod Sides
 pub mod Sound
 pub mod Tape
