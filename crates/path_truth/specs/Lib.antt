@@ -1,4 +1,7 @@
+pub mod Intervals
 pub mod Lost
+pub mod OnEnds
 pub mod Sides
+pub mod Sound
 pub mod Tape
 pub mod Worked

@@ -29,3 +29,4 @@
 #![tactic(auto)]
 
 pub mod laws;
+pub mod sound_laws;

@@ -1,0 +1,37 @@
+-- The sound of a steady tape, in samples. Lists of samples, of steps and of cells begin with the
+-- latest.
+use Rattle.std.specs.Prelude.{◌≡◌, ℕ, ◌*◌, ◌≤◌, ℤ, unsigned_abs, List, map}
+use Rattle.std.specs.List.{AllByRecursion}
+use Rattle.cell_path.specs.declared.cell.Cell.{Cell}
+use Rattle.cell_path.specs.declared.cell.Step.{Step}
+use Rattle.cell_path.specs.declared.lengths.TheConstants.{LENGTHS}
+use Rattle.cell_path.specs.Lengths.{length_in}
+use Rattle.path_truth.specs.Sides.{KeepsItsSides}
+use Rattle.path_truth.specs.Tape.{IsSteady}
+
+-- each sample as a step of its own
+abbrev pub alone : List ℤ → List Step
+alone samples = map (λ (sample : ℤ). record { sound = sample; level = 1 }) samples
+
+-- the size of a sample lies between two
+pub record IsSized (low high : ℕ) (sample : ℤ) : Type 0 where
+  pub least : low ≤ unsigned_abs sample
+  pub most : unsigned_abs sample ≤ high
+
+-- No sample has a smaller size than one number and a greater than another, which is 8/3 of the
+-- first at most. The first is the least threshold or more.
+pub record KeepsItsLevel (least low high : ℕ) (samples : List ℤ) : Type 0 where
+  pub some : 1 ≤ low
+  pub heard : least ≤ low
+  pub near : 3 * high ≤ 8 * low
+  pub sizes : AllByRecursion (IsSized low high) samples
+
+-- The samples are the sound of a steady tape: its cells have so many samples, each of which is some
+-- steps, as the tape's length is; each sample is on the side of its cell, and at its level.
+pub record IsSoundOf (place : ℕ) (tape : List Cell) (repeats least low high : ℕ) (samples : List ℤ)
+    : Type 0 where
+  pub steady : IsSteady place tape
+  pub many : ℕ
+  pub cells : many * repeats ≡ length_in LENGTHS place
+  pub sides : KeepsItsSides many (alone samples) tape
+  pub level : KeepsItsLevel least low high samples
