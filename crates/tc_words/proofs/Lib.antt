@@ -4,7 +4,10 @@ pub mod FirstDash
 pub mod FormsTaken
 pub mod LabelsNamed
 pub mod LumaNamed
+pub mod MakeNamed
 pub mod Numbers
 pub mod PagesNamed
+pub mod SamplesNamed
+pub mod SlipsNamed
 pub mod Taken
 pub mod WordsBehind
