@@ -1,6 +1,7 @@
 pub mod Examples
 pub mod ExamplesTaken
 pub mod FirstDash
+pub mod FlightNamed
 pub mod FormsTaken
 pub mod LabelsNamed
 pub mod LumaNamed

@@ -3,7 +3,6 @@
 use Rattle.std.proofs.Common.{◌≡◌, true, List, [], ◌∷◌, rules}
 use Rattle.std.specs.Prelude.{codes}
 use Rattle.std.specs.Result.{is_ok}
-use Rattle.tc_words.specs.Flight.{flight_in}
 use Rattle.tc_words.specs.Forms.{between_bars, rows}
 use Rattle.tc_words.specs.Help.{help, topic_in}
 use Rattle.tc_words.specs.Pages.{AreNamed, are_told, between_spaces}
@@ -13,6 +12,7 @@ use Rattle.tc_words.specs.WavLtc.{deep_in, sliced_track}
 use Rattle.tc_words.specs.WavPath.{path_of_track}
 use Rattle.tc_words.specs.Words.{task_of, ltc_rough, ltc_jam, ltc_load, ltc_convert}
 use Rattle.tc_words.specs.Words.{wav_ltc, ltc_pcm, vitc_make, number, label_of, chase}
+use Rattle.tc_words.proofs.FlightNamed.{fly_named, mtc_named, spans_named}
 use Rattle.tc_words.proofs.LabelsNamed.{labels_named}
 use Rattle.tc_words.proofs.LumaNamed.{luma_named}
 use Rattle.tc_words.proofs.MakeNamed.{make_named}
@@ -37,30 +37,6 @@ unfolding between_bars between_spaces ltc_rough witness_in
 rough_named [] = search rules
 rough_named (a ∷ []) = search rules
 rough_named (a ∷ b ∷ more) = search rules
-
-fly_named : Named (codes "ltc-fly")
-unfolding between_bars between_spaces flight_in tolerance_in witness_in
-fly_named [] = search rules
-fly_named (a ∷ []) = search rules
-fly_named (a ∷ b ∷ []) = search rules
-fly_named (a ∷ b ∷ c ∷ []) = search rules
-fly_named (a ∷ b ∷ c ∷ d ∷ more) = search rules
-
-spans_named : Named (codes "ltc-spans")
-unfolding between_bars between_spaces flight_in tolerance_in witness_in
-spans_named [] = search rules
-spans_named (a ∷ []) = search rules
-spans_named (a ∷ b ∷ []) = search rules
-spans_named (a ∷ b ∷ c ∷ []) = search rules
-spans_named (a ∷ b ∷ c ∷ d ∷ more) = search rules
-
-mtc_named : Named (codes "ltc-mtc")
-unfolding between_bars between_spaces flight_in tolerance_in witness_in
-mtc_named [] = search rules
-mtc_named (a ∷ []) = search rules
-mtc_named (a ∷ b ∷ []) = search rules
-mtc_named (a ∷ b ∷ c ∷ []) = search rules
-mtc_named (a ∷ b ∷ c ∷ d ∷ more) = search rules
 
 jam_named : Named (codes "ltc-jam")
 unfolding between_bars between_spaces ltc_jam tolerance_in witness_in
