@@ -12,7 +12,8 @@
 //!   made finer by moves to the first of the best neighbours (`specs/Climb.antt`, `IsPlace`), or some cells beside it,
 //!   at the earliest place where all nine pairs fall (`specs/Earliest.antt`, `earliest`); and the swing of the sync
 //!   pairs counts (`specs/Cells.antt`, `counts`).
-//! - The heights of the 90 cells above their threshold are those of `specs/Heights.antt`, `height`.
+//! - The light of a cell is counted from the darkest pixel (`specs/Cells.antt`, `cell`), and the heights of the
+//!   90 cells above their threshold are those of `specs/Heights.antt`, `height`.
 //! - `Levels::bits` gives the 90 bits where bit 0 is 1 and each bit is an eighth of the way to its level, and else
 //!   nothing (`specs/Levels.antt`, `says_bits`, `number_of`). So no bit is decided nearer to its threshold
 //!   (`laws::a_bit_that_is_said_is_clear`).
