@@ -38,7 +38,7 @@ cell-long place n e cell before are = ap (length_in LENGTHS) are.go.0.place_is �
 reaches : (place n e : ℕ) (cell : Cell) (before : List Cell) → AreCells place n e (cell ∷ before) → n ≤ e
 reaches place n e cell before are = omega (arith, are.ends, suc-mul (length before) n)
 
-placed-front : (place n e : ℕ) (cell : Cell) (before : List Cell) → AreCells place n e (cell ∷ before)
+pub placed-front : (place n e : ℕ) (cell : Cell) (before : List Cell) → AreCells place n e (cell ∷ before)
     → placed e (cell ∷ before) ≡ at e cell ∷ placed (e - n) before
 unfolding placed
 placed-front place n e cell before are =

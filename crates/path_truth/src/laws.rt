@@ -11,6 +11,7 @@ ghost use Rattle.cell_path.specs.Decided.{placed, AreDecidedInAll};
 ghost use Rattle.cell_path.specs.Lengths.{length_in};
 ghost use Rattle.cell_path.specs.Path.{score, signed, IsPath};
 ghost use Rattle.path_truth.specs.Lost.{ambiguous, as_a_one, as_zeros, free, free_tape, odd, odd_tape, silent, silent_tape};
+ghost use Rattle.path_truth.specs.OnEnds.{FallOnEnds};
 ghost use Rattle.path_truth.specs.Sides.{sum_of_sizes, IsOnSide, KeepsItsSides};
 ghost use Rattle.path_truth.specs.Tape.{GoOn, IsSteady};
 ghost use Rattle.path_truth.specs.Worked.{noisy, noisy_tape};
@@ -49,6 +50,16 @@ pub fn the_best_path_of_a_steady_tape_is_the_tape()
 pub fn a_short_tape_is_decided()
     ensures { (place : ℕ) (tape : List Cell) (steps : List Step) (all : List Placed) → IsSteady place tape
         → KeepsItsSides (length_in LENGTHS place) steps tape → length steps < FIRST → AreDecidedInAll steps all
+        → all ≡ placed (length steps) tape }
+{
+    a_short_sound_decides_nothing();
+}
+
+/// So are they if each decision falls due where a cell ends, and a zero comes before the first.
+pub fn a_tape_is_decided_where_decisions_fall_on_ends()
+    ensures { (place : ℕ) (tape : List Cell) (steps : List Step) (all : List Placed) → IsSteady place tape
+        → KeepsItsSides (length_in LENGTHS place) steps tape
+        → FallOnEnds (length_in LENGTHS place) (length steps) tape → AreDecidedInAll steps all
         → all ≡ placed (length steps) tape }
 {
     a_short_sound_decides_nothing();
