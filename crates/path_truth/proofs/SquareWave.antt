@@ -149,7 +149,7 @@ wave-of n level most (cell ∷ before) noise even less are =
     }
 
 pub noisy_wave : (place : ℕ) (tape : List Cell) (repeats many least level most : ℕ) (noise : List ℤ)
-    → IsSteady place tape → many * repeats ≡ length_in LENGTHS place → many % 2 ≡ 0 → 11 * most ≤ 5 * level
+    → IsSteady place tape → many * repeats ≡ length_in LENGTHS place → many % 2 ≡ 0 → 17 * most ≤ 11 * level
     → 1 ≤ level → least + most ≤ level → AreBelow most noise
     → IsSoundOf place tape repeats least (level - most) (level + most) (with_noise noise (square_wave level many tape))
 noisy_wave place tape repeats many least level most noise steady cells even near some heard are =

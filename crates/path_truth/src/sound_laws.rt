@@ -19,7 +19,7 @@ ghost use Rattle.step_grid.specs.declared.grid.Grid.TheVariants.{Repeat};
 
 use cell_path::laws::{a_short_sound_decides_nothing, cells_are_decided_of_each_sound};
 
-/// The best path through the samples of a steady tape is the tape, if no size is greater than 8/3 of
+/// The best path through the samples of a steady tape is the tape, if no size is greater than 14/3 of
 /// another. If no decision falls due within a cell, all its cells are decided, and no others.
 pub fn the_best_path_of_a_steady_sound_is_its_tape()
     ensures best { (place : ℕ) (tape : List Cell) (repeats least low high : ℕ) (samples : List ℤ)
@@ -38,11 +38,11 @@ pub fn the_best_path_of_a_steady_sound_is_its_tape()
     cells_are_decided_of_each_sound();
 }
 
-/// The square wave of a steady tape is such a sound, with noise of up to 5/11 of its level; and with
+/// The square wave of a steady tape is such a sound, with noise of up to 11/17 of its level; and with
 /// noise of up to 7/17 no size is greater than 12/5 of another.
-pub fn noise_of_five_elevenths_changes_nothing()
+pub fn noise_of_eleven_seventeenths_changes_nothing()
     ensures sound { (place : ℕ) (tape : List Cell) (repeats many least level most : ℕ) (noise : List ℤ)
-        → IsSteady place tape → many * repeats ≡ length_in LENGTHS place → many % 2 ≡ 0 → 11 * most ≤ 5 * level
+        → IsSteady place tape → many * repeats ≡ length_in LENGTHS place → many % 2 ≡ 0 → 17 * most ≤ 11 * level
         → 1 ≤ level → least + most ≤ level → AllByRecursion (λ n. unsigned_abs n ≤ most) noise
         → IsSoundOf place tape repeats least (level - most) (level + most)
         (with_noise noise (square_wave level many tape)) }
