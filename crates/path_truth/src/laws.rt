@@ -1,9 +1,12 @@
 //! What follows from the definitions alone: from a steady tape to its best path.
-ghost use Rattle.std.specs.Prelude.{◌≡◌, ℕ, ◌%◌, ◌<◌, ◌≤◌, ℤ, pos, ◌+ℤ◌, ◌≤ℤ◌, unsigned_abs, List, length};
+ghost use Rattle.std.specs.Prelude.{◌≡◌, ℕ, ◌%◌, ◌==◌, ◌<◌, ◌≤◌, ℤ, pos, ◌+ℤ◌, ◌≤ℤ◌, unsigned_abs};
+ghost use Rattle.std.specs.Prelude.{List, [], ◌∷◌, ◌++◌, length};
+ghost use Rattle.std.specs.List.{filter};
+ghost use Rattle.cell_path.specs.declared.cell.Bit.TheVariants.{Zero};
 ghost use Rattle.cell_path.specs.declared.cell.Cell.{Cell};
 ghost use Rattle.cell_path.specs.declared.cell.Sign.{Sign};
 ghost use Rattle.cell_path.specs.declared.cell.Step.{Step};
-ghost use Rattle.cell_path.specs.declared.follow.TheConstants.{FIRST};
+ghost use Rattle.cell_path.specs.declared.follow.TheConstants.{EVERY, FIRST};
 ghost use Rattle.cell_path.specs.declared.lengths.TheConstants.{LENGTHS};
 ghost use Rattle.cell_path.specs.declared.placed.Placed.{Placed};
 ghost use Rattle.cell_path.specs.Best.{IsBestOfAll};
@@ -64,6 +67,13 @@ pub fn a_tape_is_decided_where_decisions_fall_on_ends()
 {
     a_short_sound_decides_nothing();
 }
+
+/// Decisions fall on the ends of cells of these lengths, and a zero at the front is enough.
+pub fn decisions_fall_on_ends_of_these_cells()
+    ensures lengths { filter (λ n. EVERY % n == 0) LENGTHS ≡ 4 ∷ 8 ∷ 16 ∷ 32 ∷ 64 ∷ [] }
+    ensures front { (n count : ℕ) (first : Cell) (more : List Cell) → 1 ≤ n → EVERY % n ≡ 0 → first.bit ≡ Zero
+        → FallOnEnds n count (more ++ first ∷ []) }
+{}
 
 /// Noise that does not reach the size of a step leaves it on its side.
 pub fn noise_below_the_size_keeps_the_side()

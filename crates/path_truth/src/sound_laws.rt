@@ -1,5 +1,5 @@
 //! What follows from the definitions alone: from the samples of a steady tape to its best path.
-ghost use Rattle.std.specs.Prelude.{◌≡◌, ℕ, ◌+◌, ◌-◌, ◌*◌, ◌%◌, ◌≤◌, true, ℤ, unsigned_abs, List, length};
+ghost use Rattle.std.specs.Prelude.{◌≡◌, ℕ, ◌+◌, ◌-◌, ◌*◌, ◌%◌, ◌≤◌, true, ℤ, unsigned_abs, List, [], ◌∷◌, length};
 ghost use Rattle.std.specs.List.{AllByRecursion};
 ghost use Rattle.cell_path.specs.declared.cell.Cell.{Cell};
 ghost use Rattle.cell_path.specs.declared.lengths.TheConstants.{LENGTHS};
@@ -15,6 +15,7 @@ ghost use Rattle.path_truth.specs.OnEnds.{FallOnEnds};
 ghost use Rattle.path_truth.specs.Sound.{IsSoundOf};
 ghost use Rattle.path_truth.specs.Tape.{IsSteady};
 ghost use Rattle.path_truth.specs.Wave.{square_wave, with_noise};
+ghost use Rattle.path_truth.specs.Worked.{noisy_samples, sampled_tape};
 ghost use Rattle.step_grid.specs.declared.grid.Grid.TheVariants.{Repeat};
 
 use cell_path::laws::{a_short_sound_decides_nothing, cells_are_decided_of_each_sound};
@@ -61,6 +62,16 @@ pub fn the_intervals_of_a_steady_sound_are_its_tapes()
         (intervals : List ℕ) → IsSoundOf place tape repeats least low high samples → 5 * high ≤ 12 * low → 1 ≤ ticks
         → FallOnEnds (length_in LENGTHS place) (length samples * repeats) tape → AreIntervals (Repeat repeats) ticks least samples intervals
         → intervals ≡ cut true (intervals_of_tape (length_in LENGTHS place * ticks) tape) }
+{
+    a_short_sound_decides_nothing();
+    cells_are_decided_of_each_sound();
+}
+
+/// Worked samples of a zero, a one and a zero, with noise, are such a sound. At 100 ticks a step their
+/// intervals are these.
+pub fn noisy_samples_are_read()
+    ensures sound { IsSoundOf 12 sampled_tape 2 59 59 141 noisy_samples }
+    ensures read { AreIntervals (Repeat 2) 100 59 noisy_samples (1 ∷ 1_599 ∷ 800 ∷ 800 ∷ 1_600 ∷ []) }
 {
     a_short_sound_decides_nothing();
     cells_are_decided_of_each_sound();
