@@ -1,8 +1,8 @@
 -- A sound that keeps its level is held on the side of its sample, from the first one on: where the
 -- threshold is above the sample, the mean size is so low that half of it does not reach the sample.
-use Rattle.std.proofs.Common.{◌≡◌, ℕ, ◌+◌, ◌-◌, ◌*◌, ◌/◌, ◌<◌, ◌≤◌, ◌⊎◌, inl, inr, max, min, Bool, true, false, cond, nat_lt}
-use Rattle.std.proofs.Common.{List, [], ◌∷◌, Option, Some, None, refl, ap, subst, sym, arith}
-use Rattle.std.proofs.Common.{ℤ, pos, negsuc, neg_ℤ, ◌+ℤ◌, ◌-ℤ◌, ◌<ℤ◌, int_le, unsigned_abs}
+use Rattle.std.proofs.Common.{◌≡◌, ℕ, ◌+◌, ◌-◌, ◌*◌, ◌/◌, ◌<◌, ◌≤◌, ◌⊎◌, inl, inr, max, Bool, true, false, cond, nat_lt}
+use Rattle.std.proofs.Common.{List, [], ◌∷◌, Option, Some, None, refl, arith}
+use Rattle.std.proofs.Common.{ℤ, pos, neg_ℤ, ◌<ℤ◌, int_le, unsigned_abs}
 use Rattle.std.specs.Int.{div_ceil}
 use Rattle.std.specs.List.{AllByRecursion}
 use Rattle.std.proofs.lemmas.Bool.Decides.{nat_tests}
@@ -12,7 +12,6 @@ use Rattle.cell_path.specs.declared.cell.Sign.TheVariants.{Plus, Minus}
 use Rattle.cell_path.specs.Path.{signed}
 use Rattle.path_front.specs.declared.hold.Side.{Side}
 use Rattle.path_front.specs.declared.hold.Side.TheVariants.{High, Low}
-use Rattle.path_front.specs.declared.hold.Loudness.{Loudness}
 use Rattle.path_front.specs.Hold.{held_at, held_to, loudness_of, side_by, side_of, threshold_by}
 use Rattle.path_truth.specs.Sound.{IsSized, KeepsItsLevel}
 
@@ -59,7 +58,8 @@ held-by : (sign : Sign) (threshold by : ℕ) (before : Option Side) (s : ℤ)
     → (threshold ≤ unsigned_abs s) ⊎ (by < unsigned_abs s) → pos 0 <ℤ signed sign s
     → pos 0 <ℤ signed sign (held_to (side_by threshold before s) by s)
 held-by sign threshold by before s (inl above) on =
-    reached-by (int_le (pos threshold) s) (int_le s (neg_ℤ (pos threshold))) sign threshold by before s refl refl above on
+    reached-by (int_le (pos threshold) s) (int_le s (neg_ℤ (pos threshold))) sign threshold by before s refl refl above
+    on
 held-by sign threshold by before s (inr less) on = added-by (side_by threshold before s) sign by s less on
 
 pub held-side : (least low high : ℕ) (sign : Sign) (sample : ℤ) (before : List ℤ)

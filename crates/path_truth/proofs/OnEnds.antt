@@ -1,5 +1,5 @@
--- Where each decision falls due at the end of a cell, it decides the earliest cells of the tape, and
--- the end of the sound decides the others.
+-- Where each decision falls due at the end of a cell, it decides the earliest cells of the tape,
+-- and the end of the sound decides the others.
 use Rattle.std.proofs.Common.{◌≡◌, ℕ, zero, suc, ◌+◌, ◌-◌, ◌*◌, ◌/◌, ◌%◌, ◌==◌, ◌<◌, ◌≤◌, inl, inr, Bool, true, false}
 use Rattle.std.proofs.Common.{◌&&◌, leb, List, [], ◌∷◌, ◌++◌, length, drop, refl, ap, ap₂, subst, sym, ◌∙◌, arith}
 use Rattle.std.specs.List.{filter}
@@ -21,9 +21,8 @@ use Rattle.path_truth.specs.Tape.{GoOn, HasAZero, IsSteady}
 use Rattle.path_truth.proofs.BestIsTape.{best_is_tape}
 use Rattle.path_truth.proofs.OnSides.{keeps-long}
 use Rattle.path_truth.proofs.Rising.{length_least}
-use Rattle.path_truth.proofs.Sections.{all-decided, at, placed-front, some-decided, AreCells}
+use Rattle.path_truth.proofs.Sections.{all-decided, placed-front, some-decided, AreCells}
 use Rattle.path_truth.proofs.ShortTape.{short_tape}
-use Rattle.path_truth.proofs.TapeScore.{no-steps}
 
 -- ---- within a cell no decision falls due
 
@@ -133,9 +132,11 @@ earlier : (place n : ℕ) (cell : Cell) (before : List Cell) (all : List Placed)
     → AreEarliest n (cell ∷ before) all
 earlier place n cell before all are is =
     let e = length (cell ∷ before) * n in
-    let less : length before * n ≡ e - n = omega (arith, suc-mul (length before) n) in
-    (suc is.0, is.1 ∙ ap (λ k. drop is.0 (placed k before)) less
-    ∙ sym (ap (drop (suc is.0)) (placed-front place n e cell before are)))
+    let less : length before * n ≡ e - n = omega (arith, suc-mul (length before) n) in (
+      suc is.0,
+      is.1 ∙ ap (λ k. drop is.0 (placed k before)) less
+          ∙ sym (ap (drop (suc is.0)) (placed-front place n e cell before are)),
+    )
 
 -- the path at a decision is the tape so far
 path-so-far : (place n : ℕ) (steps : List Step) (tape path : List Cell) → AreSoFar place n 0 steps tape
@@ -156,9 +157,11 @@ decided-now : (place n delay count : ℕ) (tape path : List Cell) (before all : 
     → all ≡ newly delay count (end_behind 0 before) path ++ before → AreEarliest n tape all
 decided-now place n delay count tape path before all are long is so_far adds =
     let e = length tape * n in
-    let more = some-decided place n e so_far.0 delay count tape are in
-    (more.0, adds ∙ ap₂ (λ p b. newly delay count (end_behind 0 b) p ++ b) is so_far.1
-    ∙ ap (λ k. newly-at delay count so_far.0 k e tape) long ∙ more.1)
+    let more = some-decided place n e so_far.0 delay count tape are in (
+      more.0,
+      adds ∙ ap₂ (λ p b. newly delay count (end_behind 0 b) p ++ b) is so_far.1
+          ∙ ap (λ k. newly-at delay count so_far.0 k e tape) long ∙ more.1,
+    )
 
 add : (due : Bool) (place n : ℕ) (steps : List Step) (tape : List Cell) (before all : List Placed)
     → AreSoFar place n 0 steps tape → is_due (length steps) ≡ due → AreEarliest n tape before
@@ -167,7 +170,8 @@ add false place n steps tape before all are is so_far adds = (so_far.0, adds.idl
 add true place n steps tape before all are is so_far adds =
     let now = adds.due is in
     decided-now place n DELAY (length steps) tape now.0 before all (are-cells place n 0 steps tape are)
-    (omega (arith, are.long)) (path-so-far place n steps tape now.0 are (due-first (length steps) is) now.1) so_far now.2
+    (omega (arith, are.long)) (path-so-far place n steps tape now.0 are (due-first (length steps) is) now.1) so_far
+    now.2
 
 stay : (due : Bool) (place n r : ℕ) (steps : List Step) (tape : List Cell) (before all : List Placed)
     → AreSoFar place n (suc r) steps tape → is_due (length steps) ≡ due → AreEarliest n tape before
@@ -202,7 +206,8 @@ cells-many : (place n : ℕ) (steps : List Step) (tape : List Cell) → KeepsIts
 cells-many place n steps [] keeps = omega (arith, keeps)
 cells-many place n steps (cell ∷ before) keeps =
     let long = keeps-long cell.bit cell.sign n steps keeps.0 in
-    omega (arith, cells-many place n (drop n steps) before keeps.1, length-drop n steps, long, suc-mul (length before) n)
+    let more = cells-many place n (drop n steps) before keeps.1 in
+    omega (arith, more, length-drop n steps, long, suc-mul (length before) n)
 
 whole : (place n : ℕ) (steps : List Step) (tape : List Cell) (all : List Placed) → HasAZero tape
     → AreSoFar place n 0 steps tape → AreDecidedInAll steps all → all ≡ placed (length steps) tape

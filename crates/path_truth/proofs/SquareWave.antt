@@ -1,5 +1,6 @@
 -- A square wave with noise that does not reach its level is on the sides of its tape.
-use Rattle.std.proofs.Common.{◌≡◌, ℕ, zero, suc, ◌+◌, ◌-◌, ◌*◌, ◌/◌, ◌%◌, ◌<◌, ◌≤◌, List, [], ◌∷◌, ◌++◌, drop, replicate}
+use Rattle.std.proofs.Common.{◌≡◌, ℕ, zero, suc, ◌+◌, ◌-◌, ◌*◌, ◌/◌, ◌%◌, ◌<◌, ◌≤◌, List, [], ◌∷◌, ◌++◌, drop}
+use Rattle.std.proofs.Common.{replicate}
 use Rattle.std.proofs.Common.{ℤ, pos, negsuc, ◌+ℤ◌, ◌<ℤ◌, unsigned_abs, refl, ap, subst, sym, ◌∙◌, arith, append_assoc}
 use Rattle.std.specs.List.{AllByRecursion}
 use Rattle.std.proofs.Math.Seq.{drop-nil}
@@ -83,9 +84,11 @@ run-sized : (sign : Sign) (level most n : ℕ) (noise rest : List ℤ) → most 
     (with_noise noise (replicate n (signed sign (pos level)) ++ rest))
 unfolding with_noise
 run-sized sign level most zero noise rest less are more = more
-run-sized sign level most (suc n) [] rest less are more =
-    (plain_size sign level most less,
-    run-sized sign level most n [] rest less tt (subst (λ l. AllByRecursion (IsSized (level - most) (level + most)) (with_noise l rest)) (sym (drop-nil n)) more))
+run-sized sign level most (suc n) [] rest less are more = (
+  plain_size sign level most less,
+  run-sized sign level most n [] rest less tt
+      (subst (λ l. AllByRecursion (IsSized (level - most) (level + most)) (with_noise l rest)) (sym (drop-nil n)) more),
+)
 run-sized sign level most (suc n) (x ∷ noise) rest less are more =
     (noisy_size sign level most x less are.0, run-sized sign level most n noise rest less are.1 more)
 
@@ -119,7 +122,7 @@ bit-of One sign n level most noise rest even less are =
         even,
         run-on sign level most h noise (early ++ rest) less are,
         subst (AreOnSide (opposite sign) h) (sym first)
-        (run-on (opposite sign) level most h (drop h noise) rest less below),
+            (run-on (opposite sign) level most h (drop h noise) rest less below),
       );
       rest_is = ap (λ k. drop k (alone (with_noise noise (late ++ (early ++ rest))))) (sym twice)
           ∙ sym (drop-drop h h (alone (with_noise noise (late ++ (early ++ rest)))))

@@ -1,10 +1,9 @@
-use Rattle.std.proofs.Common.{◌≡◌, ℕ, zero, suc, ◌+◌, ◌-◌, ◌*◌, ◌/◌, ◌%◌, ◌≤◌, inl, inr, List, [], ◌∷◌, ◌++◌, length, drop}
-use Rattle.std.proofs.Common.{refl, arith}
+use Rattle.std.proofs.Common.{◌≡◌, ℕ, zero, suc, ◌-◌, ◌*◌, ◌/◌, ◌%◌, ◌≤◌, inl, inr, List, [], ◌∷◌, ◌++◌, length, drop}
+use Rattle.std.proofs.Common.{arith}
 use Rattle.std.proofs.Math.Nat.{le-div_iff_mul-le, mod-add-div, mul-suc}
 use Rattle.std.proofs.lemmas.List.{length-append}
 use Rattle.cell_path.specs.declared.cell.Bit.TheVariants.{Zero}
 use Rattle.cell_path.specs.declared.cell.Cell.{Cell}
-use Rattle.path_truth.specs.OnEnds.{FallOnEnds}
 use Rattle.path_truth.specs.Tape.{HasAZero}
 use Rattle.path_truth.proofs.laws.decisions_fall_on_ends_of_these_cells.Goals as goal
 

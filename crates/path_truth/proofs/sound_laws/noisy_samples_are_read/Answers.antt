@@ -1,4 +1,4 @@
-use Rattle.std.proofs.Common.{◌≡◌, inl, List, [], ◌∷◌, refl, rules, arith, subst}
+use Rattle.std.proofs.Common.{◌≡◌, inl, [], ◌∷◌, refl, rules, arith, subst}
 use Rattle.step_grid.specs.declared.grid.Grid.TheVariants.{Repeat}
 use Rattle.path_front.specs.Front.{AreIntervals}
 use Rattle.path_truth.specs.Intervals.{intervals_of_tape}
