@@ -1,5 +1,5 @@
 -- The levels of cells whose samples have sizes between two lie between those, in 64ths.
-use Rattle.std.proofs.Common.{◌≡◌, ℕ, zero, suc, ◌+◌, ◌*◌, ◌/◌, ◌<◌, ◌≤◌, List, [], ◌∷◌, length, take, refl, ap, ap₂}
+use Rattle.std.proofs.Common.{◌≡◌, ℕ, zero, suc, ◌+◌, ◌*◌, ◌/◌, ◌<◌, ◌≤◌, List, [], ◌∷◌, length, take, refl, ap₂}
 use Rattle.std.proofs.Common.{ℤ, pos, ◌+ℤ◌, int_le, Bool, true, false, cond, sym, subst, ◌∙◌, arith}
 use Rattle.std.proofs.lemmas.Int.{ints}
 use Rattle.std.specs.List.{sum_by, AllByRecursion}

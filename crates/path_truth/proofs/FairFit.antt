@@ -1,7 +1,7 @@
 -- A half whose samples have sizes between two, the greater of which is 12/5 of the smaller at most,
 -- fits neighbours of the same kind, whatever is usual.
-use Rattle.std.proofs.Common.{◌≡◌, ℕ, zero, suc, ◌+◌, ◌-◌, ◌*◌, ◌/◌, ◌<◌, ◌≤◌, Bool, true, false, cond, ltb, ◌||◌, max}
-use Rattle.std.proofs.Common.{ℤ, pos, int_lt, unsigned_abs, List, [], ◌∷◌, Option, Some, None, refl, ap, ap₂, sym, subst}
+use Rattle.std.proofs.Common.{◌≡◌, ℕ, ◌+◌, ◌-◌, ◌*◌, ◌/◌, ◌≤◌, Bool, true, false}
+use Rattle.std.proofs.Common.{pos, int_lt, unsigned_abs, ap, sym, subst}
 use Rattle.std.proofs.Common.{◌∙◌, arith}
 use Rattle.std.proofs.Math.Nat.{div-le_of_le-mul, div-mul-le_self, le-div_iff_mul-le}
 use Rattle.std.proofs.lemmas.Bool.Decides.{nat_tests}
@@ -30,7 +30,8 @@ spread-most a b x s some near least most squares =
     let apart : 5 * (p + q) ≤ 7 * a = omega (arith, near, b_is) in
     let square = times (5 * (p + q)) (7 * a) (5 * (p + q)) (7 * a) apart apart in
     let long = times 64 a a a some (omega arith) in
-    let spelled : s + a * (a + (p + q)) ≤ (a + (a + (p + q))) * (a + p + 1) = subst (λ y. s + a * y ≤ (a + y) * (a + p + 1)) b_is
+    let spelled : s + a * (a + (p + q)) ≤ (a + (a + (p + q))) * (a + p + 1) =
+    subst (λ y. s + a * y ≤ (a + y) * (a + p + 1)) b_is
     (subst (λ y. s + a * b ≤ (a + b) * (y + 1)) x_is squares) in
     let less : s ≤ (a + p) * (a + p) + (p * q + (2 * a + (p + q))) = omega (arith, spelled) in
     let small : p * q + (2 * a + (p + q)) ≤ 2 * (a * a) = omega (arith, two, square, long, apart) in
@@ -86,7 +87,8 @@ squares-most : (low high n size squares : ℕ) → 1 ≤ n → squares + n * (lo
 squares-most low high n size squares some is =
     let x = 64 * size / n in
     let a = 64 * squares / n in
-    let next = times (low + high) (low + high) (64 * size) ((x + 1) * n) (omega arith) (below-next (64 * size) n some) in
+    let next = times (low + high) (low + high) (64 * size) ((x + 1) * n) (omega arith)
+    (below-next (64 * size) n some) in
     let whole : a * n ≤ 64 * squares = div-mul-le_self (64 * squares) n in
     let all : (a + 64 * (low * high)) * n ≤ ((low + high) * (x + 1)) * n = omega (arith, next, whole, is) in
     cancel (a + 64 * (low * high)) ((low + high) * (x + 1)) n some all
@@ -113,6 +115,7 @@ half-fits low high n range half loud near some is least most =
     let apart = apart-most a b (outside range (int_lt half.sum (pos 0)) x) (omega (arith, near)) far in
     record {
       spread_is = subst (λ y. s - y * y ≤ 2 * (a * a)) (sym level) spread;
-      outside_is = subst (λ y. outside range (int_lt half.sum (pos 0)) y * outside range (int_lt half.sum (pos 0)) y ≤ 2 * (a * a))
+      outside_is = subst (λ y. outside range (int_lt half.sum (pos 0)) y * outside range (int_lt half.sum (pos 0)) y
+          ≤ 2 * (a * a))
           (sym level) apart;
     }

@@ -1,19 +1,16 @@
 -- The samples of a side, whose sizes lie between two, sum to a size between those.
-use Rattle.std.proofs.Common.{◌≡◌, ℕ, zero, suc, ◌+◌, ◌-◌, ◌*◌, ◌/◌, ◌<◌, ◌≤◌, List, [], ◌∷◌, ◌++◌, length, take, drop}
-use Rattle.std.proofs.Common.{ℤ, pos, negsuc, neg_ℤ, ◌+ℤ◌, ◌<ℤ◌, unsigned_abs, refl, ap, ap₂, sym, subst, ◌∙◌, arith}
-use Rattle.std.specs.List.{sum_by, AllByRecursion}
+use Rattle.std.proofs.Common.{◌≡◌, ℕ, zero, suc, ◌+◌, ◌-◌, ◌*◌, ◌≤◌, List, [], ◌∷◌, ◌++◌, take}
+use Rattle.std.proofs.Common.{ℤ, pos, negsuc, ◌+ℤ◌, ◌<ℤ◌, unsigned_abs, refl, ap₂, sym, subst, ◌∙◌, arith}
+use Rattle.std.specs.List.{AllByRecursion}
 use Rattle.std.proofs.lemmas.Int.{ints}
 use Rattle.std.proofs.lemmas.List.Sums.{sum_by-append, sum_by-cons}
 use Rattle.cell_path.specs.declared.cell.Sign.{Sign}
 use Rattle.cell_path.specs.declared.cell.Sign.TheVariants.{Plus, Minus}
 use Rattle.cell_path.specs.Path.{signed}
-use Rattle.path_front.specs.declared.measured.Half.{Half}
 use Rattle.path_front.specs.Grid.{total}
-use Rattle.path_front.specs.Latest.{part, squares_of}
-use Rattle.path_front.specs.Measured.{half_of, twice}
+use Rattle.path_front.specs.Latest.{squares_of}
 use Rattle.path_truth.specs.Sides.{AreOnSide}
 use Rattle.path_truth.specs.Sound.{alone, IsSized}
-use Rattle.path_truth.proofs.FairCells.{IsFairHalf}
 
 -- the sum and the squares of n samples
 pub record IsSumOf (low high n size squares : ℕ) (sign : Sign) (sum : ℤ) : Type 0 where
@@ -77,19 +74,26 @@ pub sums-append : (low high m n : ℕ) (sign : Sign) (xs ys : List ℤ) → Have
     → HaveSum low high n sign ys → HaveSum low high (m + n) sign (xs ++ ys)
 unfolding HaveSum
 sums-append low high m n sign xs ys one two =
-    let both = both-sums low high m n one.0 two.0 (squares_of xs) (squares_of ys) sign (total xs) (total ys) one.1 two.1 in
-    let squares = sym (sum_by-append (λ x. unsigned_abs x * unsigned_abs x) xs ys) in
-    (one.0 + two.0, subst (λ t. IsSumOf low high (m + n) (one.0 + two.0) (squares_of (xs ++ ys)) sign t)
-    (sym (total-append xs ys)) (subst (λ q. IsSumOf low high (m + n) (one.0 + two.0) q sign (total xs +ℤ total ys)) squares both))
+    let both = both-sums low high m n one.0 two.0 (squares_of xs) (squares_of ys) sign (total xs) (total ys) one.1
+    two.1 in
+    let squares = sym (sum_by-append (λ x. unsigned_abs x * unsigned_abs x) xs ys) in (
+      one.0 + two.0,
+      subst (λ t. IsSumOf low high (m + n) (one.0 + two.0) (squares_of (xs ++ ys)) sign t)
+          (sym (total-append xs ys))
+          (subst (λ q. IsSumOf low high (m + n) (one.0 + two.0) q sign (total xs +ℤ total ys)) squares both),
+    )
 
 no-sum : (low high : ℕ) (sign : Sign) → HaveSum low high 0 sign []
 unfolding total HaveSum
-no-sum low high sign = (0, record {
-  sum_is = signed-none sign;
-  least = omega arith;
-  most = omega arith;
-  below = omega arith;
-})
+no-sum low high sign = (
+  0,
+  record {
+    sum_is = signed-none sign;
+    least = omega arith;
+    most = omega arith;
+    below = omega arith;
+  },
+)
 
 some-sum : (low high : ℕ) (sign : Sign) (x : ℤ) → IsSized low high x → pos 0 <ℤ signed sign x
     → HaveSum low high 1 sign (x ∷ [])
@@ -97,9 +101,12 @@ unfolding total HaveSum
 some-sum low high sign x is on =
     let one = one-sum low high sign x is on in
     let same : x ≡ x +ℤ pos 0 = omega (arith, ints) in
-    let squares : unsigned_abs x * unsigned_abs x ≡ squares_of (x ∷ []) = sym (sum_by-cons (λ y. unsigned_abs y * unsigned_abs y) x [] ∙ omega arith) in
-    (unsigned_abs x, subst (λ t. IsSumOf low high 1 (unsigned_abs x) (squares_of (x ∷ [])) sign t) same
-    (subst (λ q. IsSumOf low high 1 (unsigned_abs x) q sign x) squares one))
+    let squares : unsigned_abs x * unsigned_abs x ≡ squares_of (x ∷ []) =
+    sym (sum_by-cons (λ y. unsigned_abs y * unsigned_abs y) x [] ∙ omega arith) in (
+      unsigned_abs x,
+      subst (λ t. IsSumOf low high 1 (unsigned_abs x) (squares_of (x ∷ [])) sign t) same
+          (subst (λ q. IsSumOf low high 1 (unsigned_abs x) q sign x) squares one),
+    )
 
 pub side-sum : (low high n : ℕ) (sign : Sign) (sounds : List ℤ) → AllByRecursion (IsSized low high) sounds
     → AreOnSide sign n (alone sounds) → HaveSum low high n sign (take n sounds)

@@ -1,6 +1,7 @@
 mod Beaten
 mod BestIsTape
 mod Clipping
+mod DecidedSound
 mod Exact
 mod FairCells
 mod FairFit
@@ -10,6 +11,7 @@ mod MeanSize
 mod MeasuredTape
 mod NoBreak
 mod NoGreater
+mod OnEnds
 mod OnSides
 mod PlainSound
 mod Recorded
@@ -17,11 +19,11 @@ mod Rising
 mod Runs
 mod SameCells
 mod Sections
-mod ShortSound
 mod ShortTape
 mod SoundIntervals
 mod SoundLength
 mod SoundSides
+mod SquareWave
 mod SteadyPath
 mod Stretched
 mod TapeIntervals

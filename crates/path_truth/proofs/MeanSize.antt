@@ -1,5 +1,5 @@
 -- The mean of some sizes is no smaller than the smallest of them.
-use Rattle.std.proofs.Common.{◌≡◌, ℕ, zero, suc, ◌+◌, ◌*◌, ◌/◌, ◌<◌, ◌≤◌, List, [], ◌∷◌, length, take, refl, subst, sym}
+use Rattle.std.proofs.Common.{ℕ, zero, suc, ◌*◌, ◌<◌, ◌≤◌, List, [], ◌∷◌, length, take}
 use Rattle.std.proofs.Common.{arith}
 use Rattle.std.specs.List.{sum, AllByRecursion}
 use Rattle.std.proofs.Math.Nat.{le-div_iff_mul-le, mul-suc}

@@ -1,7 +1,7 @@
 -- Each cell of a steady tape is measured as it is: its halves have their sizes, it follows the one
 -- before it, and only the first one jumps.
-use Rattle.std.proofs.Common.{◌≡◌, ℕ, zero, suc, ◌+◌, ◌-◌, ◌*◌, ◌/◌, ◌%◌, ◌<◌, ◌≤◌, Bool, true, false, not, ltb, ◌||◌}
-use Rattle.std.proofs.Common.{List, [], ◌∷◌, ◌++◌, length, take, drop, map, ℤ, pos, refl, ap, ap₂, sym, subst, ◌∙◌, arith}
+use Rattle.std.proofs.Common.{◌≡◌, ℕ, zero, suc, ◌+◌, ◌-◌, ◌/◌, ◌%◌, ◌<◌, ◌≤◌, Bool, true, false, not, ltb, ◌||◌}
+use Rattle.std.proofs.Common.{List, [], ◌∷◌, ◌++◌, length, drop, ℤ, refl, ap, sym, subst, ◌∙◌, arith}
 use Rattle.std.specs.List.{AllByRecursion}
 use Rattle.std.proofs.lemmas.List.{drop-drop, length-drop}
 use Rattle.std.proofs.lemmas.Bool.{le-ltb}
@@ -12,15 +12,14 @@ use Rattle.cell_path.specs.declared.cell.Sign.{Sign}
 use Rattle.cell_path.specs.declared.cell.Sign.TheVariants.{Plus, Minus}
 use Rattle.cell_path.specs.declared.cell.Step.{Step}
 use Rattle.cell_path.specs.declared.cell.Way.{Way}
-use Rattle.cell_path.specs.declared.cell.Way.TheVariants.{Same, Shorter, Longer, Jump}
+use Rattle.cell_path.specs.declared.cell.Way.TheVariants.{Same}
 use Rattle.cell_path.specs.declared.lengths.TheConstants.{LENGTHS}
 use Rattle.cell_path.specs.declared.placed.Decided.{Decided}
 use Rattle.cell_path.specs.declared.placed.Placed.{Placed}
 use Rattle.cell_path.specs.Decided.{apart, end_behind, is_jump, jumps, latest_of, placed, same_sign}
 use Rattle.cell_path.specs.Lengths.{length_in}
-use Rattle.cell_path.specs.Path.{opposite, sign_before, signed, Follows}
+use Rattle.cell_path.specs.Path.{opposite, sign_before, Follows}
 use Rattle.path_front.specs.declared.group.Sounds.{Sounds}
-use Rattle.path_front.specs.declared.measured.Measured.{Measured}
 use Rattle.path_front.specs.Cells.{cell_behind, measured_cells, plain}
 use Rattle.path_front.specs.Latest.{part}
 use Rattle.path_front.specs.Measured.{first_sign, half_of, measured_at}
@@ -79,7 +78,8 @@ fair-half low high n shorter longer sign sounds are one two =
     (part longer (n - n / 2) sounds) (part-sum low high shorter (n / 2) sign sounds are one)
     (part-sum low high longer (n - n / 2) sign sounds are two) in
     let whole : n / 2 + (n - n / 2) ≡ n = omega arith in
-    let sum = subst (λ k. HaveSum low high k sign (part shorter (n / 2) sounds ++ part longer (n - n / 2) sounds)) whole all in
+    let sum = subst (λ k. HaveSum low high k sign (part shorter (n / 2) sounds ++ part longer (n - n / 2) sounds)) whole
+    all in
     record {
       size = sum.0;
       sum_is = sum.1.sum_is;
@@ -204,7 +204,7 @@ cells-fair place low high e sounds [] is = tt
 cells-fair place low high e sounds (cell ∷ before) is = (
   cell-fair place low high e sounds cell before is,
   cells-fair place low high (e - length_in LENGTHS cell.place) sounds before
-  (next-tape place low high e sounds cell before is),
+      (next-tape place low high e sounds cell before is),
 )
 
 -- ---- jumps

@@ -1,13 +1,12 @@
 -- Among cells whose samples have sizes between two, the greater of which is 12/5 of the smaller at
 -- most, the gate refuses none.
 use Rattle.std.proofs.Common.{◌≡◌, ℕ, ◌+◌, ◌*◌, ◌/◌, ◌≤◌, min, max, Bool, true, false, ltb, ◌||◌, List, [], ◌∷◌, take}
-use Rattle.std.proofs.Common.{ℤ, pos, ◌+ℤ◌, Option, Some, None, refl, ap, ap₂, sym, subst, ◌∙◌, arith}
+use Rattle.std.proofs.Common.{◌+ℤ◌, Option, Some, None, refl, ap₂, sym, subst, arith}
 use Rattle.std.proofs.lemmas.Bool.{le-ltb}
-use Rattle.path_front.specs.declared.fit.Fit.{Fit}
 use Rattle.path_front.specs.declared.fit.Range.{Range}
 use Rattle.path_front.specs.declared.fit.Usual.{Usual}
 use Rattle.path_front.specs.declared.measured.Measured.{Measured}
-use Rattle.path_front.specs.Fit.{fit_of, half_fit, is_misfit, square_of}
+use Rattle.path_front.specs.Fit.{fit_of, half_fit, square_of}
 use Rattle.path_front.specs.Gate.{does_not_fit, floor_by, range_by, refuses}
 use Rattle.path_front.specs.Levels.{above, is_faint, mean_level}
 use Rattle.path_truth.proofs.FairCells.{above-both, mean-level, take-fair, AreFair, IsFair, IsLevel}

@@ -1,11 +1,10 @@
 -- The sound of samples that keep their level, without the hold, has their sides and sizes.
-use Rattle.std.proofs.Common.{◌≡◌, ℕ, zero, suc, ◌+◌, ◌-◌, ◌*◌, ◌<◌, ◌≤◌, ℤ, pos, ◌<ℤ◌, unsigned_abs, List, [], ◌∷◌, ◌++◌}
-use Rattle.std.proofs.Common.{length, drop, map, replicate, refl, ap, subst, sym, ◌∙◌, arith}
+use Rattle.std.proofs.Common.{◌≡◌, ℕ, zero, suc, ◌-◌, ℤ, pos, ◌<ℤ◌, List, [], ◌∷◌, ◌++◌}
+use Rattle.std.proofs.Common.{length, drop, replicate, refl, ap, subst, sym, arith}
 use Rattle.std.specs.List.{AllByRecursion}
 use Rattle.std.proofs.lemmas.List.{length-map}
 use Rattle.cell_path.specs.declared.cell.Cell.{Cell}
 use Rattle.cell_path.specs.declared.cell.Sign.{Sign}
-use Rattle.cell_path.specs.declared.cell.Step.{Step}
 use Rattle.cell_path.specs.declared.lengths.TheConstants.{LENGTHS}
 use Rattle.cell_path.specs.Lengths.{length_in}
 use Rattle.cell_path.specs.Path.{signed}
@@ -81,7 +80,8 @@ tape-in place tape repeats least low high samples is =
     let none : 0 ≡ length (plain sounds) - length (path_steps sounds) = omega (arith, long, steps) in
     let whole : KeepsItsSides (length_in LENGTHS place) all tape =
     subst (λ n. KeepsItsSides n all tape) is.cells
-    (like-tape repeats is.many tape (alone samples) all is.sides (plain-like repeats least low high samples is.level)) in
+    (like-tape repeats is.many tape (alone samples) all is.sides
+    (plain-like repeats least low high samples is.level)) in
     record {
       within = is.steady.in_list;
       sized = plain-sized repeats least low high samples is.level;

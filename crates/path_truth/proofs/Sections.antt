@@ -1,7 +1,7 @@
 -- Of a path of cells of one length those are decided behind others that are not: so what was
 -- decided before and what is decided now are the earliest cells of the path.
 use Rattle.std.proofs.Common.{◌≡◌, ℕ, zero, suc, ◌+◌, ◌-◌, ◌*◌, ◌/◌, ◌<◌, ◌≤◌, Bool, true, false, ◌&&◌, cond, leb, ltb}
-use Rattle.std.proofs.Common.{List, [], ◌∷◌, ◌++◌, length, drop, refl, ap, ap₂, subst, sym, ◌∙◌, arith, append-nil}
+use Rattle.std.proofs.Common.{List, [], ◌∷◌, ◌++◌, length, drop, refl, ap, ap₂, sym, ◌∙◌, arith}
 use Rattle.std.specs.List.{filter}
 use Rattle.std.proofs.Math.Nat.{suc-mul}
 use Rattle.std.proofs.lemmas.Bool.Decides.{nat_tests}
@@ -38,7 +38,7 @@ cell-long place n e cell before are = ap (length_in LENGTHS) are.go.0.place_is �
 reaches : (place n e : ℕ) (cell : Cell) (before : List Cell) → AreCells place n e (cell ∷ before) → n ≤ e
 reaches place n e cell before are = omega (arith, are.ends, suc-mul (length before) n)
 
-placed-front : (place n e : ℕ) (cell : Cell) (before : List Cell) → AreCells place n e (cell ∷ before)
+pub placed-front : (place n e : ℕ) (cell : Cell) (before : List Cell) → AreCells place n e (cell ∷ before)
     → placed e (cell ∷ before) ≡ at e cell ∷ placed (e - n) before
 unfolding placed
 placed-front place n e cell before are =
@@ -197,11 +197,12 @@ some-by : (old : Bool) (place n e p delay count : ℕ) (cell : Cell) (before : L
     → (q : ℕ) × (decided_with delay count (suc p) e (cell ∷ before) ≡ drop q (placed e (cell ∷ before)))
 some-by true place n e p delay count cell before are is more =
     (0, all-decided place n e (suc p) delay count (cell ∷ before) are (is-old (e + delay) count is))
-some-by false place n e p delay count cell before are is more =
-    (suc more.0,
-    with-next place n e p delay count cell before false are
-    (decided-by-age false place n e p delay count cell before are is)
-    ∙ more.1 ∙ sym (ap (drop (suc more.0)) (placed-front place n e cell before are)))
+some-by false place n e p delay count cell before are is more = (
+  suc more.0,
+  with-next place n e p delay count cell before false are
+      (decided-by-age false place n e p delay count cell before are is)
+      ∙ more.1 ∙ sym (ap (drop (suc more.0)) (placed-front place n e cell before are)),
+)
 
 pub some-decided : (place n e p delay count : ℕ) (cells : List Cell) → AreCells place n e cells
     → (q : ℕ) × (decided_with delay count p e cells ≡ drop q (placed e cells))

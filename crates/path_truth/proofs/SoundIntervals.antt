@@ -1,5 +1,5 @@
 -- If what is decided of a sound is its tape, its intervals are those of the tape.
-use Rattle.std.proofs.Common.{◌≡◌, ℕ, ◌+◌, ◌*◌, ◌<◌, ◌≤◌, true, ℤ, List, [], ◌∷◌, length, refl, ap, subst, sym, ◌∙◌, arith}
+use Rattle.std.proofs.Common.{◌≡◌, ℕ, ◌*◌, ◌≤◌, true, ℤ, List, [], ◌∷◌, length, ap, subst, sym, ◌∙◌, arith}
 use Rattle.cell_path.specs.declared.cell.Cell.{Cell}
 use Rattle.cell_path.specs.declared.cell.Step.{Step}
 use Rattle.cell_path.specs.declared.lengths.TheConstants.{LENGTHS}
@@ -12,7 +12,7 @@ use Rattle.path_front.specs.Steps.{path_steps, sounds_of}
 use Rattle.path_front.specs.Tiles.{cut}
 use Rattle.step_grid.specs.declared.grid.Grid.TheVariants.{Repeat}
 use Rattle.path_truth.specs.Intervals.{intervals_of_tape}
-use Rattle.path_truth.specs.Sound.{alone, IsSized, IsSoundOf}
+use Rattle.path_truth.specs.Sound.{IsSoundOf}
 use Rattle.path_truth.proofs.OnSides.{keeps-long}
 use Rattle.path_truth.proofs.PlainSound.{tape-in}
 use Rattle.path_truth.proofs.Rising.{length_least}

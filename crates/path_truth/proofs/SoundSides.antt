@@ -1,10 +1,9 @@
 -- The steps of samples that keep their level are on the sides of their samples.
-use Rattle.std.proofs.Common.{◌≡◌, ℕ, zero, suc, ◌+◌, ◌*◌, ◌≤◌, ℤ, pos, ◌<ℤ◌, unsigned_abs, List, [], ◌∷◌, ◌++◌}
-use Rattle.std.proofs.Common.{length, drop, map, replicate, refl, ap, subst, sym, ◌∙◌, arith}
+use Rattle.std.proofs.Common.{◌≡◌, ℕ, zero, suc, ◌≤◌, ℤ, pos, ◌<ℤ◌, unsigned_abs, List, [], ◌∷◌, ◌++◌}
+use Rattle.std.proofs.Common.{length, drop, map, replicate, refl, ap, subst, sym, arith}
 use Rattle.std.specs.List.{AllByRecursion}
 use Rattle.cell_path.specs.declared.cell.Cell.{Cell}
 use Rattle.cell_path.specs.declared.cell.Sign.{Sign}
-use Rattle.cell_path.specs.declared.cell.Step.{Step}
 use Rattle.cell_path.specs.declared.lengths.TheConstants.{LENGTHS}
 use Rattle.cell_path.specs.Lengths.{length_in}
 use Rattle.cell_path.specs.Path.{signed}
@@ -14,7 +13,7 @@ use Rattle.path_front.specs.Clip.{clip_at, clipped, clipped_to}
 use Rattle.path_front.specs.Grid.{on_grid}
 use Rattle.path_front.specs.Hold.{held_at, loudness_of}
 use Rattle.path_front.specs.Steps.{path_steps, sounds_of, with_held}
-use Rattle.path_truth.specs.Sides.{AreOnSide, IsOnSide, KeepsItsSides}
+use Rattle.path_truth.specs.Sides.{AreOnSide, KeepsItsSides}
 use Rattle.path_truth.specs.Sound.{alone, IsSized, IsSoundOf, KeepsItsLevel}
 use Rattle.path_truth.proofs.Clipping.{clip_at-least, clipped-sized, clipped_to-left}
 use Rattle.path_truth.proofs.Holding.{held-side}
@@ -102,7 +101,8 @@ heard-as least low high sample before keeps =
       sized = left.sized;
       plain = left.side;
       loud = omega (arith, left.sized.least, some);
-      side = λ sign on. held-side least low high sign (clipped_to most sample) (clipped before) level (left.side sign on);
+      side = λ sign on. held-side least low high sign (clipped_to most sample) (clipped before) level
+          (left.side sign on);
     }
 
 are-loud : (k least low high : ℕ) (samples : List ℤ) → KeepsItsLevel least low high samples

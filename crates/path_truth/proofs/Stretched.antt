@@ -1,6 +1,6 @@
--- Steps that are on the sides of others, so many for each of those, keep the sides of cells that are
--- so many times as long.
-use Rattle.std.proofs.Common.{◌≡◌, ℕ, zero, suc, ◌+◌, ◌*◌, ◌/◌, ◌%◌, List, [], ◌∷◌, length, drop, refl, ap, subst, sym}
+-- Steps that are on the sides of others, so many for each of those, keep the sides of cells that
+-- are so many times as long.
+use Rattle.std.proofs.Common.{◌≡◌, ℕ, zero, suc, ◌+◌, ◌*◌, ◌/◌, ◌%◌, List, [], ◌∷◌, length, drop, ap, subst}
 use Rattle.std.proofs.Common.{◌∙◌, arith}
 use Rattle.std.proofs.Math.Nat.{add-mul, suc-mul}
 use Rattle.std.proofs.lemmas.List.{drop-drop, length-drop}
@@ -59,7 +59,7 @@ like-sides k m One sign ones steps keeps like =
       omega (arith, whole),
       subst (λ n. AreOnSide sign n steps) half (like-on k h sign ones steps keeps.1 like),
       subst (λ n. AreOnSide (opposite sign) n (drop n steps)) half
-      (like-on k h (opposite sign) (drop h ones) (drop (h * k) steps) keeps.2 (like-drop k h ones steps like)),
+          (like-on k h (opposite sign) (drop h ones) (drop (h * k) steps) keeps.2 (like-drop k h ones steps like)),
     )
 
 nothing-like : (k : ℕ) (ones steps : List Step) → length ones ≡ 0 → AreLike k ones steps → length steps ≡ 0

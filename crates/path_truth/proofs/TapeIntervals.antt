@@ -1,6 +1,6 @@
 -- The intervals of the cells of a steady tape are those of its bits, with a tick cut off the front.
-use Rattle.std.proofs.Common.{◌≡◌, ℕ, zero, suc, ◌+◌, ◌-◌, ◌*◌, ◌/◌, ◌%◌, ◌<◌, ◌≤◌, min, Bool, true, false, ltb, ◌||◌}
-use Rattle.std.proofs.Common.{List, [], ◌∷◌, ◌++◌, length, drop, refl, ap, ap₂, sym, subst, ◌∙◌, arith, append_assoc}
+use Rattle.std.proofs.Common.{◌≡◌, ℕ, ◌+◌, ◌-◌, ◌*◌, ◌/◌, ◌%◌, ◌<◌, ◌≤◌, min, Bool, true, false, ltb, ◌||◌}
+use Rattle.std.proofs.Common.{List, [], ◌∷◌, ◌++◌, length, drop, refl, ap, ap₂, sym, subst, ◌∙◌, arith}
 use Rattle.std.proofs.Common.{append-nil}
 use Rattle.std.specs.List.{flat_map}
 use Rattle.std.specs.Int.{div_ceil}
@@ -13,7 +13,7 @@ use Rattle.cell_path.specs.declared.cell.Cell.{Cell}
 use Rattle.cell_path.specs.declared.cell.Sign.{Sign}
 use Rattle.cell_path.specs.declared.cell.Step.{Step}
 use Rattle.cell_path.specs.declared.lengths.TheConstants.{LENGTHS}
-use Rattle.cell_path.specs.Decided.{end_behind, placed}
+use Rattle.cell_path.specs.Decided.{placed}
 use Rattle.cell_path.specs.Lengths.{length_in}
 use Rattle.path_front.specs.declared.gate.Judged.{Judged}
 use Rattle.path_front.specs.declared.group.Sounds.{Sounds}
@@ -26,7 +26,8 @@ use Rattle.path_truth.specs.Intervals.{intervals_of_bit, intervals_of_tape}
 use Rattle.path_truth.specs.Sides.{KeepsSides}
 use Rattle.path_truth.specs.Sound.{alone}
 use Rattle.path_truth.proofs.FairCells.{long-most, AreFair}
-use Rattle.path_truth.proofs.MeasuredTape.{at, cell-fair, cells-fair, ends-at, next-tape, only-first-jumps, tape-long, IsTapeIn}
+use Rattle.path_truth.proofs.MeasuredTape.{at, cell-fair, cells-fair, ends-at, next-tape, only-first-jumps, tape-long}
+use Rattle.path_truth.proofs.MeasuredTape.{IsTapeIn}
 use Rattle.path_truth.proofs.FairFit.{times}
 use Rattle.path_truth.proofs.NoBreak.{neither, refuses-none}
 use Rattle.path_truth.proofs.Rising.{length_least}
@@ -50,7 +51,8 @@ halves : (n ticks : ℕ) → n % 2 ≡ 0 → 4 ≤ n → 1 ≤ ticks → AreHalv
 halves n ticks even some long =
     let h = n / 2 in
     let twice : n ≡ h + h = omega arith in
-    let whole : n * ticks ≡ h * ticks + h * ticks = subst (λ k. k * ticks ≡ h * ticks + h * ticks) (sym twice) (omega arith) in
+    let whole : n * ticks ≡ h * ticks + h * ticks =
+    subst (λ k. k * ticks ≡ h * ticks + h * ticks) (sym twice) (omega arith) in
     let least = two_ticks h ticks (omega (arith, some, twice)) long in
     record {
       second = omega (arith, whole, least);
@@ -107,7 +109,8 @@ bit-some long One = omega arith
 tape-some : (long : ℕ) (cell : Cell) (before : List Cell) → 0 < length (intervals_of_tape long (cell ∷ before))
 unfolding intervals_of_tape
 tape-some long cell before =
-    omega (arith, bit-some long cell.bit, length-append (intervals_of_tape long before) (intervals_of_bit long cell.bit))
+    let parts = length-append (intervals_of_tape long before) (intervals_of_bit long cell.bit) in
+    omega (arith, bit-some long cell.bit, parts)
 
 -- ---- all of them
 

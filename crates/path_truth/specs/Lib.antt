@@ -4,4 +4,5 @@ pub mod OnEnds
 pub mod Sides
 pub mod Sound
 pub mod Tape
+pub mod Wave
 pub mod Worked

@@ -18,12 +18,12 @@ pub record IsSized (low high : ℕ) (sample : ℤ) : Type 0 where
   pub least : low ≤ unsigned_abs sample
   pub most : unsigned_abs sample ≤ high
 
--- No sample has a smaller size than one number and a greater than another, which is 8/3 of the
+-- No sample has a smaller size than one number and a greater than another, which is 14/3 of the
 -- first at most. The first is the least threshold or more.
 pub record KeepsItsLevel (least low high : ℕ) (samples : List ℤ) : Type 0 where
   pub some : 1 ≤ low
   pub heard : least ≤ low
-  pub near : 3 * high ≤ 8 * low
+  pub near : 3 * high ≤ 14 * low
   pub sizes : AllByRecursion (IsSized low high) samples
 
 -- The samples are the sound of a steady tape: its cells have so many samples, each of which is some

@@ -1,11 +1,9 @@
-use Rattle.std.proofs.Common.{◌≡◌, ℕ, ◌*◌, ◌<◌, length, ap, subst, sym, ◌∙◌}
-use Rattle.cell_path.specs.declared.follow.TheConstants.{FIRST}
+use Rattle.std.proofs.Common.{ap, ◌∙◌}
 use Rattle.cell_path.specs.Decided.{placed}
 use Rattle.step_grid.specs.declared.grid.Grid.TheVariants.{Repeat}
 use Rattle.path_front.specs.Steps.{path_steps, sounds_of}
 use Rattle.path_truth.proofs.BestIsTape.{best_is_tape, tape_is_best}
-use Rattle.path_truth.proofs.ShortTape.{short_tape}
-use Rattle.path_truth.proofs.SoundLength.{sounds-length, steps-length}
+use Rattle.path_truth.proofs.DecidedSound.{decided_sound, many-steps}
 use Rattle.path_truth.proofs.SoundSides.{sound_keeps}
 use Rattle.path_truth.proofs.sound_laws.the_best_path_of_a_steady_sound_is_its_tape.Goals as goal
 
@@ -21,9 +19,6 @@ returns-clause-only c = λ place tape path repeats least low high samples is bes
     (sound_keeps place tape repeats least low high samples is) best
 
 pub returns-clause-decided : goal.returns-clause-decided
-returns-clause-decided c = λ place tape repeats least low high samples all is short are.
-    let sounds = sounds_of (Repeat repeats) least samples in
-    let long = steps-length sounds ∙ sounds-length repeats least samples in
-    short_tape c.a_short_sound_decides_nothing.ensures place tape (path_steps sounds) all is.steady
-    (sound_keeps place tape repeats least low high samples is) (subst (λ n. n < FIRST) (sym long) short) are
-    ∙ ap (λ n. placed n tape) long
+returns-clause-decided c = λ place tape repeats least low high samples all is on_ends are.
+    decided_sound c.a_short_sound_decides_nothing.ensures place tape repeats least low high samples is on_ends all are
+    ∙ ap (λ n. placed n tape) (many-steps repeats least samples)
