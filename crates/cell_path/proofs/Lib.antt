@@ -12,6 +12,7 @@ pub mod GivesNext
 pub mod GoesBack
 pub mod LengthsOfCells
 pub mod MarkedSoFar
+pub mod NearScores
 pub mod NextStep
 pub mod NumbersAgo
 pub mod OneBest
