@@ -11,6 +11,7 @@ pub mod FollowedBack
 pub mod GivesNext
 pub mod GoesBack
 pub mod LengthsOfCells
+pub mod Lowest
 pub mod MarkedSoFar
 pub mod NearScores
 pub mod NextStep

@@ -1,6 +1,7 @@
 pub mod Best
 pub mod Decided
 pub mod Decisions
+pub mod Four
 pub mod Kept
 pub mod KeptMarks
 pub mod Lengths
