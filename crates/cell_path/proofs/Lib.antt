@@ -12,10 +12,8 @@ pub mod GivesNext
 pub mod GoesBack
 pub mod LengthsOfCells
 pub mod Lowest
-pub mod MarkedSoFar
 pub mod NearScores
 pub mod NextStep
-pub mod NumbersAgo
 pub mod OneBest
 pub mod OneDecision
 pub mod OneMoreLength

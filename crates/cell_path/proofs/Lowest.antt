@@ -64,7 +64,7 @@ less_yes x y near is =
           let n = (low x + (2 ^ 32 - low y)) % 2 ^ 32 in
           let back : cast_unsigned w32 (x -ℤ y) ≡ n =
           sym (ap (cast_unsigned w32) e) ∙ of_z-to_z w32 n (omega arith) in
-          let small : cast_unsigned w32 (x -ℤ y) ≤ 2 ^ 30 = omega (arith, ints, more, a) in
+          let small : cast_unsigned w32 (x -ℤ y) ≤ 2 ^ 31 - 1 = omega (arith, ints, more, a) in
           absurd (omega (arith, back, small, is))
     ]
 

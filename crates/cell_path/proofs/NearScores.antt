@@ -27,7 +27,7 @@ use Rattle.cell_path.proofs.SoundOfBits.{drop-drop, signed-within, total-cons, t
 
 -- ---- the sound and the size of some steps
 
-steps_before : (n : ℕ) (steps : List Step) → AreSteps steps → AreSteps (drop n steps)
+pub steps_before : (n : ℕ) (steps : List Step) → AreSteps steps → AreSteps (drop n steps)
 steps_before zero steps are = are
 steps_before (suc n) [] are = are
 steps_before (suc n) (step ∷ steps) are = steps_before n steps are.1
@@ -44,7 +44,7 @@ total-within (suc n) (step ∷ steps) are =
     let t = total-within n steps are.1 in
     record { above = omega (arith, ints, e, s.above, t.above); below = omega (arith, ints, e, s.below, t.below) }
 
-sound-within : (bit : Bit) (n : ℕ) (steps : List Step) → AreSteps steps
+pub sound-within : (bit : Bit) (n : ℕ) (steps : List Step) → AreSteps steps
     → IsWithin (min n (length steps) * 2 ^ 16) (sound_in bit n steps)
 sound-within Zero n steps are = total-within n steps are
 sound-within One n steps are =
@@ -57,7 +57,7 @@ sound-within One n steps are =
       below = omega (arith, ints, a.above, a.below, b.above, b.below, e);
     }
 
-level-within : (steps : List Step) → AreSteps steps → level_at steps ≤ 2 ^ 15
+pub level-within : (steps : List Step) → AreSteps steps → level_at steps ≤ 2 ^ 15
 level-within [] are = omega arith
 level-within (step ∷ steps) are = are.0.level
 

@@ -20,7 +20,8 @@ pub record ScoresState : Type 0 where
   pub sums : SumsState
   pub rows : RowsState
 
--- the sums and the numbers are those of these steps, the latest first
+-- the sums and the numbers are those of these steps of a sound of 16 bits, the latest first
 pub record StandsFor (scores : ScoresState) (steps : List Step) : Type 0 where
+  pub are : AreSteps steps
   pub sums : SumsStandFor scores.sums steps
   pub rows : RowsStandFor scores.rows steps

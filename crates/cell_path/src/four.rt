@@ -1,5 +1,5 @@
 //! What 32 bits keep of the numbers of four steps in a row. Read next: `sums`.
-ghost use Rattle.std.specs.Prelude.{◌≡◌, ℕ, ◌^◌, ◌<◌, ℤ, pos, ◌+ℤ◌, ◌-ℤ◌, ◌*ℤ◌, ◌≤ℤ◌, ◌<ℤ◌, true, false};
+ghost use Rattle.std.specs.Prelude.{◌≡◌, ◌⊎◌, ℕ, ◌^◌, ◌<◌, ℤ, pos, ◌+ℤ◌, ◌-ℤ◌, ◌*ℤ◌, ◌≤ℤ◌, ◌<ℤ◌, true, false};
 ghost use Rattle.cell_path.specs.Four.{at_step, low, AreNear};
 
 /// The numbers of four steps, and a code that goes with each: a bit, a way or an end.
@@ -32,6 +32,7 @@ fn pick(number: u32, code: u32, other: u32, new: u32) -> One
         → result ≡ record { number = number; code = code } }
     ensures comes { (x y : ℤ) → number ≡ low x → other ≡ low y → AreNear x y → x <ℤ y
         → result ≡ record { number = other; code = new } }
+    ensures either { (result.code ≡ code) ⊎ (result.code ≡ new) }
 {
     if less(number, other) {
         One {
@@ -65,6 +66,8 @@ impl Four {
         ensures comes { (step : ℕ) (x y : ℤ) → step < 4 → at_step self.numbers step ≡ low x
             → at_step others step ≡ low y → AreNear x y → x <ℤ y
             → (at_step result.numbers step ≡ low y) × (at_step result.codes step ≡ code) }
+        ensures either { (step : ℕ) → step < 4
+            → (at_step result.codes step ≡ at_step self.codes step) ⊎ (at_step result.codes step ≡ code) }
     {
         let a = pick(self.numbers[0], self.codes[0], others[0], code);
         let b = pick(self.numbers[1], self.codes[1], others[1], code);
