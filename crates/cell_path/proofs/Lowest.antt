@@ -2,6 +2,7 @@
 -- tells which is the greater.
 use Rattle.std.proofs.Common.{◌≡◌, ℕ, zero, suc, ◌+◌, ◌-◌, ◌*◌, ◌%◌, ◌^◌, ◌<◌, ◌≤◌, ℤ, pos, neg_ℤ, ◌+ℤ◌, ◌-ℤ◌, ◌*ℤ◌}
 use Rattle.std.proofs.Common.{◌≤ℤ◌, ◌<ℤ◌, ◌⊎◌, inl, inr, List, [], ◌∷◌, ap, ap₂, sym, ◌∙◌, arith, FitsSigned, to_z-of_z}
+use Rattle.std.proofs.Math.Nat.{mul_comm}
 use Rattle.std.specs.Int.{w32, cast_signed, cast_unsigned, int_wrap}
 use Rattle.std.proofs.lemmas.Int.{ints, fits_signed_from_abs, int_wrap-add_left, int_wrap-add_right, int_wrap-mul_left}
 use Rattle.std.proofs.lemmas.Int.{int_wrap-sub_right, int_wrap_fits, of_z-to_z, wrapping_add-bits, wrapping_mul-bits}
@@ -41,6 +42,16 @@ low-times x by few =
     ∙ ap (cast_unsigned w32) (wrapping_mul-bits w32 (low x) by (low_fits x) (omega (arith, few))
     ∙ ap₂ (λ a b. int_wrap w32 (a *ℤ b)) (signed_low x) same
     ∙ int_wrap-mul_left w32 x (pos by))
+
+-- so many times a natural
+pub low-times_natural : (n by : ℕ) → by < 2 ^ 31 → (low (pos n) * by) % 2 ^ 32 ≡ low (pos (by * n))
+low-times_natural n by few = low-times (pos n) by few ∙ ap (λ m. low (pos m)) (mul_comm n by)
+
+-- a natural that is not too great is kept whole
+pub low_small : (n : ℕ) → n < 2 ^ 31 → n ≡ low (pos n)
+low_small n few =
+    let f : FitsSigned w32 (pos n) = grind (arith, ints, fits_signed_from_abs) in
+    sym (ap (cast_unsigned w32) (int_wrap_fits w32 (pos n) f))
 
 -- a number of 32 bits with a sign is kept whole
 pub low_fits_signed : (x : ℤ) → FitsSigned w32 x → cast_unsigned w32 x ≡ low x

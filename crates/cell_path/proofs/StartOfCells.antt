@@ -16,13 +16,15 @@ use Rattle.cell_path.specs.declared.lengths.TheConstants.{LENGTHS}
 use Rattle.cell_path.specs.Best.{rank_of_way}
 use Rattle.cell_path.specs.Four.{at_step, low, AreNear}
 use Rattle.cell_path.specs.Marks.{way_from}
-use Rattle.cell_path.specs.Number.{Begins, IsEnd}
+use Rattle.cell_path.specs.Number.{Begins, IsBestEnd, IsEnd}
 use Rattle.cell_path.specs.Path.{level_at}
 use Rattle.cell_path.specs.Scores.{AreSteps}
 use Rattle.cell_path.specs.StandsFor.{end_at, steps_at, IsEndAt, IsStartAt}
 use Rattle.cell_path.specs.Started.{AreStartsOf, IsStartSoFar}
 use Rattle.cell_path.specs.Trying.{IsBestBefore, IsBestOfWay}
 use Rattle.cell_path.proofs.BestBeginning.{all_tried, same_best, way_comes, way_fails, way_stays}
+use Rattle.cell_path.proofs.BestEnd.{bit_at, has_bit_at}
+use Rattle.cell_path.proofs.Lowest.{low_small}
 use Rattle.cell_path.proofs.NearScores.{level-within, near_ends, steps_before}
 
 below_or_above : (a b : ℤ) → (b ≤ℤ a) ⊎ (a <ℤ b)
@@ -51,8 +53,16 @@ first_start steps place sign four result step within long are end numbers code =
       );
     }
 
+-- the mean size is kept whole
+pub level_kept : (levels : List ℕ) (steps : List Step) (step : ℕ) → AreSteps steps
+    → at_step levels step ≡ level_at (steps_at step steps)
+    → at_step levels step ≡ low (pos (level_at (steps_at step steps)))
+level_kept levels steps step are is =
+    let level = level-within (steps_at step steps) (steps_before (3 - step) steps are) in
+    is ∙ low_small (level_at (steps_at step steps)) (omega (arith, level))
+
 -- the score that a way has: that of an end, less what the way costs
-record Behind (S : List Step) (new : ℤ) : Type 0 where
+pub record Behind (S : List Step) (new : ℤ) : Type 0 where
   place : ℕ
   sign : Sign
   number : ℤ
@@ -134,6 +144,20 @@ or_way steps place sign so_far others code step result more new end bit are end_
                 (omega (arith, ints, o.0, above), omega (arith, ints, d.1, new_is));
           }
     ]
+
+-- the best path of all is the best that ends as it does
+pub best_is_end : (steps : List Step) (place : ℕ) (sign : Sign) (number : ℤ)
+    (best : IsBestEnd LENGTHS steps place sign number) → IsEnd LENGTHS steps place sign number (bit_at best.path)
+best_is_end steps place sign number best = record {
+  path = best.path;
+  is_best = record {
+    is_path = best.is_best.is_path;
+    ends = best.ends;
+    wins = λ other is ends. best.is_best.wins other is;
+  };
+  number_is = best.number_is;
+  bit_is = has_bit_at place sign best.path best.ends;
+}
 
 -- a way that leads nowhere
 pub no_way : (steps : List Step) (place : ℕ) (sign : Sign) (so_far : Four) (step : ℕ) (more : Way)

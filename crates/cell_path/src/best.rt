@@ -5,6 +5,7 @@ ghost use Rattle.cell_path.specs.Four.{at_step};
 ghost use Rattle.cell_path.specs.Scores.{AreSteps};
 ghost use Rattle.cell_path.specs.StandsFor.{AreEnds, IsBestAt};
 
+use crate::cell::Sign;
 use crate::ends::Ends;
 use crate::four::Four;
 use crate::lengths::PLACES;
@@ -15,12 +16,12 @@ pub(crate) fn best_of_all(ends: &Ends) -> Four
         → AreEnds 45 ends.now steps step → IsBestAt steps result step }
     ensures codes { (step : ℕ) → step < 4 → at_step result.codes step < 90 }
 {
-    let mut best = Four::first(ends.plus[0].numbers).or(ends.minus[0].numbers, 1);
+    let mut best = Four::first(ends.at(0, Sign::Plus).numbers).or(ends.at(0, Sign::Minus).numbers, 1);
     for place in 1..PLACES {
         let code = 2 * place as u32;
         best = best
-            .or(ends.plus[place].numbers, code)
-            .or(ends.minus[place].numbers, code + 1);
+            .or(ends.at(place, Sign::Plus).numbers, code)
+            .or(ends.at(place, Sign::Minus).numbers, code + 1);
     }
     best
 }

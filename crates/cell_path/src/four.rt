@@ -1,5 +1,5 @@
 //! What 32 bits keep of the numbers of four steps in a row. Read next: `sums`.
-ghost use Rattle.std.specs.Prelude.{◌≡◌, ◌⊎◌, ℕ, ◌^◌, ◌<◌, ℤ, pos, ◌+ℤ◌, ◌-ℤ◌, ◌*ℤ◌, ◌≤ℤ◌, ◌<ℤ◌, true, false};
+ghost use Rattle.std.specs.Prelude.{◌≡◌, ◌⊎◌, ℕ, ◌*◌, ◌^◌, ◌<◌, ℤ, pos, ◌+ℤ◌, ◌-ℤ◌, ◌≤ℤ◌, ◌<ℤ◌, true, false};
 ghost use Rattle.cell_path.specs.Four.{at_step, low, AreNear};
 
 /// The numbers of four steps, and a code that goes with each: a bit, a way or an end.
@@ -112,7 +112,7 @@ pub(crate) fn minus(a: [u32; 4], b: [u32; 4]) -> [u32; 4]
 #[inline(always)]
 pub(crate) fn times(a: [u32; 4], by: u32) -> [u32; 4]
     requires { by < 2 ^ 31 }
-    ensures { (step : ℕ) (x : ℤ) → step < 4 → at_step a step ≡ low x → at_step result step ≡ low (x *ℤ pos by) }
+    ensures { (step n : ℕ) → step < 4 → at_step a step ≡ low (pos n) → at_step result step ≡ low (pos (by * n)) }
 {
     [
         a[0].wrapping_mul(by),
