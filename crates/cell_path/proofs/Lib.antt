@@ -12,6 +12,7 @@ pub mod GivesNext
 pub mod GoesBack
 pub mod LengthsOfCells
 pub mod Lowest
+pub mod MarkedSteps
 pub mod MarksOfFour
 pub mod NearScores
 pub mod NextStep

@@ -1,0 +1,92 @@
+use Rattle.std.proofs.Common.{◌≡◌, ℕ, ◌/◌, ◌%◌, ◌<◌, ◌≤◌, List, [], ◌∷◌, length, arith, ap, refl, subst, sym, ◌∙◌}
+use Rattle.cell_path.specs.declared.cell.Sign.{Sign}
+use Rattle.cell_path.specs.declared.cell.Step.{Step}
+use Rattle.cell_path.specs.declared.mark.FourMarks.{FourMarks}
+use Rattle.cell_path.specs.declared.mark.StepMarks.{StepMarks}
+use Rattle.cell_path.specs.Four.{at_step}
+use Rattle.cell_path.specs.Marks.{sign_from}
+use Rattle.cell_path.specs.Scores.{AreSteps, StandsFor}
+use Rattle.cell_path.specs.StandsFor.{AreEnds, IsBestAt}
+use Rattle.cell_path.specs.Started.{marks_of, AreStartsOf}
+use Rattle.cell_path.proofs.Lowest.{at_each_step}
+use Rattle.cell_path.proofs.MarkedSteps.{four_more, levels_are, marked_step}
+use Rattle.cell_path.proofs.NextStep.{rows_fed}
+use Rattle.cell_path.proofs.scores.Scores.feed.Goals as goal
+
+-- the marks before a length has been marked
+abbrev first : goal.After-turn → FourMarks
+first c = record {
+  first = c.no_marks_yet.result;
+  second = c.no_marks_yet-2.result;
+  third = c.no_marks_yet-3.result;
+  fourth = c.no_marks_yet-4.result;
+}
+
+place_first : (c : goal.After-turn) (step : ℕ) → step < 4
+    → (marks_of (first c) step).best_place ≡ at_step c.best_of_all-best.result.codes step / 2
+place_first c = at_each_step (λ s. (marks_of (first c) s).best_place ≡ at_step c.best_of_all-best.result.codes s / 2)
+    (ap (λ (m : StepMarks). m.best_place) c.no_marks_yet.ensures)
+    (ap (λ (m : StepMarks). m.best_place) c.no_marks_yet-2.ensures)
+    (ap (λ (m : StepMarks). m.best_place) c.no_marks_yet-3.ensures)
+    (ap (λ (m : StepMarks). m.best_place) c.no_marks_yet-4.ensures)
+
+sign_first : (c : goal.After-turn) (step : ℕ) → step < 4
+    → (marks_of (first c) step).best_sign ≡ sign_from (at_step c.best_of_all-best.result.codes step % 2)
+sign_first c = at_each_step (λ s. (marks_of (first c) s).best_sign
+    ≡ sign_from (at_step c.best_of_all-best.result.codes s % 2))
+    (ap (λ (m : StepMarks). m.best_sign) c.no_marks_yet.ensures)
+    (ap (λ (m : StepMarks). m.best_sign) c.no_marks_yet-2.ensures)
+    (ap (λ (m : StepMarks). m.best_sign) c.no_marks_yet-3.ensures)
+    (ap (λ (m : StepMarks). m.best_sign) c.no_marks_yet-4.ensures)
+
+-- what is known at each of the four steps
+starts_of : (c : goal.After-turn) (steps : List Step) → AreSteps (c.args.d ∷ c.args.c ∷ c.args.b ∷ c.args.a ∷ [])
+    → StandsFor (record { sums = c.self.inside.sums; rows = c.self.inside.rows }) steps → (step : ℕ) → step < 4
+    → AreStartsOf c.best_ends-ends.result c.best_of_all-best.result
+    (c.args.a.level ∷ c.args.b.level ∷ c.args.c.level ∷ c.args.d.level ∷ [])
+    (c.args.d ∷ c.args.c ∷ c.args.b ∷ c.args.a ∷ steps) step
+starts_of c steps four stand step within =
+    let all = c.args.d ∷ c.args.c ∷ c.args.b ∷ c.args.a ∷ steps in
+    let long : 4 ≤ length all = omega arith in
+    let are = four_more c.args.a c.args.b c.args.c c.args.d steps four stand.are in
+    let ends = c.best_ends-ends.ensures.ends step all within long are (c.push.ensures.stands steps four stand.sums)
+    stand.rows in
+    record {
+      within = within;
+      long = long;
+      are_steps = are;
+      level = levels_are c.args.a c.args.b c.args.c c.args.d steps step within;
+      are_ends = ends;
+      is_best = c.best_of_all-best.ensures.best step all within long are ends;
+    }
+
+pub returns-clause-stands : goal.returns-clause-stands
+returns-clause-stands c = λ steps four stand_now.
+    let stand : StandsFor (record { sums = c.self.inside.sums; rows = c.self.inside.rows }) steps =
+    subst (λ s. StandsFor s steps) (sym c.self.view_is) stand_now in
+    let all = c.args.d ∷ c.args.c ∷ c.args.b ∷ c.args.a ∷ steps in
+    record {
+      are = four_more c.args.a c.args.b c.args.c c.args.d steps four stand.are;
+      sums = c.push.ensures.stands steps four stand.sums;
+      rows = rows_fed c.self.inside.rows c.best_starts.new.rows c.turn.new.self c.best_starts.new.marks
+          c.best_ends-ends.result all steps refl (omega arith) stand.rows c.best_starts.ensures.keeps.numbers
+          (λ step within. c.best_starts.ensures.started step all (starts_of c steps four stand step within))
+          c.turn.ensures.latest c.turn.ensures.others;
+    }
+
+pub returns-clause-marked : goal.returns-clause-marked
+returns-clause-marked c = λ step steps within four stand_now.
+    let stand : StandsFor (record { sums = c.self.inside.sums; rows = c.self.inside.rows }) steps =
+    subst (λ s. StandsFor s steps) (sym c.self.view_is) stand_now in
+    let all = c.args.d ∷ c.args.c ∷ c.args.b ∷ c.args.a ∷ steps in
+    let known = starts_of c steps four stand step within in
+    marked_step all step c.best_starts.new.rows (first c) c.best_starts.new.marks c.best_ends-ends.result
+    c.best_of_all-best.result (c.best_starts.ensures.started step all known) known.are_ends known.is_best
+    c.best_starts.ensures.best (place_first c step within) (sign_first c step within)
+
+pub returns-clause-places : goal.returns-clause-places
+returns-clause-places c = λ step within.
+    let e = c.best_starts.ensures.best.places step in
+    let f = place_first c step within in
+    let g = c.best_of_all-best.ensures.codes step within in
+    omega (arith, e, f, g)
