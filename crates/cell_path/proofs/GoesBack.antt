@@ -184,6 +184,19 @@ marks_fed marks new step steps long stand comes = record {
   marked = λ ago near within. marked-by marks new step steps ago long stand comes near within;
 }
 
+-- some steps are taken back
+pub undone_marks : (marks : MarksState) (n : ℕ) → n ≤ marks.count → AreMarks marks
+    → AreMarks (record { ring = marks.ring; count = marks.count - n })
+undone_marks marks n few are = record {
+  long = are.long;
+  count = let c = are.count in omega (arith, c);
+  places = λ ago near.
+      let same : (marks.count + 4_096 - (n + ago) % 4_096) % 4_096 ≡ (marks.count - n + 4_096 - ago) % 4_096 =
+      omega (arith, few, near) in
+      subst (λ k. (get_or marks.ring k no_marks).best_place < 45) same
+      (are.places ((n + ago) % 4_096) (omega arith));
+}
+
 abbrev empty_marks : StepMarks
 empty_marks = record { marks = replicate 45 0; best_place = 0; best_sign = Plus }
 

@@ -6,9 +6,8 @@ use Rattle.cell_path.specs.declared.placed.Decided.{Decided}
 use Rattle.cell_path.specs.declared.placed.Placed.{Placed}
 use Rattle.cell_path.specs.Decided.{end_behind, jumps, latest_of, AreDecided, AreDecidedInAll}
 use Rattle.cell_path.specs.Spaced.{AreSpaced}
-use Rattle.cell_path.specs.Pending.{steps_of}
-use Rattle.cell_path.specs.Scores.{AreSteps}
-use Rattle.cell_path.specs.Paths.{PathsState, PathsStandFor}
+use Rattle.cell_path.specs.Pending.{StandsWith}
+use Rattle.cell_path.specs.Paths.{PathsState}
 
 -- the paths, the steps that wait for others, how many steps there were, where the decided cells end, those that wait, and the last one given
 pub record DecisionsState : Type 0 where
@@ -37,10 +36,7 @@ pub record AreDecisions (state : DecisionsState) : Type 0 where
 
 -- what was given and what waits is what is decided after these steps
 pub record DecisionsStandFor (state : DecisionsState) (steps : List Step) (given : List Placed) : Type 0 where
-  pub before : List Step
-  pub paths : PathsStandFor state.paths before
-  pub steps_are : steps ≡ steps_of state.pending (state.count % 4) ++ before
-  pub waits : AreSteps (steps_of state.pending 3)
+  pub stands : StandsWith state.paths state.pending state.count steps
   pub count : state.count ≡ length steps
   pub decided : AreDecided steps (state.waiting ++ given)
   pub done : state.done ≡ end_behind 0 (state.waiting ++ given)

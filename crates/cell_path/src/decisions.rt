@@ -9,7 +9,7 @@ ghost use Rattle.cell_path.specs.Scores.{IsStep};
 use crate::cell::Step;
 use crate::follow::{DELAY, EVERY, FIRST, decide};
 use crate::paths::Paths;
-use crate::pending::Pending;
+use crate::pending::{Pending, take};
 use crate::placed::{Decided, Placed, jumps};
 use crate::waiting::Waiting;
 use std::marker::Model;
@@ -79,15 +79,7 @@ impl Decisions {
         ensures last { self.new.last ≡ self.old.last }
         ensures many { length self.new.waiting ≤ 1_024 }
     {
-        let pending = self.pending;
-        match self.count % 4 {
-            0 => self.pending.first = step,
-            1 => self.pending.second = step,
-            2 => self.pending.third = step,
-            _ => self
-                .paths
-                .feed(pending.first, pending.second, pending.third, step),
-        }
+        take(&mut self.paths, &mut self.pending, self.count, step);
         self.count += 1;
         if FIRST <= self.count && self.count % EVERY == 0 {
             decide(
@@ -111,9 +103,7 @@ impl Decisions {
     {
         if 0 < self.count {
             let left = self.count % 4;
-            if left > 0 {
-                self.paths.finish(self.pending, left);
-            }
+            self.paths.finish(self.pending, left);
             decide(
                 &self.paths,
                 0,

@@ -59,24 +59,28 @@ impl Paths {
         self.marks.push(marks.fourth);
     }
 
-    /// Takes the last steps of a sound, which are one, two or three.
+    /// Takes the last steps of a sound, fewer than four.
     pub fn finish(&mut self, pending: Pending, count: u64)
         requires room { self.old.marks.count ≤ 2 ^ 40 }
-        requires some { 0 < count }
         requires few { count < 4 }
         ensures count { self.new.marks.count ≡ self.old.marks.count + count }
         ensures stands { (steps : List Step) → AreSteps (steps_of pending 3) → PathsStandFor self.old steps
             → MarksStandFor self.new.marks (steps_of pending count ++ steps) }
     {
+        if count == 0 {
+            return;
+        }
         let silence = Step { sound: 0, level: 0 };
         let marks = self.scores.feed(pending.first, pending.second, pending.third, silence);
         self.marks.push(marks.first);
-        if count > 1 {
-            self.marks.push(marks.second);
+        if count == 1 {
+            return;
         }
-        if count > 2 {
-            self.marks.push(marks.third);
+        self.marks.push(marks.second);
+        if count == 2 {
+            return;
         }
+        self.marks.push(marks.third);
     }
 
     /// Takes back the last steps of a sound, of which only the marks are left.
