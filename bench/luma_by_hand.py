@@ -65,7 +65,7 @@ class Row:
     def at(place, eighths):
         """Where so many eighths of a cell of the word end."""
         first, last = place
-        return (640 * first + eighths * (last - first) - 8 * (last - first)) // 640
+        return max(0, 640 * first + eighths * (last - first) - 8 * (last - first)) // 640
 
     def fits(self, place):
         first, last = place
@@ -73,10 +73,7 @@ class Row:
 
     def worth(self, place):
         """The sum of the nine falls."""
-        return sum(
-            self.fall(self.at(place, 80 * pair), self.at(place, 80 * pair + 8), self.at(place, 80 * pair + 16))
-            for pair in range(PAIRS)
-        )
+        return sum(self.pair_falls(place))
 
     def fine(self, place):
         step = 2 * self.grain
@@ -86,13 +83,20 @@ class Row:
             step //= 2
         return place
 
+    def pair_falls(self, place):
+        """The falls of the nine pairs."""
+        return [
+            self.fall(self.at(place, 80 * pair), self.at(place, 80 * pair + 8), self.at(place, 80 * pair + 16))
+            for pair in range(PAIRS)
+        ]
+
     def earliest(self, place):
-        """The earliest of the places up to eight cells before this one whose falls lack half a fall of it at most."""
-        own = max(0, self.worth(place))
-        for cells in range(8, 0, -1):
-            less = cells * (place[1] - place[0]) // 80
-            other = (place[0] - less, place[1] - less)
-            if other[0] > 0 and self.fits(other) and own - max(0, self.worth(other)) <= own // 18:
+        """The earliest place within eight cells of this one at which each pair falls half as much as nine do here."""
+        apart, nine = place[1] - place[0], max(0, self.worth(place))
+        for cells in range(16, -1, -1):
+            first, last = (end + apart // 10 - cells * apart // 80 for end in place)
+            other = (max(0, first), last)
+            if all(18 * max(0, fall) >= nine for fall in self.pair_falls(other)):
                 return other
         return place
 
@@ -109,6 +113,10 @@ class Row:
 
     # What it says
 
+    def cell(self, begin, end):
+        """The light of a part, beyond that of the darkest pixel."""
+        return max(0, self.light(end) - self.light(begin) - min(self.pixels) * (end - begin))
+
     def code(self):
         """The place of the word, the swing and the heights of the 90 bits, or None."""
         if max(self.pixels) - min(self.pixels) < 8:
@@ -117,9 +125,7 @@ class Row:
         if place is None:
             return None
         place = self.earliest(self.fine(place))
-        cells = [
-            self.light(self.at(place, 8 * cell + 7)) - self.light(self.at(place, 8 * cell + 1)) for cell in range(CELLS)
-        ]
+        cells = [self.cell(self.at(place, 8 * cell + 1), self.at(place, 8 * cell + 7)) for cell in range(CELLS)]
         swings = [cells[10 * pair] - cells[10 * pair + 1] for pair in range(PAIRS)]
         swing = sum(swings)
         if 160 * swing < 81 * (place[1] - place[0]) or sum(72 * one >= swing for one in swings) < 7:

@@ -36,6 +36,7 @@ struct Found {
 struct Row {
     light: Vec<i64>,
     width: i64,
+    darkest: i64,
 }
 
 impl Row {
@@ -46,7 +47,8 @@ impl Row {
                 light.push(light[light.len() - 1] + *pixel as i64);
             }
         }
-        Row { light, width: pixels.len() as i64 }
+        let darkest = pixels.iter().min().map_or(0, |pixel| *pixel as i64);
+        Row { light, width: pixels.len() as i64, darkest }
     }
 
     /// The light up to a place: behind the row nothing more comes.
@@ -94,8 +96,12 @@ impl Row {
         self.fall(16 * pixel, 16 * pixel - reach, 16 * pixel + reach)
     }
 
+    fn pair(&self, place: Place, j: i64) -> i64 {
+        self.fall(place.at(80 * j + 8), place.at(80 * j), place.at(80 * j + 16))
+    }
+
     fn sum(&self, place: Place) -> i64 {
-        (0..9).map(|j| self.fall(place.at(80 * j + 8), place.at(80 * j), place.at(80 * j + 16))).sum()
+        (0..9).map(|j| self.pair(place, j)).sum()
     }
 
     fn fits(&self, place: Place) -> bool {
@@ -128,19 +134,25 @@ impl Row {
         place
     }
 
-    /// The place, or the earliest up to eight cells before it whose falls lack half a fall of it at most.
+    /// The earliest place from eight cells before this one to eight behind it at which each pair falls half as much as
+    /// the nine pairs do here in the mean; or this one.
     fn earliest(&self, place: Place) -> Place {
-        let own = self.sum(place).max(0);
-        let earlier = |cells| {
-            let less = cells * (place.v - place.u) / 80;
-            Place { u: place.u - less, v: place.v - less }
+        let (nine, apart) = (self.sum(place).max(0), place.v - place.u);
+        let earlier = |cells: i64| {
+            let less = cells * apart / 80 - apart / 10;
+            Place { u: (place.u - less).max(0), v: place.v - less }
         };
-        let falls_nearly = |other: &Place| self.fits(*other) && own - self.sum(*other).max(0) <= own / 18;
-        (1..=8).rev().map(earlier).filter(|other| other.u > 0).find(falls_nearly).unwrap_or(place)
+        let all_fall = |other: &Place| (0..9).all(|j| 18 * self.pair(*other, j).max(0) >= nine);
+        (0..=16).rev().map(earlier).find(all_fall).unwrap_or(place)
+    }
+
+    /// The light of a part, beyond that of the darkest pixel.
+    fn cell(&self, from: i64, to: i64) -> i64 {
+        (self.up_to(to) - self.up_to(from) - self.darkest * (to - from)).max(0)
     }
 
     fn cells(&self, place: Place) -> Vec<i64> {
-        (0..90).map(|i| self.up_to(place.at(8 * i + 7)) - self.up_to(place.at(8 * i + 1))).collect()
+        (0..90).map(|i| self.cell(place.at(8 * i + 1), place.at(8 * i + 7))).collect()
     }
 }
 
@@ -148,7 +160,7 @@ impl Place {
     /// Where so many eighths of a cell of the word end.
     fn at(self, eighths: i64) -> i64 {
         let apart = self.v - self.u;
-        (640 * self.u + eighths * apart - 8 * apart) / 640
+        (640 * self.u + eighths * apart - 8 * apart).max(0) / 640
     }
 }
 

@@ -163,7 +163,7 @@ behind_longer : (place from : ℕ) (sign : Sign) (path : List Cell) → from ≡
 behind_longer place from sign [] next ends = absurd ends
 behind_longer place from sign (cell ∷ path) next ends = (omega (arith, ends.0), ends.1)
 
-behind_jump : (place : ℕ) (sign : Sign) (path : List Cell) → Follows Jump place sign path
+pub behind_jump : (place : ℕ) (sign : Sign) (path : List Cell) → Follows Jump place sign path
 behind_jump place sign [] = refl
 behind_jump place sign (cell ∷ path) = tt
 

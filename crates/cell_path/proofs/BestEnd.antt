@@ -82,11 +82,11 @@ either_wins lengths steps place sign low high way other_way s path zero one over
     (score lengths steps other) other
     over_one (beats_bit lengths steps place One sign high other_way one other is ends has)
 
-bit_at : List Cell → Bit
+pub bit_at : List Cell → Bit
 bit_at [] = Zero
 bit_at (cell ∷ before) = cell.bit
 
-has_bit_at : (place : ℕ) (sign : Sign) (path : List Cell) → EndsIn place sign path → HasBit (bit_at path) path
+pub has_bit_at : (place : ℕ) (sign : Sign) (path : List Cell) → EndsIn place sign path → HasBit (bit_at path) path
 unfolding bit_at
 has_bit_at place sign [] ends = absurd ends
 has_bit_at place sign (cell ∷ before) ends = refl

@@ -16,6 +16,7 @@ use Rattle.cell_path.specs.declared.lengths.TheConstants.{LENGTHS, JUMP}
 use Rattle.cell_path.specs.declared.placed.Placed.{Placed}
 use Rattle.cell_path.specs.Best.{rank_of_way, IsBestOfAll}
 use Rattle.cell_path.specs.Decided.{end_behind, is_due, newly, Adds, AreDecided, AreDecidedInAll}
+use Rattle.cell_path.specs.Four.{low}
 use Rattle.cell_path.specs.Lengths.{length_in}
 use Rattle.cell_path.specs.Number.{score_before, IsBeginning, IsBestEnd, IsEnd}
 use Rattle.cell_path.specs.Path.{level_at, signed, sign_before, sound_in}
@@ -241,8 +242,8 @@ next_begin step steps begin (suc ago) place sign within =
 
 nothing_begun : Begin []
 nothing_begun ago place sign within =
-    let is = empty_beginning ago place sign (score_before LENGTHS [] ago place Jump []) refl in
-    record { number = score_before LENGTHS [] ago place Jump []; way = is.way; is = is.is }
+    let is = empty_beginning ago place sign (low (score_before LENGTHS [] ago place Jump [])) refl in
+    record { number = is.number; way = is.way; is = is.is }
 
 all_begin : (steps : List Step) → Begin steps
 all_begin [] = nothing_begun

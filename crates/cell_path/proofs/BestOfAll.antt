@@ -1,7 +1,8 @@
 -- The best of all paths is the first of the best that end in each length and sign, tried one after another.
-use Rattle.std.proofs.Common.{◌≡◌, ℕ, ◌+◌, ◌*◌, ◌<◌, ℤ, ◌<ℤ◌, ◌≤ℤ◌, ◌⊎◌, inl, inr, List, [], ◌∷◌, length, refl, ap}
-use Rattle.std.proofs.Common.{subst, sym, arith}
+use Rattle.std.proofs.Common.{◌≡◌, ℕ, ◌+◌, ◌-◌, ◌*◌, ◌<◌, ◌≤◌, ℤ, ◌<ℤ◌, ◌≤ℤ◌, ◌⊎◌, inl, inr, List, [], ◌∷◌, length, refl, ap}
+use Rattle.std.proofs.Common.{subst, sym, ◌∙◌, arith}
 use Rattle.std.proofs.lemmas.Int.{ints}
+use Rattle.std.proofs.lemmas.List.{length-drop}
 use Rattle.cell_path.specs.declared.cell.Bit.{Bit}
 use Rattle.cell_path.specs.declared.cell.Bit.TheVariants.{Zero, One}
 use Rattle.cell_path.specs.declared.cell.Cell.{Cell}
@@ -14,12 +15,14 @@ use Rattle.cell_path.specs.Best.{rank, rank_of_bit, rank_of_sign, rank_of_way, E
 use Rattle.cell_path.specs.Number.{IsBestEnd, IsEnd}
 use Rattle.cell_path.specs.Path.{score, IsPath}
 use Rattle.cell_path.specs.Trying.{end_number, EndsBelow, IsBestBelow}
-use Rattle.cell_path.specs.declared.best.Best.{Best}
+use Rattle.cell_path.specs.declared.ends.Ends.{Ends}
+use Rattle.cell_path.specs.declared.four.Four.{Four}
 use Rattle.cell_path.specs.declared.lengths.TheConstants.{LENGTHS}
-use Rattle.cell_path.specs.declared.numbers.Numbers.{Numbers}
-use Rattle.cell_path.specs.Kept.{number_at, AreWithin}
-use Rattle.cell_path.specs.StandsFor.{NumbersEnd}
-use Rattle.cell_path.specs.Within.{IsWithin}
+use Rattle.cell_path.specs.Four.{at_step, low, AreNear}
+use Rattle.cell_path.specs.Scores.{AreSteps}
+use Rattle.cell_path.specs.StandsFor.{end_at, steps_at, AreEnds, IsBestAt}
+use Rattle.cell_path.proofs.BestEnd.{bit_at, has_bit_at}
+use Rattle.cell_path.proofs.NearScores.{near_ends, steps_before}
 use Rattle.cell_path.proofs.Order.{wins-along, wins_by-rank}
 
 pub sign_is_low : (sign : Sign) → rank_of_sign sign < 2
@@ -159,49 +162,131 @@ best_of_all lengths steps place sign number some best = record {
   };
 }
 
--- the best of the first `most` ends, whatever steps they stand for
-pub record BestSoFar (ends : Numbers) (most : ℕ) (so_far : Best) : Type 0 where
-  pub best : (steps : List Step) → NumbersEnd ends steps → IsBestBelow LENGTHS steps most so_far.place so_far.sign
-      so_far.number
-  pub size : (bound : ℕ) → AreWithin bound ends → IsWithin bound so_far.number
-  pub end : so_far.place < 45
+-- the best of the first `most` ends, at one of the latest four steps
+pub record IsBestSoFar (steps : List Step) (most : ℕ) (so_far : Four) (step : ℕ) : Type 0 where
+  pub place : ℕ
+  pub sign : Sign
+  pub number : ℤ
+  pub is : IsBestBelow LENGTHS (steps_at step steps) most place sign number
+  pub kept : at_step so_far.numbers step ≡ low number
+  pub code : at_step so_far.codes step ≡ end_number place sign
+
+-- whatever steps the ends stand for
+pub record BestSoFar (ends : Ends) (most : ℕ) (so_far : Four) : Type 0 where
+  pub best : (step : ℕ) (steps : List Step) → step < 4 → 4 ≤ length steps → AreSteps steps
+      → AreEnds 45 ends steps step → IsBestSoFar steps most so_far step
+  pub codes : (step : ℕ) → step < 4 → at_step so_far.codes step < most
 
 below_or_above : (a b : ℤ) → (b ≤ℤ a) ⊎ (a <ℤ b)
 below_or_above a b = grind (arith, ints)
 
-abbrev pub best_at : ℤ → ℕ → Sign → Best
-best_at number place sign = record { number = number; place = place; sign = sign }
+-- a path with one end is below the next
+ends_before : (most place : ℕ) (sign : Sign) (path : List Cell) → end_number place sign < most → EndsIn place sign path
+    → EndsBelow most path
+ends_before most place sign [] low ends = absurd ends
+ends_before most place sign (cell ∷ before) low ends =
+    let r : rank_of_sign cell.sign ≡ rank_of_sign sign = ap rank_of_sign ends.1 in omega (arith, ends.0, low, r)
+
+-- the best so far is the best that ends as it does
+pub below_is_end : (steps : List Step) (most place : ℕ) (sign : Sign) (number : ℤ)
+    (best : IsBestBelow LENGTHS steps most place sign number)
+    → IsEnd LENGTHS steps place sign number (bit_at best.path)
+below_is_end steps most place sign number best = record {
+  path = best.path;
+  is_best = record {
+    is_path = best.is_path;
+    ends = best.ends;
+    wins = λ other is ends. best.wins other is (ends_before most place sign other best.below ends);
+  };
+  number_is = best.number_is;
+  bit_is = has_bit_at place sign best.path best.ends;
+}
 
 -- the better of the best so far and one more end
-pub or_end : (ends : Numbers) (steps : List Step) (so_far : Best) (place : ℕ) (sign : Sign) (new : ℤ) (result : Best)
-    → place < 45
-    → new ≡ number_at ends place sign
-    → (new ≤ℤ so_far.number → result ≡ so_far) → (so_far.number <ℤ new → result ≡ best_at new place sign)
-    → NumbersEnd ends steps → IsBestBelow LENGTHS steps (end_number place sign) so_far.place so_far.sign so_far.number
-    → IsBestBelow LENGTHS steps (end_number place sign + 1) result.place result.sign result.number
-or_end ends steps so_far place sign new result within new_is stays comes ends_are best =
-    let end = ends_are place sign within in
-    let is : IsEnd LENGTHS steps place sign new end.bit = subst (λ n. IsEnd LENGTHS steps place sign n end.bit)
-    (sym new_is) end.is in
-    let P : Best → Type 0 = λ b. IsBestBelow LENGTHS steps (end_number place sign + 1) b.place b.sign b.number in
-    elim (below_or_above so_far.number new) [
-      | inl below ↦ subst P (sym (stays below))
-          (best_stays LENGTHS steps so_far.place so_far.sign so_far.number place sign new end.bit best is below)
-      | inr above ↦ subst P (sym (comes above))
-          (best_comes LENGTHS steps so_far.place so_far.sign so_far.number place sign new end.bit best is above)
-    ]
+pub or_end : (ends : Ends) (place : ℕ) (sign : Sign) (so_far : Four) (others : List ℕ) (code : ℕ) (result : Four)
+    → place < 45 → code ≡ end_number place sign → others ≡ (end_at ends place sign).numbers
+    → ((step : ℕ) (x y : ℤ) → step < 4 → at_step so_far.numbers step ≡ low x → at_step others step ≡ low y
+    → AreNear x y → y ≤ℤ x → (at_step result.numbers step ≡ low x)
+    × (at_step result.codes step ≡ at_step so_far.codes step))
+    → ((step : ℕ) (x y : ℤ) → step < 4 → at_step so_far.numbers step ≡ low x → at_step others step ≡ low y
+    → AreNear x y → x <ℤ y → (at_step result.numbers step ≡ low y) × (at_step result.codes step ≡ code))
+    → ((step : ℕ) → step < 4 → (at_step result.codes step ≡ at_step so_far.codes step)
+    ⊎ (at_step result.codes step ≡ code))
+    → BestSoFar ends (end_number place sign) so_far → BestSoFar ends (end_number place sign + 1) result
+or_end ends place sign so_far others code result within code_is others_are stays comes either best = record {
+  best = λ step steps step_in long are ends_are.
+      let S = steps_at step steps in
+      let old = best.best step steps step_in long are ends_are in
+      let new = ends_are place sign within in
+      let are_here = steps_before (3 - step) steps are in
+      let was = below_is_end S (end_number place sign) old.place old.sign old.number old.is in
+      let a = near_ends S old.place place old.sign sign old.number new.number (bit_at old.is.path) new.bit are_here was
+      new.is in
+      let b = near_ends S place old.place sign old.sign new.number old.number new.bit (bit_at old.is.path) are_here
+      new.is was in
+      let near : AreNear old.number new.number = record {
+        above = omega (arith, ints, a);
+        below = omega (arith, ints, b);
+      } in
+      let y_is : at_step others step ≡ low new.number = ap (λ l. at_step l step) others_are ∙ new.kept in
+      elim (below_or_above old.number new.number) [
+        | inl below ↦ let r = stays step old.number new.number step_in old.kept y_is near below in
+            record {
+              place = old.place;
+              sign = old.sign;
+              number = old.number;
+              is = best_stays LENGTHS S old.place old.sign old.number place sign new.number new.bit old.is new.is below;
+              kept = r.0;
+              code = r.1 ∙ old.code;
+            }
+        | inr above ↦ let r = comes step old.number new.number step_in old.kept y_is near above in
+            record {
+              place = place;
+              sign = sign;
+              number = new.number;
+              is = best_comes LENGTHS S old.place old.sign old.number place sign new.number new.bit old.is new.is above;
+              kept = r.0;
+              code = r.1 ∙ code_is;
+            }
+      ];
+  codes = λ step step_in. elim (either step step_in) [
+    | inl same ↦ let l = best.codes step step_in in omega (arith, same, l)
+    | inr new ↦ omega (arith, new, code_is)
+  ];
+}
 
 -- n ends are tried if m are, by another way to count them
-pub counted : (ends : Numbers) (steps : List Step) (m n : ℕ) (best : Best) → m ≡ n
-    → IsBestBelow LENGTHS steps m best.place best.sign best.number
-    → IsBestBelow LENGTHS steps n best.place best.sign best.number
-counted ends steps m n best same is = subst (λ k. IsBestBelow LENGTHS steps k best.place best.sign best.number) same is
+pub counted : (ends : Ends) (m n : ℕ) (best : Four) → m ≡ n → BestSoFar ends m best → BestSoFar ends n best
+counted ends m n best same is = subst (λ k. BestSoFar ends k best) same is
 
 -- the first end alone
-pub first_best : (ends : Numbers) (steps : List Step) (number : ℤ) → number ≡ number_at ends 0 Plus
-    → NumbersEnd ends steps
-    → IsBestBelow LENGTHS steps 1 0 Plus number
-first_best ends steps number is ends_are =
-    let end = ends_are 0 Plus (omega arith) in
-    subst (λ n. IsBestBelow LENGTHS steps 1 0 Plus n) (sym is)
-    (first_is_best LENGTHS steps (number_at ends 0 Plus) end.bit end.is)
+pub first_best : (ends : Ends) (best : Four) → best.numbers ≡ (end_at ends 0 Plus).numbers
+    → ((step : ℕ) → at_step best.codes step ≡ 0) → BestSoFar ends 1 best
+first_best ends best is none = record {
+  best = λ step steps step_in long are ends_are.
+      let end = ends_are 0 Plus (omega arith) in
+      record {
+        place = 0;
+        sign = Plus;
+        number = end.number;
+        is = first_is_best LENGTHS (steps_at step steps) end.number end.bit end.is;
+        kept = ap (λ l. at_step l step) is ∙ end.kept;
+        code = none step;
+      };
+  codes = λ step step_in. let e = none step in omega (arith, e);
+}
+
+-- with all ends tried
+pub all_ends : (ends : Ends) (best : Four) → BestSoFar ends 90 best → (step : ℕ) (steps : List Step) → step < 4
+    → 4 ≤ length steps → AreSteps steps → AreEnds 45 ends steps step → IsBestAt steps best step
+all_ends ends best so_far step steps step_in long are ends_are =
+    let b = so_far.best step steps step_in long are ends_are in
+    let e = length-drop (3 - step) steps in
+    record {
+      place = b.place;
+      sign = b.sign;
+      number = b.number;
+      is = best_of_all LENGTHS (steps_at step steps) b.place b.sign b.number (omega (arith, e, long)) b.is;
+      kept = b.kept;
+      code = b.code;
+    }

@@ -1,6 +1,6 @@
 -- A step at which a decision falls due adds what is gathered behind what was decided before.
 use Rattle.std.proofs.Common.{◌≡◌, ℕ, ◌%◌, ◌<◌, ◌≤◌, List, [], ◌∷◌, ◌++◌, true, ◌&&◌, length, refl, ap, ap₂, arith}
-use Rattle.std.proofs.Common.{sym, ◌∙◌}
+use Rattle.std.proofs.Common.{subst, sym, ◌∙◌}
 use Rattle.std.proofs.lemmas.Bool.{eq-eqb, false≢true, le-leb}
 use Rattle.cell_path.specs.declared.cell.Cell.{Cell}
 use Rattle.cell_path.specs.declared.cell.Step.{Step}
@@ -8,6 +8,10 @@ use Rattle.cell_path.specs.declared.follow.TheConstants.{DELAY}
 use Rattle.cell_path.specs.declared.lengths.TheConstants.{LENGTHS}
 use Rattle.cell_path.specs.declared.placed.Placed.{Placed}
 use Rattle.cell_path.specs.Best.{IsBestOfAll}
+use Rattle.cell_path.specs.declared.pending.Pending.{Pending}
+use Rattle.cell_path.specs.KeptMarks.{MarksStandFor}
+use Rattle.cell_path.specs.Paths.{PathsState}
+use Rattle.cell_path.specs.Pending.{steps_of, StandsWith}
 use Rattle.cell_path.specs.Decided.{end_behind, is_due, newly, AreDecided, AreDecidedInAll}
 
 due_now : (count : ℕ) → 2_048 ≤ count → count % 1_024 ≡ 0 → is_due count ≡ true
@@ -44,6 +48,15 @@ rest_adds (step ∷ steps) given waiting count done are count_is done_is some ga
   gathers.1,
   ap (λ l. l ++ given) (gathers.2 ∙ ap₂ (λ n d. newly 0 n d gathers.0) count_is done_is),
 )
+
+-- after a multiple of four steps none waits
+pub whole_stands : (state : PathsState) (pending : Pending) (count : ℕ) (steps : List Step) → count % 1_024 ≡ 0
+    → StandsWith state pending count steps → MarksStandFor state.marks steps
+whole_stands state pending count steps whole stands =
+    let none : count % 4 ≡ 0 = omega (arith, whole) in
+    let same : stands.before ≡ steps =
+    sym (stands.steps_are ∙ ap (λ n. steps_of pending n ++ stands.before) none) in
+    subst (MarksStandFor state.marks) same stands.paths.marks
 
 -- where the latest ends, among all
 pub end_of_all : (done : ℕ) (waiting given : List Placed) → done ≡ end_behind 0 given

@@ -18,9 +18,9 @@ use Rattle.cell_path.specs.declared.point.Back.{Back}
 use Rattle.cell_path.specs.declared.point.Point.{Point}
 use Rattle.cell_path.specs.Best.{EndsIn, IsBest, IsBestOfAll}
 use Rattle.cell_path.specs.Decided.{end_behind, is_decided, newly, placed}
-use Rattle.cell_path.specs.KeptMarks.{GoesBack, LeadsTo}
+use Rattle.cell_path.specs.KeptMarks.{GoesBack, LeadsTo, MarksStandFor}
 use Rattle.cell_path.specs.Lengths.{length_in}
-use Rattle.cell_path.specs.Paths.{PathsState, PathsStandFor}
+use Rattle.cell_path.specs.Paths.{PathsState}
 
 abbrev pub no_cell : Placed
 no_cell = record { end = 0; cell = record { place = 0; bit = Zero; sign = Plus; way = Jump } }
@@ -42,7 +42,7 @@ IsHere delay count many (Some point) =
 -- what is gathered and what is left are all that is decided
 abbrev pub IsGathered : ℕ → ℕ → ℕ → PathsState → ℕ → Sign → Option Point → List Placed → Type 0
 IsGathered delay count done paths place sign at waiting = (steps : List Step) (path : List Cell)
-    → PathsStandFor paths steps
+    → MarksStandFor paths.marks steps
     → IsBestOfAll LENGTHS steps path → EndsIn place sign path
     → (rest : List Cell) × LeadsTo steps rest at
     × (waiting ++ left delay count done (ago_of count at) rest ≡ newly delay count done path)
@@ -165,7 +165,7 @@ left_before delay count done n steps rest point (Some b) leads n_is is =
 
 -- following back by one cell
 abbrev pub Follows : PathsState → Point → Back → Type 0
-Follows paths point back = (steps : List Step) (path : List Cell) → PathsStandFor paths steps
+Follows paths point back = (steps : List Step) (path : List Cell) → MarksStandFor paths.marks steps
     → point.ago < length steps → IsBest LENGTHS (drop point.ago steps) point.place point.sign path
     → GoesBack steps path back
 
@@ -229,7 +229,7 @@ rest_is_near delay count done ago steps place sign (cell ∷ rest) ends near =
 pub all_gathered : (delay count done : ℕ) (paths : PathsState) (place : ℕ) (sign : Sign) (point : Point)
     (waiting : List Placed) → IsGathered delay count done paths place sign (Some point) waiting
     → count - point.ago ≤ done + length_in LENGTHS point.place / 4
-    → (steps : List Step) (path : List Cell) → PathsStandFor paths steps → IsBestOfAll LENGTHS steps path
+    → (steps : List Step) (path : List Cell) → MarksStandFor paths.marks steps → IsBestOfAll LENGTHS steps path
     → EndsIn place sign path → waiting ≡ newly delay count done path
 all_gathered delay count done paths place sign point waiting all near steps path stand best ends =
     let g = all steps path stand best ends in
@@ -240,7 +240,7 @@ all_gathered delay count done paths place sign point waiting all near steps path
 -- the path is followed to the beginning of the sound
 pub all_gathered_to_begin : (delay count done : ℕ) (paths : PathsState) (place : ℕ) (sign : Sign) (at : Option Point)
     (waiting : List Placed) → IsGathered delay count done paths place sign at waiting → at ≡ None
-    → (steps : List Step) (path : List Cell) → PathsStandFor paths steps → IsBestOfAll LENGTHS steps path
+    → (steps : List Step) (path : List Cell) → MarksStandFor paths.marks steps → IsBestOfAll LENGTHS steps path
     → EndsIn place sign path → waiting ≡ newly delay count done path
 all_gathered_to_begin delay count done paths place sign None waiting all none steps path stand best ends =
     let g = all steps path stand best ends in

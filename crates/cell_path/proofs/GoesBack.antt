@@ -157,7 +157,7 @@ places-by marks new (suc ago) are comes near =
     (subst (λ (m : StepMarks). m.best_place < 45) (sym (mark_others marks new ago (omega arith)))
     (are.places ago (omega arith)))
 
-pub still_marks : (marks : MarksState) (new : StepMarks) → AreMarks marks → new.best_place < 45 → marks.count < 2 ^ 40
+pub still_marks : (marks : MarksState) (new : StepMarks) → AreMarks marks → new.best_place < 45 → marks.count < 2 ^ 40 + 4
     → AreMarks (pushed marks new)
 still_marks marks new are comes room = record {
   long = length-set marks.ring ((marks.count + 1) % 4_096) new ∙ are.long;
@@ -182,6 +182,19 @@ pub marks_fed : (marks : MarksState) (new : StepMarks) (step : Step) (steps : Li
 marks_fed marks new step steps long stand comes = record {
   count = omega (arith, stand.count);
   marked = λ ago near within. marked-by marks new step steps ago long stand comes near within;
+}
+
+-- some steps are taken back
+pub undone_marks : (marks : MarksState) (n : ℕ) → n ≤ marks.count → AreMarks marks
+    → AreMarks (record { ring = marks.ring; count = marks.count - n })
+undone_marks marks n few are = record {
+  long = are.long;
+  count = let c = are.count in omega (arith, c);
+  places = λ ago near.
+      let same : (marks.count + 4_096 - (n + ago) % 4_096) % 4_096 ≡ (marks.count - n + 4_096 - ago) % 4_096 =
+      omega (arith, few, near) in
+      subst (λ k. (get_or marks.ring k no_marks).best_place < 45) same
+      (are.places ((n + ago) % 4_096) (omega arith));
 }
 
 abbrev empty_marks : StepMarks

@@ -11,9 +11,11 @@ pub mod FollowedBack
 pub mod GivesNext
 pub mod GoesBack
 pub mod LengthsOfCells
-pub mod MarkedSoFar
+pub mod Lowest
+pub mod MarkedSteps
+pub mod MarksOfFour
+pub mod NearScores
 pub mod NextStep
-pub mod NumbersAgo
 pub mod OneBest
 pub mod OneDecision
 pub mod OneMoreLength

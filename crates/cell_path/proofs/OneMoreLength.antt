@@ -1,21 +1,17 @@
 -- What holds of some first lengths holds of one more, if the two that come with it have it.
-use Rattle.std.proofs.Common.{◌≡◌, ◌≢◌, ℕ, ◌+◌, ◌*◌, ◌<◌, ◌^◌, ◌⊎◌, inl, inr, ℤ, List, ◌∷◌, subst, sym, arith}
-use Rattle.cell_path.specs.declared.cell.Bit.{Bit}
+use Rattle.std.proofs.Common.{◌≡◌, ◌≢◌, ℕ, ◌+◌, ◌<◌, ◌≤◌, ◌⊎◌, inl, inr, List, length, drop, refl, ap, subst, sym, ◌∙◌, arith}
 use Rattle.cell_path.specs.declared.cell.Sign.{Sign}
 use Rattle.cell_path.specs.declared.cell.Sign.TheVariants.{Plus, Minus}
 use Rattle.cell_path.specs.declared.cell.Step.{Step}
-use Rattle.cell_path.specs.declared.cell.Way.{Way}
-use Rattle.cell_path.specs.declared.end.End.{End}
 use Rattle.cell_path.specs.declared.ends.Ends.{Ends}
-use Rattle.cell_path.specs.declared.lengths.TheConstants.{LENGTHS}
-use Rattle.cell_path.specs.declared.numbers.Numbers.{Numbers}
-use Rattle.cell_path.specs.declared.start.Start.{Start}
-use Rattle.cell_path.specs.declared.starts.Starts.{Starts}
-use Rattle.cell_path.specs.Kept.{limit, number_at, AreWithin, RowsState, SumsState}
-use Rattle.cell_path.specs.Number.{IsBeginning, IsBestEnd, IsEnd}
-use Rattle.cell_path.specs.StandsFor.{bit_at, way_at, AreEnds, AreStarts, AreWithinTo, NumbersEnd, RowsStandFor}
-use Rattle.cell_path.specs.StandsFor.{SumsStandFor}
-use Rattle.cell_path.specs.Within.{IsWithin}
+use Rattle.cell_path.specs.declared.four.Four.{Four}
+use Rattle.cell_path.specs.declared.mark.FourMarks.{FourMarks}
+use Rattle.cell_path.specs.Four.{at_step}
+use Rattle.cell_path.specs.Kept.{number_next, RowsState, SumsState}
+use Rattle.cell_path.specs.Marks.{bit_from, marked_bit, marked_way}
+use Rattle.cell_path.specs.Scores.{AreSteps}
+use Rattle.cell_path.specs.StandsFor.{end_at, AreEnds, IsEndAt, RowsStandFor, SumsStandFor}
+use Rattle.cell_path.specs.Started.{mark_at, AreStarted, AreStartsOf, IsStarted, KeepsBest, KeepsNumbers}
 
 -- a fact of the first n lengths and signs, of each one more
 pub one_more_length : (P : ℕ → Sign → Type 0) (n : ℕ) → ((place : ℕ) (sign : Sign) → place < n → P place sign)
@@ -26,110 +22,92 @@ one_more_length P n before plus minus place sign within =
     let cases : (place < n) ⊎ (n ≡ place) = grind arith in
     elim cases [ inl less ↦ before place sign less | inr same ↦ subst (λ k. P k sign) same (here sign) ]
 
+-- what is known of the ends of a length and a sign
+pub record AreEndsOf (sums : SumsState) (rows : RowsState) (place : ℕ) (sign : Sign) (four : Four) : Type 0 where
+  pub ends : (step : ℕ) (steps : List Step) → step < 4 → 4 ≤ length steps → AreSteps steps
+      → SumsStandFor sums steps → RowsStandFor rows (drop 4 steps) → IsEndAt steps place sign four step
+  pub codes : (step : ℕ) → step < 4 → at_step four.codes step < 2
+
 -- the ends so far
-pub record EndsSoFar (sums : SumsState) (rows : RowsState) (most : ℕ) (so_far : Ends) : Type 0 where
-  pub ends : (step : Step) (before : List Step) → SumsStandFor sums (step ∷ before) → RowsStandFor rows before
-      → AreEnds most so_far (step ∷ before)
-  pub size : AreWithinTo most (limit rows.count 2) so_far.numbers
-
--- the starts so far
-pub record StartsSoFar (ends : Numbers) (best : ℤ) (level most : ℕ) (so_far : Starts) : Type 0 where
-  pub starts : (step : Step) (before : List Step) (place_of_best : ℕ) (sign_of_best : Sign) → step.level ≡ level
-      → NumbersEnd ends (step ∷ before) → IsBestEnd LENGTHS (step ∷ before) place_of_best sign_of_best best
-      → AreStarts most so_far (step ∷ before)
-  pub size : (bound : ℕ) → AreWithin bound ends → IsWithin bound best
-      → AreWithinTo most (bound + 3 * 2 ^ 22) so_far.numbers
-
--- what is known of one best end
-pub record IsBestOfEnds (sums : SumsState) (rows : RowsState) (place : ℕ) (sign : Sign) (end : End) : Type 0 where
-  pub ends : (step : Step) (before : List Step) → SumsStandFor sums (step ∷ before) → RowsStandFor rows before
-      → IsEnd LENGTHS (step ∷ before) place sign end.number end.bit
-  pub size : IsWithin (limit rows.count 2) end.number
+abbrev pub EndsSoFar : SumsState → RowsState → ℕ → Ends → Type 0
+EndsSoFar sums rows most so_far = (place : ℕ) (sign : Sign) → place < most
+    → AreEndsOf sums rows place sign (end_at so_far place sign)
 
 -- a length more of ends
-pub one_more_end : (sums : SumsState) (rows : RowsState) (n : ℕ) (old new : Ends) (plus minus : End)
-    → EndsSoFar sums rows n old
-    → number_at new.numbers n Plus ≡ plus.number → bit_at new.bits n Plus ≡ plus.bit
-    → number_at new.numbers n Minus ≡ minus.number → bit_at new.bits n Minus ≡ minus.bit
-    → ((other : ℕ) (sign : Sign) → other ≢ n → number_at new.numbers other sign ≡ number_at old.numbers other sign)
-    → ((other : ℕ) (sign : Sign) → other ≢ n → bit_at new.bits other sign ≡ bit_at old.bits other sign)
-    → IsBestOfEnds sums rows n Plus plus → IsBestOfEnds sums rows n Minus minus
+pub one_more_end : (sums : SumsState) (rows : RowsState) (n : ℕ) (old new : Ends) (plus minus : Four)
+    → EndsSoFar sums rows n old → end_at new n Plus ≡ plus → end_at new n Minus ≡ minus
+    → ((other : ℕ) (sign : Sign) → other ≢ n → end_at new other sign ≡ end_at old other sign)
+    → AreEndsOf sums rows n Plus plus → AreEndsOf sums rows n Minus minus
     → EndsSoFar sums rows (n + 1) new
-one_more_end sums rows n old new plus minus so_far p pb m mb others other_bits a b =
-    record {
-      ends = λ step before sums_stand rows_stand.
-          let P : ℕ → Sign → Type 0 = λ place sign. IsEnd LENGTHS (step ∷ before) place sign
-          (number_at new.numbers place sign) (bit_at new.bits place sign) in
-          one_more_length P n
-          (λ place sign within.
-          let apart : place ≢ n = λ e. omega arith in
-          let N : ℤ → Type 0 = λ x. IsEnd LENGTHS (step ∷ before) place sign x (bit_at new.bits place sign) in
-          let B : Bit → Type 0 = λ x. IsEnd LENGTHS (step ∷ before) place sign (number_at old.numbers place sign) x in
-          subst N (sym (others place sign apart))
-          (subst B (sym (other_bits place sign apart))
-          (so_far.ends step before sums_stand rows_stand place sign within)))
-          (let N : ℤ → Type 0 = λ x. IsEnd LENGTHS (step ∷ before) n Plus x (bit_at new.bits n Plus) in
-          let B : Bit → Type 0 = λ x. IsEnd LENGTHS (step ∷ before) n Plus plus.number x in
-          subst N (sym p) (subst B (sym pb) (a.ends step before sums_stand rows_stand)))
-          (let N : ℤ → Type 0 = λ x. IsEnd LENGTHS (step ∷ before) n Minus x (bit_at new.bits n Minus) in
-          let B : Bit → Type 0 = λ x. IsEnd LENGTHS (step ∷ before) n Minus minus.number x in
-          subst N (sym m) (subst B (sym mb) (b.ends step before sums_stand rows_stand)));
-      size =
-          let P : ℕ → Sign → Type 0 = λ place sign. IsWithin (limit rows.count 2) (number_at new.numbers place sign) in
-          one_more_length P n
-          (λ place sign within. let apart : place ≢ n = λ e. omega arith in
-          subst (IsWithin (limit rows.count 2)) (sym (others place sign apart)) (so_far.size place sign within))
-          (subst (IsWithin (limit rows.count 2)) (sym p) a.size) (subst (IsWithin (limit rows.count 2)) (sym m) b.size);
-    }
+one_more_end sums rows n old new plus minus so_far p m others a b =
+    one_more_length (λ place sign. AreEndsOf sums rows place sign (end_at new place sign)) n
+    (λ place sign within. let apart : place ≢ n = λ e. omega arith in
+    subst (AreEndsOf sums rows place sign) (sym (others place sign apart)) (so_far place sign within))
+    (subst (AreEndsOf sums rows n Plus) (sym p) a) (subst (AreEndsOf sums rows n Minus) (sym m) b)
 
--- what is known of one best start
-pub record IsBestStart (ends : Numbers) (best : ℤ) (level place : ℕ) (sign : Sign) (start : Start) : Type 0 where
-  pub begins : (step : Step) (before : List Step) (place_of_best : ℕ) (sign_of_best : Sign) → step.level ≡ level
-      → NumbersEnd ends (step ∷ before) → IsBestEnd LENGTHS (step ∷ before) place_of_best sign_of_best best
-      → IsBeginning LENGTHS (step ∷ before) 0 place sign start.number start.way
-  pub size : (most : ℕ) → AreWithin most ends → IsWithin most best → IsWithin (most + 3 * 2 ^ 22) start.number
+-- the starts so far, and what stays as it was
+pub record StartsSoFar (old new : RowsState) (old_marks new_marks : FourMarks) (ends : Ends) (best_end : Four)
+    (levels : List ℕ) (most : ℕ) : Type 0 where
+  pub started : (step : ℕ) (steps : List Step) → AreStartsOf ends best_end levels steps step
+      → AreStarted most steps new new_marks ends step
+  pub keeps : KeepsNumbers old new
+  pub best : KeepsBest old_marks new_marks
 
--- before the first length
-pub no_starts : (ends : Numbers) (best : ℤ) (level : ℕ) (so_far : Starts) → StartsSoFar ends best level 0 so_far
-no_starts ends best level so_far = record {
-  starts = λ step before pb sb level_is ends_are best_is place sign none. absurd (omega arith);
-  size = λ bound within best_within place sign none. absurd (omega arith);
+-- what has been started stays so, if its number and its mark do
+still_started : (steps : List Step) (old new : RowsState) (old_marks new_marks : FourMarks) (ends : Ends) (place : ℕ)
+    (sign : Sign) (step : ℕ) → number_next new step place sign ≡ number_next old step place sign
+    → mark_at new_marks step place ≡ mark_at old_marks step place
+    → IsStarted steps old old_marks ends place sign step → IsStarted steps new new_marks ends place sign step
+still_started steps old new old_marks new_marks ends place sign step same mark is = record {
+  number = is.number;
+  way = is.way;
+  is = is.is;
+  kept = same ∙ is.kept;
+  marked = ap (λ m. marked_way m sign) mark ∙ is.marked;
+  bit = ap (λ m. marked_bit m sign) mark ∙ is.bit;
+}
+
+keeps_along : (a b c : RowsState) → KeepsNumbers a b → KeepsNumbers b c → KeepsNumbers a c
+keeps_along a b c one two = record {
+  next = two.next ∙ one.next;
+  numbers = λ ago other sign near within. two.numbers ago other sign near within ∙ one.numbers ago other sign near
+      within;
+}
+
+best_along : (a b c : FourMarks) → KeepsBest a b → KeepsBest b c → KeepsBest a c
+best_along a b c one two = record {
+  places = λ step. two.places step ∙ one.places step;
+  signs = λ step. two.signs step ∙ one.signs step;
 }
 
 -- a length more of starts
-pub one_more_start : (ends : Numbers) (best : ℤ) (level n : ℕ) (old new : Starts) (plus minus : Start)
-    → StartsSoFar ends best level n old
-    → number_at new.numbers n Plus ≡ plus.number → way_at new.ways n Plus ≡ plus.way
-    → number_at new.numbers n Minus ≡ minus.number → way_at new.ways n Minus ≡ minus.way
-    → ((other : ℕ) (sign : Sign) → other ≢ n → number_at new.numbers other sign ≡ number_at old.numbers other sign)
-    → ((other : ℕ) (sign : Sign) → other ≢ n → way_at new.ways other sign ≡ way_at old.ways other sign)
-    → IsBestStart ends best level n Plus plus → IsBestStart ends best level n Minus minus
-    → StartsSoFar ends best level (n + 1) new
-one_more_start ends best level n old new plus minus so_far p pw m mw others other_ways a b = record {
-  starts = λ step before pb sb level_is ends_are best_is.
-      let P : ℕ → Sign → Type 0 = λ place sign. IsBeginning LENGTHS (step ∷ before) 0 place sign
-      (number_at new.numbers place sign) (way_at new.ways place sign) in
-      one_more_length P n
-      (λ place sign within.
-      let apart : place ≢ n = λ e. omega arith in
-      let N : ℤ → Type 0 = λ x. IsBeginning LENGTHS (step ∷ before) 0 place sign x (way_at new.ways place sign) in
-      let W : Way → Type 0 = λ x. IsBeginning LENGTHS (step ∷ before) 0 place sign (number_at old.numbers place sign) x
-      in
-      subst N (sym (others place sign apart))
-      (subst W (sym (other_ways place sign apart))
-      (so_far.starts step before pb sb level_is ends_are best_is place sign within)))
-      (let N : ℤ → Type 0 = λ x. IsBeginning LENGTHS (step ∷ before) 0 n Plus x (way_at new.ways n Plus) in
-      let W : Way → Type 0 = λ x. IsBeginning LENGTHS (step ∷ before) 0 n Plus plus.number x in
-      subst N (sym p) (subst W (sym pw) (a.begins step before pb sb level_is ends_are best_is)))
-      (let N : ℤ → Type 0 = λ x. IsBeginning LENGTHS (step ∷ before) 0 n Minus x (way_at new.ways n Minus) in
-      let W : Way → Type 0 = λ x. IsBeginning LENGTHS (step ∷ before) 0 n Minus minus.number x in
-      subst N (sym m) (subst W (sym mw) (b.begins step before pb sb level_is ends_are best_is)));
-  size = λ bound ends_in best_in.
-      let P : ℕ → Sign → Type 0 = λ place sign. IsWithin (bound + 3 * 2 ^ 22) (number_at new.numbers place sign) in
-      one_more_length P n
-      (λ place sign within. let apart : place ≢ n = λ e. omega arith in
-      subst (IsWithin (bound + 3 * 2 ^ 22)) (sym (others place sign apart))
-      (so_far.size bound ends_in best_in place sign within))
-      (subst (IsWithin (bound + 3 * 2 ^ 22)) (sym p) (a.size bound ends_in best_in))
-      (subst (IsWithin (bound + 3 * 2 ^ 22)) (sym m) (b.size bound ends_in best_in));
+pub one_more_start : (first old new : RowsState) (first_marks old_marks new_marks : FourMarks) (ends : Ends)
+    (best : Four) (levels : List ℕ) (n : ℕ)
+    → StartsSoFar first old first_marks old_marks ends best levels n
+    → ((sign : Sign) (step : ℕ) (steps : List Step) → AreStartsOf ends best levels steps step
+    → IsStarted steps new new_marks ends n sign step)
+    → ((step other : ℕ) (sign : Sign) → other ≢ n
+    → number_next new step other sign ≡ number_next old step other sign)
+    → ((step other : ℕ) → other ≢ n → mark_at new_marks step other ≡ mark_at old_marks step other)
+    → KeepsNumbers old new → KeepsBest old_marks new_marks
+    → StartsSoFar first new first_marks new_marks ends best levels (n + 1)
+one_more_start first old new first_marks old_marks new_marks ends best levels n so_far comes others marks keeps bests =
+    record {
+      started = λ step steps are.
+          one_more_length (λ place sign. IsStarted steps new new_marks ends place sign step) n
+          (λ place sign within. let apart : place ≢ n = λ e. omega arith in
+          still_started steps old new old_marks new_marks ends place sign step (others step place sign apart)
+          (marks step place apart) (so_far.started step steps are place sign within))
+          (comes Plus step steps are) (comes Minus step steps are);
+      keeps = keeps_along first old new so_far.keeps keeps;
+      best = best_along first_marks old_marks new_marks so_far.best bests;
+    }
+
+-- before the first length
+pub no_starts : (rows : RowsState) (marks : FourMarks) (ends : Ends) (best : Four) (levels : List ℕ)
+    → StartsSoFar rows rows marks marks ends best levels 0
+no_starts rows marks ends best levels = record {
+  started = λ step steps are place sign none. absurd (omega arith);
+  keeps = record { next = refl; numbers = λ ago other sign near within. refl };
+  best = record { places = λ step. refl; signs = λ step. refl };
 }

@@ -8,7 +8,8 @@ use Rattle.cell_path.specs.declared.cell.Sign.TheVariants.{Plus, Minus}
 use Rattle.cell_path.specs.declared.cell.Step.{Step}
 use Rattle.cell_path.specs.Kept.{sum_ago, SumsState}
 use Rattle.cell_path.specs.Path.{signed, sound_in, total}
-use Rattle.cell_path.specs.StandsFor.{SumsStandFor}
+use Rattle.cell_path.specs.Four.{low}
+use Rattle.cell_path.specs.StandsFor.{steps_at, SumsStandFor}
 use Rattle.cell_path.specs.Within.{IsWithin}
 
 pub total-cons : (step : Step) (steps : List Step) → total (step ∷ steps) ≡ step.sound +ℤ total steps
@@ -37,24 +38,25 @@ drop-drop m (suc n) (step ∷ steps) =
     drop-drop m n steps ∙ ap (λ k. drop k (step ∷ steps)) (let e : suc (n + m) ≡ suc n + m = omega arith in e)
 
 -- a zero, as the difference of the sums at its ends
-pub sound_of_zero : (sums : SumsState) (n : ℕ) (steps : List Step) → SumsStandFor sums steps → n ≤ 96
-    → sum_ago sums 0 -ℤ sum_ago sums n ≡ sound_in Zero n steps
-sound_of_zero sums n steps stand near = ap₂ ◌-ℤ◌ (stand 0 (omega arith)) (stand n near) ∙ sym (total-front n steps)
+pub sound_of_zero : (n : ℕ) (steps : List Step) → total steps -ℤ total (drop n steps) ≡ sound_in Zero n steps
+sound_of_zero n steps = sym (total-front n steps)
 
 -- a one, as that of its second half less that of its first
-pub sound_of_one : (sums : SumsState) (n : ℕ) (steps : List Step) → SumsStandFor sums steps → n ≤ 96
-    → (sum_ago sums 0 -ℤ sum_ago sums (n / 2)) -ℤ (sum_ago sums (n - n / 2) -ℤ sum_ago sums n) ≡ sound_in One n steps
-sound_of_one sums n steps stand near =
+pub sound_of_one : (n : ℕ) (steps : List Step)
+    → (total steps -ℤ total (drop (n / 2) steps)) -ℤ (total (drop (n - n / 2) steps) -ℤ total (drop n steps))
+    ≡ sound_in One n steps
+sound_of_one n steps =
     let h = n / 2 in
-    let low : h ≤ n = omega arith in
-    let late : sum_ago sums 0 -ℤ sum_ago sums h ≡ total (take h steps) =
-    ap₂ ◌-ℤ◌ (stand 0 (omega arith)) (stand h (omega arith)) ∙ sym (total-front h steps) in
     let whole : (n - h) + h ≡ n = omega arith in
     let end : drop h (drop (n - h) steps) ≡ drop n steps = drop-drop h (n - h) steps ∙ ap (λ k. drop k steps) whole in
-    let early : sum_ago sums (n - h) -ℤ sum_ago sums n ≡ total (take h (drop (n - h) steps)) =
-    ap₂ ◌-ℤ◌ (stand (n - h) (omega arith)) (stand n near) ∙ ap (λ l. total (drop (n - h) steps) -ℤ total l) (sym end)
-    ∙ sym (total-front h (drop (n - h) steps)) in
-    ap₂ ◌-ℤ◌ late early
+    ap₂ ◌-ℤ◌ (sym (total-front h steps)) (ap (λ l. total (drop (n - h) steps) -ℤ total l) (sym end)
+    ∙ sym (total-front h (drop (n - h) steps)))
+
+-- the sum up to some steps before one of the latest four
+pub sum_at : (sums : SumsState) (steps : List Step) (step k : ℕ) → SumsStandFor sums steps → k ≤ 96
+    → sum_ago sums (3 - step + k) ≡ low (total (drop k (steps_at step steps)))
+sum_at sums steps step k stand near =
+    stand (3 - step + k) (omega (arith, near)) ∙ ap (λ l. low (total l)) (sym (drop-drop k (3 - step) steps))
 
 pub signed-within : (most : ℕ) (sign : Sign) (number : ℤ) → IsWithin most number → IsWithin most (signed sign number)
 signed-within most Plus number is = is

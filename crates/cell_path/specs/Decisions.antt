@@ -1,15 +1,18 @@
 -- What is kept to decide the cells of a sound stands for its steps so far, and for what has been given.
 use Rattle.std.specs.Prelude.{◌≡◌, ℕ, ◌+◌, ◌-◌, ◌^◌, ◌%◌, ◌<◌, ◌≤◌, List, ◌∷◌, length, ◌++◌, Option, Some, None}
 use Rattle.cell_path.specs.declared.cell.Step.{Step}
+use Rattle.cell_path.specs.declared.pending.Pending.{Pending}
 use Rattle.cell_path.specs.declared.placed.Decided.{Decided}
 use Rattle.cell_path.specs.declared.placed.Placed.{Placed}
 use Rattle.cell_path.specs.Decided.{end_behind, jumps, latest_of, AreDecided, AreDecidedInAll}
 use Rattle.cell_path.specs.Spaced.{AreSpaced}
-use Rattle.cell_path.specs.Paths.{PathsState, PathsStandFor}
+use Rattle.cell_path.specs.Pending.{StandsWith}
+use Rattle.cell_path.specs.Paths.{PathsState}
 
--- the paths, how many steps there were, where the decided cells end, those that wait, and the last one given
+-- the paths, the steps that wait for others, how many steps there were, where the decided cells end, those that wait, and the last one given
 pub record DecisionsState : Type 0 where
   pub paths : PathsState
+  pub pending : Pending
   pub count : ℕ
   pub done : ℕ
   pub waiting : List Placed
@@ -23,7 +26,7 @@ last_end (Some last) = last.end
 -- after the latest decision nothing is left open that is older than 919 steps: the latest cell that was old enough
 -- ended 895 steps before it or later, and what was decided ends there, or a quarter of a cell before
 pub record AreDecisions (state : DecisionsState) : Type 0 where
-  pub count_is : state.count ≡ state.paths.scores.sums.count
+  pub count_is : state.count ≡ state.paths.marks.count + state.count % 4
   pub few : state.count ≤ 2 ^ 40
   pub behind : state.done ≤ state.count
   pub near : 2_048 ≤ state.count → state.count - state.count % 1_024 ≤ state.done + 919
@@ -33,7 +36,7 @@ pub record AreDecisions (state : DecisionsState) : Type 0 where
 
 -- what was given and what waits is what is decided after these steps
 pub record DecisionsStandFor (state : DecisionsState) (steps : List Step) (given : List Placed) : Type 0 where
-  pub paths : PathsStandFor state.paths steps
+  pub stands : StandsWith state.paths state.pending state.count steps
   pub count : state.count ≡ length steps
   pub decided : AreDecided steps (state.waiting ++ given)
   pub done : state.done ≡ end_behind 0 (state.waiting ++ given)

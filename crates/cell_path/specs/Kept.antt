@@ -1,63 +1,59 @@
--- What is kept of the latest steps: the sums of the sound up to each, and the numbers of each. Those of n steps ago
--- are n places back in a ring.
-use Rattle.std.specs.Prelude.{◌≡◌, ℕ, ◌+◌, ◌-◌, ◌*◌, ◌%◌, ◌^◌, ◌<◌, ◌≤◌, ℤ, pos, ◌-ℤ◌}
-use Rattle.std.specs.Prelude.{List, [], length, get_or, replicate}
+-- What is kept of the latest steps: the sums of the sound up to each, and the numbers of each, 32 bits of them. Those
+-- of n steps ago are n places back in a ring.
+use Rattle.std.specs.Prelude.{◌≡◌, ℕ, ◌+◌, ◌-◌, ◌%◌, ◌^◌, ◌<◌, ◌≤◌, List, [], length, get_or}
 use Rattle.cell_path.specs.declared.cell.Sign.{Sign}
 use Rattle.cell_path.specs.declared.cell.Sign.TheVariants.{Plus, Minus}
-use Rattle.cell_path.specs.declared.numbers.Numbers.{Numbers}
-use Rattle.cell_path.specs.Within.{IsWithin}
 
--- the number of a length and a sign
-abbrev pub number_at : Numbers → ℕ → Sign → ℤ
-number_at numbers place Plus = get_or numbers.plus place (pos 0)
-number_at numbers place Minus = get_or numbers.minus place (pos 0)
+-- a ring of 128 numbers, the first four of which stand behind it once more, so that no four in a row are parted
+pub record IsRing (ring : List ℕ) : Type 0 where
+  pub long : length ring ≡ 132
+  pub again : (step : ℕ) → step < 4 → get_or ring (128 + step) 0 ≡ get_or ring step 0
 
--- each number is between this one and its opposite
-abbrev pub AreWithin : ℕ → Numbers → Type 0
-AreWithin most numbers = (place : ℕ) (sign : Sign) → place < 45 → IsWithin most (number_at numbers place sign)
-
--- a number that stands for each length and sign
-abbrev pub same_numbers : ℤ → Numbers
-same_numbers number = record { plus = replicate 45 number; minus = replicate 45 number }
-
--- the place in a ring of 128, into which this many have come, of the one that came so long ago
+-- the place in a ring of the one that came so long ago, where the next one comes to this place
 abbrev pub place_ago : ℕ → ℕ → ℕ
-place_ago count ago = (count + 128 - ago) % 128
+place_ago next ago = (next + 127 - ago) % 128
 
--- the sums of the sound up to each of the latest steps, in a ring, and how many steps there were
+-- the sums of the sound up to each of the latest steps, in a ring, and where the next one comes
 pub record SumsState : Type 0 where
-  pub ring : List ℤ
-  pub count : ℕ
+  pub ring : List ℕ
+  pub next : ℕ
 
 -- the sum up to the step so long ago
-abbrev pub sum_ago : SumsState → ℕ → ℤ
-sum_ago sums ago = get_or sums.ring (place_ago sums.count ago) (pos 0)
+abbrev pub sum_ago : SumsState → ℕ → ℕ
+sum_ago sums ago = get_or sums.ring (place_ago sums.next ago) 0
 
--- the sums of the steps so far, each of at most 2^16
+-- four steps come at once
+pub record IsNext (next : ℕ) : Type 0 where
+  pub fours : next % 4 ≡ 0
+  pub within : next < 128
+
+-- the sums of the steps so far
 pub record AreSums (sums : SumsState) : Type 0 where
-  pub long : length sums.ring ≡ 128
-  pub count : sums.count ≤ 2 ^ 40
-  pub size : (ago : ℕ) → ago ≤ 96 → IsWithin (sums.count * 2 ^ 16) (sum_ago sums ago)
-  pub spread : (later ago : ℕ) → later ≤ ago → ago ≤ 96
-      → IsWithin ((ago - later) * 2 ^ 16) (sum_ago sums later -ℤ sum_ago sums ago)
+  pub ring : IsRing sums.ring
+  pub next : IsNext sums.next
 
--- the numbers of each of the latest steps, in a ring, and how many steps there were
+-- the numbers of each length, by a sign, in a ring, and where the next one comes
 pub record RowsState : Type 0 where
-  pub ring : List Numbers
-  pub count : ℕ
+  pub plus : List (List ℕ)
+  pub minus : List (List ℕ)
+  pub next : ℕ
+
+-- the ring of a length and a sign
+abbrev pub ring_of : RowsState → ℕ → Sign → List ℕ
+ring_of rows place Plus = get_or rows.plus place []
+ring_of rows place Minus = get_or rows.minus place []
 
 -- the number of the step so long ago
-abbrev pub number_ago : RowsState → ℕ → ℕ → Sign → ℤ
-number_ago rows ago place sign =
-    number_at (get_or rows.ring (place_ago rows.count ago) (record { plus = []; minus = [] })) place sign
+abbrev pub number_ago : RowsState → ℕ → ℕ → Sign → ℕ
+number_ago rows ago place sign = get_or (ring_of rows place sign) (place_ago rows.next ago) 0
 
--- no number of the step so long ago is greater, after this many steps: a step can add 2^22 in the mean
-abbrev pub limit : ℕ → ℕ → ℕ
-limit count ago = (count + 128 - ago) * 2 ^ 22 + 2 ^ 28
+-- the number of one of the four steps that come next, where they have been put already
+abbrev pub number_next : RowsState → ℕ → ℕ → Sign → ℕ
+number_next rows step place sign = get_or (ring_of rows place sign) (rows.next + step) 0
 
 -- the numbers of the steps so far
 pub record AreRows (rows : RowsState) : Type 0 where
-  pub long : length rows.ring ≡ 128
-  pub count : rows.count ≤ 2 ^ 40
-  pub size : (ago place : ℕ) (sign : Sign) → ago ≤ 96 → place < 45
-      → IsWithin (limit rows.count ago) (number_ago rows ago place sign)
+  pub plus : length rows.plus ≡ 45
+  pub minus : length rows.minus ≡ 45
+  pub rings : (place : ℕ) (sign : Sign) → place < 45 → IsRing (ring_of rows place sign)
+  pub next : IsNext rows.next

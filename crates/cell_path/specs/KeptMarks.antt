@@ -27,10 +27,10 @@ no_marks = record { marks = []; best_place = 0; best_sign = Plus }
 abbrev pub marks_ago : MarksState → ℕ → StepMarks
 marks_ago marks ago = get_or marks.ring ((marks.count + 4_096 - ago) % 4_096) no_marks
 
--- the ring has 4,096 marks, at most 2^40 steps have come, and each best place is one of the 45 lengths
+-- the ring has 4,096 marks, at most 2^40 steps have come and four more, and each best place is one of the 45 lengths
 pub record AreMarks (marks : MarksState) : Type 0 where
   pub long : length marks.ring ≡ 4_096
-  pub count : marks.count ≤ 2 ^ 40
+  pub count : marks.count ≤ 2 ^ 40 + 4
   pub places : (ago : ℕ) → ago < 4_096 → (marks_ago marks ago).best_place < 45
 
 -- as many steps have come, and the marks of the latest 4,096 are kept

@@ -1,6 +1,7 @@
 pub mod Best
 pub mod Decided
 pub mod Decisions
+pub mod Four
 pub mod Kept
 pub mod KeptMarks
 pub mod Lengths
@@ -8,8 +9,10 @@ pub mod Marks
 pub mod Number
 pub mod Path
 pub mod Paths
+pub mod Pending
 pub mod Scores
 pub mod Spaced
+pub mod Started
 pub mod StandsFor
 pub mod Trying
 pub mod Within

@@ -23,6 +23,11 @@ way_from (suc zero) = Shorter
 way_from (suc (suc zero)) = Longer
 way_from (suc (suc (suc n))) = Jump
 
+-- the sign of a number in the code of an end
+abbrev pub sign_from : ℕ → Sign
+sign_from zero = Plus
+sign_from (suc n) = Minus
+
 -- bits 0 and 1 of a mark are the latest bits of the best paths that end with plus and with minus
 abbrev pub marked_bit : ℕ → Sign → Bit
 marked_bit mark Plus = bit_from (mark % 2)

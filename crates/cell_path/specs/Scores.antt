@@ -1,5 +1,5 @@
 -- What is kept of a sound stands for its steps so far.
-use Rattle.std.specs.Prelude.{◌^◌, ◌≤◌, List}
+use Rattle.std.specs.Prelude.{◌^◌, ◌≤◌, List, [], ◌∷◌}
 use Rattle.cell_path.specs.declared.cell.Step.{Step}
 use Rattle.cell_path.specs.Kept.{RowsState, SumsState}
 use Rattle.cell_path.specs.StandsFor.{RowsStandFor, SumsStandFor}
@@ -10,12 +10,18 @@ pub record IsStep (step : Step) : Type 0 where
   pub sound : IsWithin (2 ^ 16) step.sound
   pub level : step.level ≤ 2 ^ 15
 
+-- steps of such a sound
+abbrev pub AreSteps : List Step → Type 0
+AreSteps [] = Unit {0}
+AreSteps (step ∷ steps) = IsStep step × AreSteps steps
+
 -- the sums of the sound, and the rows of scores
 pub record ScoresState : Type 0 where
   pub sums : SumsState
   pub rows : RowsState
 
--- the sums and the numbers are those of these steps, the latest first
+-- the sums and the numbers are those of these steps of a sound of 16 bits, the latest first
 pub record StandsFor (scores : ScoresState) (steps : List Step) : Type 0 where
+  pub are : AreSteps steps
   pub sums : SumsStandFor scores.sums steps
   pub rows : RowsStandFor scores.rows steps

@@ -1,69 +1,80 @@
 -- What is kept stands for the steps so far, the latest first.
-use Rattle.std.specs.Prelude.{◌≡◌, ℕ, ◌<◌, ◌≤◌, ℤ, List, drop, get_or}
+use Rattle.std.specs.Prelude.{◌≡◌, ℕ, ◌-◌, ◌<◌, ◌≤◌, ℤ, List, [], drop, get_or}
 use Rattle.cell_path.specs.declared.cell.Bit.{Bit}
-use Rattle.cell_path.specs.declared.cell.Bit.TheVariants.{Zero}
 use Rattle.cell_path.specs.declared.cell.Sign.{Sign}
 use Rattle.cell_path.specs.declared.cell.Sign.TheVariants.{Plus, Minus}
 use Rattle.cell_path.specs.declared.cell.Step.{Step}
 use Rattle.cell_path.specs.declared.cell.Way.{Way}
-use Rattle.cell_path.specs.declared.cell.Way.TheVariants.{Same}
-use Rattle.cell_path.specs.declared.ends.Bits.{Bits}
 use Rattle.cell_path.specs.declared.ends.Ends.{Ends}
+use Rattle.cell_path.specs.declared.four.Four.{Four}
 use Rattle.cell_path.specs.declared.lengths.TheConstants.{LENGTHS}
-use Rattle.cell_path.specs.declared.numbers.Numbers.{Numbers}
-use Rattle.cell_path.specs.declared.starts.Starts.{Starts}
-use Rattle.cell_path.specs.declared.starts.Ways.{Ways}
-use Rattle.cell_path.specs.Kept.{number_ago, number_at, sum_ago, RowsState, SumsState}
-use Rattle.cell_path.specs.Number.{IsBeginning, IsEnd}
+use Rattle.cell_path.specs.Four.{at_step, low}
+use Rattle.cell_path.specs.Kept.{number_ago, sum_ago, RowsState, SumsState}
+use Rattle.cell_path.specs.Marks.{bit_from, way_from}
+use Rattle.cell_path.specs.Number.{IsBeginning, IsBestEnd, IsEnd}
 use Rattle.cell_path.specs.Path.{total}
-use Rattle.cell_path.specs.Within.{IsWithin}
+use Rattle.cell_path.specs.Trying.{end_number}
 
 -- each sum is that of all steps up to its own
 abbrev pub SumsStandFor : SumsState → List Step → Type 0
-SumsStandFor sums steps = (ago : ℕ) → ago ≤ 96 → sum_ago sums ago ≡ total (drop ago steps)
+SumsStandFor sums steps = (ago : ℕ) → ago ≤ 99 → sum_ago sums ago ≡ low (total (drop ago steps))
 
--- the number is the score of the best beginning, in some way
-pub record HasBeginning (lengths : List ℕ) (steps : List Step) (ago place : ℕ) (sign : Sign) (number : ℤ) : Type 0 where
+-- what is kept is that of the score of the best beginning, in some way
+pub record HasBeginning (lengths : List ℕ) (steps : List Step) (ago place : ℕ) (sign : Sign) (kept : ℕ) : Type 0 where
+  pub number : ℤ
   pub way : Way
   pub is : IsBeginning lengths steps ago place sign number way
+  pub kept_is : kept ≡ low number
 
--- each number is the score of the best that can stand before a cell which begins there
+-- each number is that of the score of the best that can stand before a cell which begins there
 abbrev pub RowsStandFor : RowsState → List Step → Type 0
 RowsStandFor rows steps = (ago place : ℕ) (sign : Sign) → ago ≤ 96 → place < 45
     → HasBeginning LENGTHS steps ago place sign (number_ago rows ago place sign)
 
--- the number is the score of the best path that ends so, whatever its latest bit
-pub record HasEnd (lengths : List ℕ) (steps : List Step) (place : ℕ) (sign : Sign) (number : ℤ) : Type 0 where
+-- the steps so far, at one of the latest four
+abbrev pub steps_at : ℕ → List Step → List Step
+steps_at step steps = drop (3 - step) steps
+
+-- at one of four steps the number is that of the score of the best path that ends so, and the code its latest bit
+pub record IsEndAt (steps : List Step) (place : ℕ) (sign : Sign) (four : Four) (step : ℕ) : Type 0 where
+  pub number : ℤ
   pub bit : Bit
-  pub is : IsEnd lengths steps place sign number bit
+  pub is : IsEnd LENGTHS (steps_at step steps) place sign number bit
+  pub kept : at_step four.numbers step ≡ low number
+  pub code : bit_from (at_step four.codes step) ≡ bit
 
--- each number is the score of the best path that ends in its length and sign
-abbrev pub NumbersEnd : Numbers → List Step → Type 0
-NumbersEnd numbers steps = (place : ℕ) (sign : Sign) → place < 45
-    → HasEnd LENGTHS steps place sign (number_at numbers place sign)
+-- no end at all
+abbrev pub no_end : Four
+no_end = record { numbers = []; codes = [] }
 
--- the latest bit that stands for a length and a sign
-abbrev pub bit_at : Bits → ℕ → Sign → Bit
-bit_at bits place Plus = get_or bits.plus place Zero
-bit_at bits place Minus = get_or bits.minus place Zero
+-- the ends of a length and a sign
+abbrev pub end_at : Ends → ℕ → Sign → Four
+end_at ends place Plus = get_or ends.plus place no_end
+end_at ends place Minus = get_or ends.minus place no_end
 
--- the way that stands for a length and the sign before it
-abbrev pub way_at : Ways → ℕ → Sign → Way
-way_at ways place Plus = get_or ways.plus place Same
-way_at ways place Minus = get_or ways.minus place Same
+-- at one of the latest four steps, each of the first `most` lengths has its ends
+abbrev pub AreEnds : ℕ → Ends → List Step → ℕ → Type 0
+AreEnds most ends steps step = (place : ℕ) (sign : Sign) → place < most
+    → IsEndAt steps place sign (end_at ends place sign) step
 
--- of the first `most` lengths, each number is the score of the best path that ends so, and each bit its latest
-abbrev pub AreEnds : ℕ → Ends → List Step → Type 0
-AreEnds most ends steps = (place : ℕ) (sign : Sign) → place < most
-    → IsEnd LENGTHS steps place sign (number_at ends.numbers place sign) (bit_at ends.bits place sign)
+-- the codes of all ends are those of bits
+abbrev pub AreBits : Ends → Type 0
+AreBits ends = (step place : ℕ) (sign : Sign) → step < 4 → place < 45
+    → at_step (end_at ends place sign).codes step < 2
 
--- of the first `most` lengths, each number is the score of the best beginning behind the latest step, and each way
--- its own
-abbrev pub AreStarts : ℕ → Starts → List Step → Type 0
-AreStarts most starts steps = (place : ℕ) (sign : Sign) → place < most
-    → IsBeginning LENGTHS steps 0 place sign (number_at starts.numbers place sign) (way_at starts.ways place sign)
+-- the number is that of the score of the best path of all, and the code says how it ends
+pub record IsBestAt (steps : List Step) (four : Four) (step : ℕ) : Type 0 where
+  pub place : ℕ
+  pub sign : Sign
+  pub number : ℤ
+  pub is : IsBestEnd LENGTHS (steps_at step steps) place sign number
+  pub kept : at_step four.numbers step ≡ low number
+  pub code : at_step four.codes step ≡ end_number place sign
 
--- of the first `most` lengths, each number is between this one and its opposite
-abbrev pub AreWithinTo : ℕ → ℕ → Numbers → Type 0
-AreWithinTo most bound numbers = (place : ℕ) (sign : Sign) → place < most
-    → IsWithin bound (number_at numbers place sign)
+-- the number is that of the score of the best beginning behind the step, and the code its way
+pub record IsStartAt (steps : List Step) (place : ℕ) (sign : Sign) (four : Four) (step : ℕ) : Type 0 where
+  pub number : ℤ
+  pub way : Way
+  pub is : IsBeginning LENGTHS (steps_at step steps) 0 place sign number way
+  pub kept : at_step four.numbers step ≡ low number
+  pub code : way_from (at_step four.codes step) ≡ way

@@ -9,14 +9,17 @@ ghost use Rattle.cell_path.specs.Scores.{IsStep};
 use crate::cell::Step;
 use crate::follow::{DELAY, EVERY, FIRST, decide};
 use crate::paths::Paths;
+use crate::pending::{Pending, take};
 use crate::placed::{Decided, Placed, jumps};
 use crate::waiting::Waiting;
 use std::marker::Model;
 
-/// The cells of a sound, decided while it goes on, in fixed memory: about 310 KiB.
+/// The cells of a sound, decided while it goes on, in fixed memory: about 260 KiB.
 #[derive(Drop)]
 pub struct Decisions {
     paths: Paths,
+    /// The steps that wait until there are four.
+    pending: Pending,
     count: u64,
     done: u64,
     waiting: Waiting,
@@ -30,6 +33,7 @@ impl Model for Decisions {
 
     ghost view = { λ s. record {
       paths = s.paths;
+      pending = s.pending;
       count = s.count;
       done = s.done;
       waiting = s.waiting;
@@ -38,6 +42,7 @@ impl Model for Decisions {
 
     ghost invariant = { λ s. AreDecisions (record {
       paths = s.paths;
+      pending = s.pending;
       count = s.count;
       done = s.done;
       waiting = s.waiting;
@@ -55,6 +60,7 @@ impl Decisions {
     {
         Decisions {
             paths: Paths::new(),
+            pending: Pending::new(),
             count: 0,
             done: 0,
             waiting: Waiting::new(),
@@ -73,7 +79,7 @@ impl Decisions {
         ensures last { self.new.last ≡ self.old.last }
         ensures many { length self.new.waiting ≤ 1_024 }
     {
-        self.paths.feed(step);
+        take(&mut self.paths, &mut self.pending, self.count, step);
         self.count += 1;
         if FIRST <= self.count && self.count % EVERY == 0 {
             decide(
@@ -96,6 +102,8 @@ impl Decisions {
         ensures many { length self.new.waiting ≤ 1_024 }
     {
         if 0 < self.count {
+            let left = self.count % 4;
+            self.paths.finish(self.pending, left);
             decide(
                 &self.paths,
                 0,
@@ -103,6 +111,7 @@ impl Decisions {
                 &mut self.done,
                 &mut self.waiting,
             );
+            self.paths.undo(left);
         }
     }
 

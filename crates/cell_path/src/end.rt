@@ -1,83 +1,74 @@
-//! The best path that ends in one length and sign. Read next: `ends`.
-ghost use Rattle.std.specs.Prelude.{◌≡◌, ℕ, ◌+◌, ◌-◌, ◌*◌, ◌^◌, ◌<◌, ◌≤◌, ◌+ℤ◌, ◌≤ℤ◌, ◌<ℤ◌, List, ◌∷◌};
+//! The best paths that end in one length and sign. Read next: `ends`.
+ghost use Rattle.std.specs.Prelude.{◌≡◌, ℕ, ◌+◌, ◌-◌, ◌<◌, ◌≤◌, List, drop, length, ℤ, ◌+ℤ◌, ◌-ℤ◌};
 ghost use Rattle.cell_path.specs.declared.cell.Step.{Step};
-ghost use Rattle.cell_path.specs.Kept.{limit, number_ago};
-ghost use Rattle.cell_path.specs.Within.{IsWithin};
-ghost use Rattle.cell_path.specs.Number.{IsEnd};
-ghost use Rattle.cell_path.specs.Lengths.{length_in};
+ghost use Rattle.cell_path.specs.Four.{at_step, low};
+ghost use Rattle.cell_path.specs.Kept.{number_ago, sum_ago};
 ghost use Rattle.cell_path.specs.Path.{sign_before, signed, sound_in};
-ghost use Rattle.cell_path.specs.StandsFor.{RowsStandFor, SumsStandFor};
+ghost use Rattle.cell_path.specs.Scores.{AreSteps};
+ghost use Rattle.cell_path.specs.StandsFor.{steps_at, IsEndAt, RowsStandFor, SumsStandFor};
 
 use crate::cell::{Bit, Sign};
-use crate::lengths::{LENGTHS, length_at};
+use crate::four::{Four, minus, plus};
+use crate::lengths::length_at;
 use crate::rows::Rows;
 use crate::sums::Sums;
 
-/// The best path that ends in one length and sign: its score, and its latest bit.
-#[derive(Clone, Copy)]
-pub(crate) struct End {
-    pub(crate) number: i64,
-    pub(crate) bit: Bit,
-}
-
-/// The better of the two bits. Of equal ones it is the zero.
-fn better(zero: i64, one: i64) -> End
-    ensures zero { one ≤ℤ zero → result ≡ record { number = zero; bit = Bit.Zero } }
-    ensures one { zero <ℤ one → result ≡ record { number = one; bit = Bit.One } }
+/// The sound between two of the steps before each of the latest four.
+#[inline(always)]
+fn between(sums: &Sums, ago: usize, later: usize) -> [u32; 4]
+    requires order { later ≤ ago }
+    requires within { ago ≤ 96 }
+    ensures { (step : ℕ) (x y : ℤ) → step < 4 → sum_ago sums.now (3 - step + later) ≡ low x
+        → sum_ago sums.now (3 - step + ago) ≡ low y → at_step result step ≡ low (x -ℤ y) }
 {
-    if zero < one {
-        End {
-            number: one,
-            bit: Bit::One,
-        }
-    } else {
-        End {
-            number: zero,
-            bit: Bit::Zero,
-        }
-    }
+    minus(sums.four(later), sums.four(ago))
 }
 
-/// The sound of the latest steps times the signs of a bit in them that ends with plus.
-fn sound(sums: &Sums, length: usize, bit: Bit) -> i64
+/// The sound up to each of the latest four steps times the signs of a bit that ends there with plus.
+#[inline(always)]
+fn sound(sums: &Sums, length: usize, bit: Bit) -> [u32; 4]
     requires { length ≤ 96 }
-    ensures value { (steps : List Step) → SumsStandFor sums.now steps → result ≡ sound_in bit length steps }
-    ensures size { IsWithin (length * 2 ^ 16) result }
+    ensures { (step : ℕ) (steps : List Step) → step < 4 → SumsStandFor sums.now steps
+        → at_step result step ≡ low (sound_in bit length (steps_at step steps)) }
 {
     let half = length / 2;
     match bit {
-        Bit::Zero => sums.between(length, 0),
-        Bit::One => sums.between(half, 0) - sums.between(length, length - half),
+        Bit::Zero => between(sums, length, 0),
+        Bit::One => minus(between(sums, half, 0), between(sums, length, length - half)),
     }
 }
 
-/// The score of a path that ends with a bit, after the best that can come before it.
-fn behind(rows: &Rows, length: usize, place: usize, bit: Bit, sign: Sign, sound: i64) -> i64
+/// The scores of paths that end with a bit, after the best that can come before it.
+#[inline(always)]
+fn behind(rows: &Rows, length: usize, place: usize, bit: Bit, sign: Sign, sound: [u32; 4]) -> [u32; 4]
     requires place { place < 45 }
     requires least { 4 ≤ length }
     requires most { length ≤ 96 }
-    requires sound { IsWithin (length * 2 ^ 16) sound }
-    ensures value { result ≡ signed sign sound +ℤ number_ago rows.now (length - 1) place (sign_before bit sign) }
-    ensures size { IsWithin (limit rows.now.count 2) result }
+    ensures { (step : ℕ) (x y : ℤ) → step < 4 → at_step sound step ≡ low x
+        → number_ago rows.now (length - 1 - step) place (sign_before bit sign) ≡ low y
+        → at_step result step ≡ low (signed sign x +ℤ y) }
 {
-    sign.of(sound) + rows.ago(length - 1, place, bit.sign_before(sign))
+    let before = rows.four(length, place, bit.sign_before(sign));
+    match sign {
+        Sign::Plus => plus(sound, before),
+        Sign::Minus => minus(before, sound),
+    }
 }
 
-/// The best path that ends with the latest step, in one length and sign. The sums have that step
-/// already, and the rows do not.
+/// The best paths that end with each of the latest four steps, in one length and sign. The sums have those
+/// steps already, and the rows do not.
 #[inline(always)]
-pub(crate) fn best_end(sums: &Sums, rows: &Rows, place: usize, sign: Sign) -> End
+pub(crate) fn best_end(sums: &Sums, rows: &Rows, place: usize, sign: Sign) -> Four
     requires { place < 45 }
-    ensures ends { (step : Step) (before : List Step) → SumsStandFor sums.now (step ∷ before)
-        → RowsStandFor rows.now before
-        → IsEnd LENGTHS (step ∷ before) place sign result.number result.bit }
-    ensures size { IsWithin (limit rows.now.count 2) result.number }
+    ensures ends { (step : ℕ) (steps : List Step) → step < 4 → 4 ≤ length steps → AreSteps steps
+        → SumsStandFor sums.now steps → RowsStandFor rows.now (drop 4 steps)
+        → IsEndAt steps place sign result step }
+    ensures codes { (step : ℕ) → step < 4 → at_step result.codes step < 2 }
 {
     let length = length_at(place);
     let zero = sound(sums, length, Bit::Zero);
     let one = sound(sums, length, Bit::One);
-    better(
-        behind(rows, length, place, Bit::Zero, sign, zero),
-        behind(rows, length, place, Bit::One, sign, one),
-    )
+    let flat = behind(rows, length, place, Bit::Zero, sign, zero);
+    let turned = behind(rows, length, place, Bit::One, sign, one);
+    Four::first(flat).or(turned, 1)
 }

@@ -1,63 +1,63 @@
-//! The best paths that end with the latest step. Read next: `best`.
-ghost use Rattle.std.specs.Prelude.{◌≡◌, ◌≢◌, ℕ, ◌<◌, List, ◌∷◌};
+//! The best paths that end with the latest four steps. Read next: `best`.
+ghost use Rattle.std.specs.Prelude.{◌≡◌, ◌≢◌, ℕ, ◌<◌, ◌≤◌, List, drop, length};
 ghost use Rattle.cell_path.specs.declared.cell.Sign.{Sign};
 ghost use Rattle.cell_path.specs.declared.cell.Step.{Step};
-ghost use Rattle.cell_path.specs.Kept.{limit, number_at};
-ghost use Rattle.cell_path.specs.StandsFor.{bit_at, AreEnds, AreWithinTo, RowsStandFor, SumsStandFor};
+ghost use Rattle.cell_path.specs.Scores.{AreSteps};
+ghost use Rattle.cell_path.specs.StandsFor.{end_at, AreBits, AreEnds, RowsStandFor, SumsStandFor};
 
-use crate::cell::{Bit, Sign};
-use crate::end::{End, best_end};
-use crate::numbers::{Numbers, PLACES};
+use crate::cell::Sign;
+use crate::end::best_end;
+use crate::four::Four;
+use crate::lengths::PLACES;
 use crate::rows::Rows;
 use crate::sums::Sums;
 
-/// A bit for each length, by a sign.
-#[derive(Clone, Copy)]
-pub struct Bits {
-    pub plus: [Bit; PLACES],
-    pub minus: [Bit; PLACES],
-}
-
-/// The best paths that end with one step, in each length and sign: their scores, and their latest bits.
+/// The best paths that end with each of four steps, in each length and sign: what is kept of their scores,
+/// and the codes of their latest bits.
 #[derive(Clone, Copy)]
 pub struct Ends {
-    pub numbers: Numbers,
-    pub bits: Bits,
+    pub plus: [Four; PLACES],
+    pub minus: [Four; PLACES],
 }
 
 impl Ends {
+    /// The ends of the length in this place, with this sign.
+    #[inline(always)]
+    pub(crate) fn at(&self, place: usize, sign: Sign) -> Four
+        requires { place < 45 }
+        ensures { result ≡ end_at self.now place sign }
+    {
+        match sign {
+            Sign::Plus => self.plus[place],
+            Sign::Minus => self.minus[place],
+        }
+    }
+
     /// Puts in the two of a length.
     #[inline(always)]
-    fn put(&mut self, place: usize, plus: End, minus: End)
+    fn put(&mut self, place: usize, plus: Four, minus: Four)
         requires { place < 45 }
-        ensures plus { number_at self.new.numbers place Sign.Plus ≡ plus.number }
-        ensures plus_bit { bit_at self.new.bits place Sign.Plus ≡ plus.bit }
-        ensures minus { number_at self.new.numbers place Sign.Minus ≡ minus.number }
-        ensures minus_bit { bit_at self.new.bits place Sign.Minus ≡ minus.bit }
+        ensures plus { end_at self.new place Sign.Plus ≡ plus }
+        ensures minus { end_at self.new place Sign.Minus ≡ minus }
         ensures others { (other : ℕ) (sign : Sign) → other ≢ place
-            → number_at self.new.numbers other sign ≡ number_at self.old.numbers other sign }
-        ensures other_bits { (other : ℕ) (sign : Sign) → other ≢ place
-            → bit_at self.new.bits other sign ≡ bit_at self.old.bits other sign }
+            → end_at self.new other sign ≡ end_at self.old other sign }
     {
-        self.numbers.plus[place] = plus.number;
-        self.numbers.minus[place] = minus.number;
-        self.bits.plus[place] = plus.bit;
-        self.bits.minus[place] = minus.bit;
+        self.plus[place] = plus;
+        self.minus[place] = minus;
     }
 }
 
-/// The best paths that end with the latest step. The sums have that step already, and the rows do not.
+/// The best paths that end with each of the latest four steps. The sums have those steps already, and the
+/// rows do not.
 pub(crate) fn best_ends(sums: &Sums, rows: &Rows) -> Ends
-    ensures ends { (step : Step) (before : List Step) → SumsStandFor sums.now (step ∷ before)
-        → RowsStandFor rows.now before → AreEnds 45 result (step ∷ before) }
-    ensures size { AreWithinTo 45 (limit rows.now.count 2) result.numbers }
+    ensures ends { (step : ℕ) (steps : List Step) → step < 4 → 4 ≤ length steps → AreSteps steps
+        → SumsStandFor sums.now steps → RowsStandFor rows.now (drop 4 steps) → AreEnds 45 result steps step }
+    ensures codes { AreBits result }
 {
+    let none = Four::first([0; 4]);
     let mut ends = Ends {
-        numbers: Numbers::all(0),
-        bits: Bits {
-            plus: [Bit::Zero; PLACES],
-            minus: [Bit::Zero; PLACES],
-        },
+        plus: [none; PLACES],
+        minus: [none; PLACES],
     };
     for place in 0..PLACES {
         let plus = best_end(sums, rows, place, Sign::Plus);

@@ -6,7 +6,7 @@ ghost use Rattle.cell_path.specs.declared.lengths.TheConstants.{LENGTHS};
 ghost use Rattle.cell_path.specs.Best.{EndsIn, IsBestOfAll};
 ghost use Rattle.cell_path.specs.Decided.{end_behind, newly};
 ghost use Rattle.cell_path.specs.Spaced.{AreSpaced};
-ghost use Rattle.cell_path.specs.Paths.{PathsStandFor};
+ghost use Rattle.cell_path.specs.KeptMarks.{MarksStandFor};
 
 use crate::lengths::length_at;
 use crate::paths::Paths;
@@ -28,7 +28,7 @@ pub const FIRST: u64 = 2_048;
 /// The cells of the best path that ended `delay` steps ago or earlier, after what was decided before, which
 /// ended at `done`.
 fn decided_now(paths: &Paths, best: Point, delay: u64, count: u64, done: u64) -> Waiting
-    requires count { count ≡ paths.now.scores.sums.count }
+    requires count { count ≡ paths.now.marks.count }
     requires first { 0 < delay → 2_048 ≤ count }
     requires delay { delay ≤ 800 }
     requires room { count ≤ 2 ^ 40 }
@@ -37,7 +37,7 @@ fn decided_now(paths: &Paths, best: Point, delay: u64, count: u64, done: u64) ->
     requires near { count ≤ done + 2_048 }
     requires here { best.ago ≡ 0 }
     requires place { best.place < 45 }
-    ensures decided { (steps : List Step) (path : List Cell) → PathsStandFor paths.now steps
+    ensures decided { (steps : List Step) (path : List Cell) → MarksStandFor paths.now.marks steps
         → IsBestOfAll LENGTHS steps path → EndsIn best.place best.sign path → result ≡ newly delay count done path }
     ensures near { count ≤ end_behind done result + delay + 119 }
     ensures behind { end_behind done result ≤ count }
@@ -67,14 +67,14 @@ fn decided_now(paths: &Paths, best: Point, delay: u64, count: u64, done: u64) ->
 #[cold]
 #[inline(never)]
 pub(crate) fn decide(paths: &Paths, delay: u64, count: u64, done: &mut u64, waiting: &mut Waiting)
-    requires count { count ≡ paths.now.scores.sums.count }
+    requires count { count ≡ paths.now.marks.count }
     requires first { 0 < delay → 2_048 ≤ count }
     requires delay { delay ≤ 800 }
     requires room { count ≤ 2 ^ 40 }
     requires some { 0 < count }
     requires behind { done.old ≤ count }
     requires near { count ≤ done.old + 2_048 }
-    ensures decided { (steps : List Step) → PathsStandFor paths.now steps → 0 < length steps
+    ensures decided { (steps : List Step) → MarksStandFor paths.now.marks steps → 0 < length steps
         → (path : List Cell) × IsBestOfAll LENGTHS steps path × (waiting.new ≡ newly delay count done.old path) }
     ensures done { done.new ≡ end_behind done.old waiting.new }
     ensures many { length waiting.new ≤ 1_024 }

@@ -1,17 +1,20 @@
 //! What follows from the definitions alone.
 ghost use Rattle.std.specs.Prelude.{◌≡◌, ℕ, ◌+◌, ◌-◌, ◌*◌, ◌^◌, ◌<◌, ◌≤◌, List, [], ◌∷◌, ◌++◌, pos, drop, length};
-ghost use Rattle.std.specs.Prelude.{reverse};
+ghost use Rattle.std.specs.Prelude.{ℤ, ◌+ℤ◌, ◌≤ℤ◌, reverse};
+ghost use Rattle.cell_path.specs.declared.cell.Bit.{Bit};
 ghost use Rattle.cell_path.specs.declared.cell.Cell.{Cell};
 ghost use Rattle.cell_path.specs.declared.cell.Sign.{Sign};
 ghost use Rattle.cell_path.specs.declared.cell.Step.{Step};
+ghost use Rattle.cell_path.specs.declared.cell.Way.{Way};
 ghost use Rattle.cell_path.specs.declared.follow.TheConstants.{DELAY, EVERY, FIRST};
-ghost use Rattle.cell_path.specs.declared.lengths.TheConstants.{EARLY, JUMP, LENGTHS};
-ghost use Rattle.cell_path.specs.declared.numbers.TheConstants.{PLACES};
+ghost use Rattle.cell_path.specs.declared.lengths.TheConstants.{EARLY, JUMP, LENGTHS, PLACES};
 ghost use Rattle.cell_path.specs.declared.placed.Placed.{Placed};
 ghost use Rattle.cell_path.specs.declared.waiting.TheConstants.{ROOM};
 ghost use Rattle.cell_path.specs.Best.{EndsIn, IsBest, IsBestOfAll};
 ghost use Rattle.cell_path.specs.Decided.{end_behind, in_time, joined, latest_of, AreDecided, AreDecidedInAll};
 ghost use Rattle.cell_path.specs.Lengths.{length_in, spelled};
+ghost use Rattle.cell_path.specs.Number.{IsBeginning, IsEnd};
+ghost use Rattle.cell_path.specs.Scores.{AreSteps};
 ghost use Rattle.cell_path.specs.Spaced.{AreApart};
 
 /// The lengths: from 4 to 24 each, from 26 to 48 each second, from 52 to 96 each fourth.
@@ -33,6 +36,18 @@ pub fn what_stands_before_is_best()
     ensures { (lengths : List ℕ) (steps : List Step) (place before_place : ℕ) (sign before_sign : Sign) (cell : Cell)
         (before : List Cell) → IsBest lengths steps place sign (cell ∷ before) → EndsIn before_place before_sign before
         → IsBest lengths (drop (length_in lengths cell.place) steps) before_place before_sign before }
+{}
+
+/// In a sound of 16 bits the best scores lie near one another: those of the paths that end with a step, in whichever
+/// length and sign, within 2^29, and those of what comes before a cell of one length within 2^24. So a number of 32
+/// bits tells which of two is the greater.
+pub fn the_best_scores_lie_near_one_another()
+    ensures ends { (steps : List Step) (place other_place : ℕ) (sign other_sign : Sign) (number other : ℤ)
+        (bit other_bit : Bit) → AreSteps steps → IsEnd LENGTHS steps place sign number bit
+        → IsEnd LENGTHS steps other_place other_sign other other_bit → number ≤ℤ (other +ℤ pos (2 ^ 29)) }
+    ensures beginnings { (steps : List Step) (ago place : ℕ) (sign other_sign : Sign) (number other : ℤ)
+        (way other_way : Way) → AreSteps steps → place < 45 → IsBeginning LENGTHS steps ago place sign number way
+        → IsBeginning LENGTHS steps ago place other_sign other other_way → number ≤ℤ (other +ℤ pos (2 ^ 24)) }
 {}
 
 /// When a decision falls due, what it leaves open, and how many cells it can decide.

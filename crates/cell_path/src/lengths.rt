@@ -10,6 +10,9 @@ pub const LENGTHS: [usize; 45] = [
     34, 36, 38, 40, 42, 44, 46, 48, 52, 56, 60, 64, 68, 72, 76, 80, 84, 88, 92, 96,
 ];
 
+/// How many lengths there are.
+pub const PLACES: usize = 45;
+
 /// What a jump costs, for each step of the cell behind it, in mean sizes of the sound: more
 /// than a cell can be worth in a sound that is all at its mean size.
 pub const JUMP: usize = 3;

@@ -1,9 +1,9 @@
 //! What is kept of a step to follow a best path back from it. Read next: `marks`.
-ghost use Rattle.std.specs.Prelude.{◌≡◌, ◌<◌};
-ghost use Rattle.cell_path.specs.Marks.{bit_from, marked_bit, marked_way, way_from};
+ghost use Rattle.std.specs.Prelude.{◌≡◌, ℕ, ◌*◌, ◌/◌, ◌%◌, ◌<◌, [], replicate};
+ghost use Rattle.cell_path.specs.Marks.{bit_from, marked_bit, marked_way, sign_from, way_from};
 
 use crate::cell::{Bit, Sign, Way};
-use crate::numbers::PLACES;
+use crate::lengths::PLACES;
 
 /// The marks of one step: for each length a byte, and how the best path of all ends.
 #[derive(Clone, Copy)]
@@ -13,42 +13,45 @@ pub struct StepMarks {
     pub best_sign: Sign,
 }
 
-/// A bit as a number.
-fn number_of_bit(bit: Bit) -> u8
-    ensures value { bit_from result ≡ bit }
-    ensures most { result < 2 }
-{
-    match bit {
-        Bit::Zero => 0,
-        Bit::One => 1,
-    }
+/// The marks of four steps in a row.
+#[derive(Clone, Copy)]
+pub struct FourMarks {
+    pub first: StepMarks,
+    pub second: StepMarks,
+    pub third: StepMarks,
+    pub fourth: StepMarks,
 }
 
-/// A way as a number.
-fn number_of_way(way: Way) -> u8
-    ensures value { way_from result ≡ way }
-    ensures most { result < 4 }
-{
-    match way {
-        Way::Same => 0,
-        Way::Shorter => 1,
-        Way::Longer => 2,
-        Way::Jump => 3,
-    }
-}
-
-/// The mark of a length: its two latest bits, and its two ways.
+/// The marks of a step, of which no length has been marked yet, with the code of the end of the best path of all.
 #[inline(always)]
-pub(crate) fn mark_of(plus: Bit, minus: Bit, plus_way: Way, minus_way: Way) -> u8
-    ensures plus { marked_bit result Sign.Plus ≡ plus }
-    ensures minus { marked_bit result Sign.Minus ≡ minus }
-    ensures plus_way { marked_way result Sign.Plus ≡ plus_way }
-    ensures minus_way { marked_way result Sign.Minus ≡ minus_way }
+pub(crate) fn no_marks_yet(best: u32) -> StepMarks
+    requires { best < 90 }
+    ensures { result ≡ record { marks = replicate 45 0; best_place = best / 2; best_sign = sign_from (best % 2) } }
 {
-    number_of_bit(plus)
-        + 2 * number_of_bit(minus)
-        + 4 * number_of_way(plus_way)
-        + 16 * number_of_way(minus_way)
+    let best_sign = match best % 2 {
+        0 => Sign::Plus,
+        _ => Sign::Minus,
+    };
+    StepMarks {
+        marks: [0; PLACES],
+        best_place: (best / 2) as u8,
+        best_sign,
+    }
+}
+
+/// The mark of a length: the codes of its two latest bits, and of its two ways.
+#[inline(always)]
+pub(crate) fn mark_of(plus: u32, minus: u32, plus_way: u32, minus_way: u32) -> u8
+    requires plus { plus < 2 }
+    requires minus { minus < 2 }
+    requires plus_way { plus_way < 4 }
+    requires minus_way { minus_way < 4 }
+    ensures plus { marked_bit result Sign.Plus ≡ bit_from plus }
+    ensures minus { marked_bit result Sign.Minus ≡ bit_from minus }
+    ensures plus_way { marked_way result Sign.Plus ≡ way_from plus_way }
+    ensures minus_way { marked_way result Sign.Minus ≡ way_from minus_way }
+{
+    (plus + 2 * minus + 4 * plus_way + 16 * minus_way) as u8
 }
 
 /// The latest bit that a mark has for a sign.

@@ -1,5 +1,5 @@
 //! The marks of the latest steps, and following a best path back by them. Read next: `paths`.
-ghost use Rattle.std.specs.Prelude.{◌≡◌, ℕ, ◌+◌, ◌^◌, ◌<◌, ◌≤◌, ℤ, IfSome, None, List, [], ◌∷◌, drop, length};
+ghost use Rattle.std.specs.Prelude.{◌≡◌, ℕ, ◌+◌, ◌-◌, ◌^◌, ◌<◌, ◌≤◌, ℤ, IfSome, None, List, [], ◌∷◌, drop, length};
 ghost use Rattle.cell_path.specs.declared.cell.Cell.{Cell};
 ghost use Rattle.cell_path.specs.declared.cell.Step.{Step};
 ghost use Rattle.cell_path.specs.declared.lengths.TheConstants.{LENGTHS};
@@ -10,9 +10,8 @@ ghost use Rattle.cell_path.specs.Marks.{IsMarked};
 ghost use Rattle.cell_path.specs.Number.{IsBestEnd};
 
 use crate::cell::{Cell, Sign, Way};
-use crate::lengths::length_at;
+use crate::lengths::{PLACES, length_at};
 use crate::mark::{StepMarks, bit_of, way_of};
-use crate::numbers::PLACES;
 use crate::point::{Back, Point, point_before};
 use std::marker::Model;
 
@@ -55,7 +54,7 @@ impl Marks {
 
     /// Takes the marks of the next step.
     pub(crate) fn push(&mut self, marks: StepMarks)
-        requires room { self.old.count < 2 ^ 40 }
+        requires room { self.old.count < 2 ^ 40 + 4 }
         requires place { marks.best_place < 45 }
         ensures stands { (step : Step) (steps : List Step) → MarksStandFor self.old steps
             → IsMarked marks (step ∷ steps)
@@ -64,6 +63,14 @@ impl Marks {
     {
         self.count += 1;
         self.ring[self.count as usize % KEPT] = marks;
+    }
+
+    /// Takes back the marks of some steps.
+    pub(crate) fn undo(&mut self, count: u64)
+        requires { count ≤ self.old.count }
+        ensures { self.new.count ≡ self.old.count - count }
+    {
+        self.count -= count;
     }
 
     /// The marks of the step `ago` steps before the latest.

@@ -1,27 +1,24 @@
 //! The best paths through the sound so far, which can be followed back. Read next: `laws`.
-ghost use Rattle.std.specs.Prelude.{◌≡◌, ℕ, ◌+◌, ◌^◌, ◌<◌, ◌≤◌, ℤ, IfSome, None, List, [], ◌∷◌, drop, length};
+ghost use Rattle.std.specs.Prelude.{◌≡◌, ℕ, ◌+◌, ◌^◌, ◌<◌, ◌≤◌, ℤ, IfSome, None, List, [], ◌∷◌, ◌++◌, ◌-◌, drop, length};
 ghost use Rattle.cell_path.specs.declared.cell.Cell.{Cell};
 ghost use Rattle.cell_path.specs.declared.cell.Step.{Step};
 ghost use Rattle.cell_path.specs.declared.lengths.TheConstants.{LENGTHS};
 ghost use Rattle.cell_path.specs.Best.{IsBest};
-ghost use Rattle.cell_path.specs.KeptMarks.{GoesBack};
+ghost use Rattle.cell_path.specs.KeptMarks.{GoesBack, MarksStandFor};
 ghost use Rattle.cell_path.specs.Lengths.{length_in};
-ghost use Rattle.cell_path.specs.Marks.{IsMarked};
 ghost use Rattle.cell_path.specs.Number.{IsBestEnd};
 ghost use Rattle.cell_path.specs.Paths.{PathsStandFor};
-ghost use Rattle.cell_path.specs.Scores.{IsStep};
-ghost use Rattle.cell_path.specs.StandsFor.{AreEnds, AreStarts};
+ghost use Rattle.cell_path.specs.Pending.{steps_of};
+ghost use Rattle.cell_path.specs.Scores.{AreSteps};
 
-use crate::best::Best;
 use crate::cell::Step;
-use crate::mark::{StepMarks, mark_of};
 use crate::marks::Marks;
-use crate::numbers::PLACES;
+use crate::pending::Pending;
 use crate::point::{Back, Point};
-use crate::scores::{Heard, Scores};
+use crate::scores::Scores;
 use std::marker::Model;
 
-/// The best paths through the sound so far, in fixed memory: about 300 KiB.
+/// The best paths through the sound so far, in fixed memory: about 250 KiB.
 #[derive(Drop)]
 pub struct Paths {
     scores: Scores,
@@ -29,47 +26,18 @@ pub struct Paths {
 }
 
 impl Model for Paths {
-    ghost use Rattle.std.specs.Prelude.{◌≡◌};
     ghost use Rattle.cell_path.specs.Paths.{PathsState};
 
     ghost Value = { PathsState };
 
     ghost view = { λ s. record { scores = s.scores; marks = s.marks } };
-
-    ghost invariant = { λ s. s.marks.count ≡ s.scores.sums.count };
-}
-
-/// The marks of what is known at a step.
-fn marks_of(heard: &Heard) -> StepMarks
-    requires { heard.now.best.place < 45 }
-    ensures marked { (steps : List Step) → AreEnds 45 heard.now.ends steps → AreStarts 45 heard.now.starts steps
-        → IsBestEnd LENGTHS steps heard.now.best.place heard.now.best.sign heard.now.best.number
-        → IsMarked result steps }
-    ensures place { result.best_place < 45 }
-{
-    let mut marks = [0; PLACES];
-    let bits = &heard.ends.bits;
-    let ways = &heard.starts.ways;
-    for place in 0..PLACES {
-        marks[place] = mark_of(
-            bits.plus[place],
-            bits.minus[place],
-            ways.plus[place],
-            ways.minus[place],
-        );
-    }
-    StepMarks {
-        marks,
-        best_place: heard.best.place,
-        best_sign: heard.best.sign,
-    }
 }
 
 impl Paths {
     /// Before the first step.
     pub fn new() -> Paths
         ensures stands { PathsStandFor result [] }
-        ensures count { result.scores.sums.count ≡ 0 }
+        ensures count { result.marks.count ≡ 0 }
     {
         Paths {
             scores: Scores::new(),
@@ -77,24 +45,55 @@ impl Paths {
         }
     }
 
-    /// Takes the next step, and gives the best path of all that ends with it.
-    pub fn feed(&mut self, step: Step) -> Best
-        requires step { IsStep step }
-        requires room { self.old.scores.sums.count < 2 ^ 40 }
-        ensures count { self.new.scores.sums.count ≡ self.old.scores.sums.count + 1 }
-        ensures stands { (steps : List Step) → PathsStandFor self.old steps → PathsStandFor self.new (step ∷ steps) }
-        ensures best { (steps : List Step) → PathsStandFor self.old steps
-            → IsBestEnd LENGTHS (step ∷ steps) result.place result.sign result.number }
-        ensures place { result.place < 45 }
+    /// Takes the next four steps.
+    pub fn feed(&mut self, a: Step, b: Step, c: Step, d: Step)
+        requires room { self.old.marks.count ≤ 2 ^ 40 }
+        ensures count { self.new.marks.count ≡ self.old.marks.count + 4 }
+        ensures stands { (steps : List Step) → AreSteps (d ∷ c ∷ b ∷ a ∷ []) → PathsStandFor self.old steps
+            → PathsStandFor self.new (d ∷ c ∷ b ∷ a ∷ steps) }
     {
-        let heard = self.scores.feed(step);
-        self.marks.push(marks_of(&heard));
-        heard.best
+        let marks = self.scores.feed(a, b, c, d);
+        self.marks.push(marks.first);
+        self.marks.push(marks.second);
+        self.marks.push(marks.third);
+        self.marks.push(marks.fourth);
+    }
+
+    /// Takes the last steps of a sound, fewer than four.
+    pub fn finish(&mut self, pending: Pending, count: u64)
+        requires room { self.old.marks.count ≤ 2 ^ 40 }
+        requires few { count < 4 }
+        ensures count { self.new.marks.count ≡ self.old.marks.count + count }
+        ensures stands { (steps : List Step) → AreSteps (steps_of pending 3) → PathsStandFor self.old steps
+            → MarksStandFor self.new.marks (steps_of pending count ++ steps) }
+    {
+        if count == 0 {
+            return;
+        }
+        let silence = Step { sound: 0, level: 0 };
+        let marks = self.scores.feed(pending.first, pending.second, pending.third, silence);
+        self.marks.push(marks.first);
+        if count == 1 {
+            return;
+        }
+        self.marks.push(marks.second);
+        if count == 2 {
+            return;
+        }
+        self.marks.push(marks.third);
+    }
+
+    /// Takes back the last steps of a sound, of which only the marks are left.
+    pub fn undo(&mut self, count: u64)
+        requires { count ≤ self.old.marks.count }
+        ensures { self.new.marks.count ≡ self.old.marks.count - count }
+    {
+        self.marks.undo(count);
     }
 
     /// Where the best path of all ends, with the latest step.
     pub fn best(&self) -> Point
-        ensures best { (steps : List Step) → PathsStandFor self.now steps → 0 < length steps
+        ensures best { (steps : List Step) → MarksStandFor self.now.marks steps → 0 < length steps
             → (number : ℤ) × IsBestEnd LENGTHS steps result.place result.sign number }
         ensures place { result.place < 45 }
         ensures here { result.ago ≡ 0 }
@@ -107,13 +106,13 @@ impl Paths {
     pub fn back(&self, at: Point) -> Back
         requires place { at.place < 45 }
         requires ago { at.ago < 4_000 }
-        ensures back { (steps : List Step) (path : List Cell) → PathsStandFor self.now steps → at.ago < length steps
+        ensures back { (steps : List Step) (path : List Cell) → MarksStandFor self.now.marks steps → at.ago < length steps
             → IsBest LENGTHS (drop at.ago steps) at.place at.sign path → GoesBack steps path result }
         ensures cell { result.cell.place ≡ at.place }
         ensures point { IfSome result.before (λ before. (before.place < 45)
-            × (before.ago ≡ at.ago + length_in LENGTHS at.place) × (before.ago < self.now.scores.sums.count)) }
+            × (before.ago ≡ at.ago + length_in LENGTHS at.place) × (before.ago < self.now.marks.count)) }
         ensures first { result.before ≡ None
-            → self.now.scores.sums.count ≤ at.ago + length_in LENGTHS at.place }
+            → self.now.marks.count ≤ at.ago + length_in LENGTHS at.place }
     {
         self.marks.back(at)
     }

@@ -4,7 +4,7 @@ ghost use Rattle.cell_path.specs.KeptMarks.{point_before};
 
 use crate::cell::{Cell, Sign, Way};
 use crate::mark::StepMarks;
-use crate::numbers::PLACES;
+use crate::lengths::PLACES;
 
 /// The end of a cell: how many steps ago, the place of its length, and its sign.
 #[derive(Clone, Copy)]

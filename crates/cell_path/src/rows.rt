@@ -1,21 +1,24 @@
 //! The numbers of the latest steps. Read next: `end`.
-ghost use Rattle.std.specs.Prelude.{◌≡◌, ℕ, ◌+◌, ◌^◌, ◌<◌, ◌≤◌, pos, neg_ℤ};
+ghost use Rattle.std.specs.Prelude.{◌≡◌, ◌≢◌, ℕ, ◌+◌, ◌-◌, ◌%◌, ◌<◌, ◌≤◌, get_or, pos, neg_ℤ, []};
 ghost use Rattle.cell_path.specs.declared.cell.Sign.{Sign};
 ghost use Rattle.cell_path.specs.declared.lengths.TheConstants.{EARLY};
-ghost use Rattle.cell_path.specs.Kept.{AreWithin, limit, number_ago, number_at, same_numbers};
-ghost use Rattle.cell_path.specs.Within.{IsWithin};
+ghost use Rattle.cell_path.specs.Four.{at_step, low};
+ghost use Rattle.cell_path.specs.Kept.{number_ago, number_next, IsRing};
+ghost use Rattle.cell_path.specs.StandsFor.{RowsStandFor};
+ghost use Rattle.cell_path.specs.Started.{KeepsNumbers};
 
 use crate::cell::Sign;
-use crate::lengths::EARLY;
-use crate::numbers::Numbers;
+use crate::lengths::{EARLY, PLACES};
+use crate::ring::{read, write};
 use std::marker::Model;
 
-/// The numbers of the latest 97 steps, in a ring: the best scores of what comes before a cell that
-/// begins there.
+/// The numbers of the latest 128 steps, in a ring for each length and sign: the best scores of what comes
+/// before a cell that begins there.
 #[derive(Drop)]
 pub(crate) struct Rows {
-    ring: [Numbers; 128],
-    count: u64,
+    plus: [[u32; 132]; PLACES],
+    minus: [[u32; 132]; PLACES],
+    next: usize,
 }
 
 impl Model for Rows {
@@ -23,46 +26,74 @@ impl Model for Rows {
 
     ghost Value = { RowsState };
 
-    ghost view = { λ s. record { ring = s.ring; count = s.count } };
+    ghost view = { λ s. record { plus = s.plus; minus = s.minus; next = s.next } };
 
-    ghost invariant = { λ s. AreRows (record { ring = s.ring; count = s.count }) };
+    ghost invariant = { λ s. AreRows (record { plus = s.plus; minus = s.minus; next = s.next }) };
+}
+
+/// The numbers before the first step: a cell that begins with the sound costs nothing, and one that begins before
+/// it does costs much.
+fn no_numbers() -> [u32; 132]
+    ensures ring { IsRing result }
+    ensures here { get_or result 127 0 ≡ low (pos 0) }
+    ensures early { (place : ℕ) → place < 127 → get_or result place 0 ≡ low (neg_ℤ EARLY) }
+{
+    let mut ring = [0u32.wrapping_sub(EARLY as u32); 132];
+    ring[127] = 0;
+    ring
 }
 
 impl Rows {
     /// Before the first step.
     pub(crate) fn new() -> Rows
-        ensures count { result.count ≡ 0 }
-        ensures here { (place : ℕ) (sign : Sign) → place < 45 → number_ago result 0 place sign ≡ pos 0 }
-        ensures early { (ago place : ℕ) (sign : Sign) → 0 < ago → ago ≤ 96 → place < 45
-            → number_ago result ago place sign ≡ neg_ℤ EARLY }
+        ensures next { result.next ≡ 0 }
+        ensures stands { RowsStandFor result [] }
     {
-        let mut ring = [Numbers::all(-EARLY); 128];
-        ring[0] = Numbers::all(0);
-        Rows { ring, count: 0 }
+        Rows {
+            plus: [no_numbers(); PLACES],
+            minus: [no_numbers(); PLACES],
+            next: 0,
+        }
     }
 
-    /// The number that the step `ago` steps before the latest has in a place, with a sign.
-    pub(crate) fn ago(&self, ago: usize, place: usize, sign: Sign) -> i64
-        requires ago { ago ≤ 96 }
+    /// The numbers behind which cells of a length begin that end with the next four steps.
+    #[inline(always)]
+    pub(crate) fn four(&self, length: usize, place: usize, sign: Sign) -> [u32; 4]
+        requires least { 4 ≤ length }
+        requires most { length ≤ 96 }
         requires place { place < 45 }
-        ensures value { result ≡ number_ago self.now ago place sign }
-        ensures size { IsWithin (limit self.now.count ago) result }
-        ensures count { self.now.count ≤ 2 ^ 40 }
+        ensures { (step : ℕ) → step < 4 → at_step result step ≡ number_ago self.now (length - 1 - step) place sign }
     {
-        let row = &self.ring[(self.count as usize + 128 - ago) % 128];
-        row.at(place, sign)
+        let at = (self.next + 128 - length) % 128;
+        match sign {
+            Sign::Plus => read(&self.plus[place], at),
+            Sign::Minus => read(&self.minus[place], at),
+        }
     }
 
-    /// Takes the numbers of the next step.
-    pub(crate) fn push(&mut self, numbers: Numbers)
-        requires size { AreWithin (limit (self.old.count + 1) 0) numbers }
-        requires room { self.old.count < 2 ^ 40 }
-        ensures count { self.new.count ≡ self.old.count + 1 }
-        ensures latest { (place : ℕ) (sign : Sign) → number_ago self.new 0 place sign ≡ number_at numbers place sign }
-        ensures others { (ago place : ℕ) (sign : Sign) → ago < 96
-            → number_ago self.new (ago + 1) place sign ≡ number_ago self.old ago place sign }
+    /// Puts in the numbers of a length for the next four steps.
+    #[inline(always)]
+    pub(crate) fn put(&mut self, place: usize, plus: [u32; 4], minus: [u32; 4])
+        requires { place < 45 }
+        ensures keeps { KeepsNumbers self.old self.new }
+        ensures plus { (step : ℕ) → step < 4 → number_next self.new step place Sign.Plus ≡ at_step plus step }
+        ensures minus { (step : ℕ) → step < 4 → number_next self.new step place Sign.Minus ≡ at_step minus step }
+        ensures others { (step other : ℕ) (sign : Sign) → other ≢ place
+            → number_next self.new step other sign ≡ number_next self.old step other sign }
     {
-        self.count += 1;
-        self.ring[self.count as usize % 128] = numbers;
+        let at = self.next;
+        write(&mut self.plus[place], at, plus);
+        write(&mut self.minus[place], at, minus);
+    }
+
+    /// Goes on behind the four steps whose numbers have been put in.
+    pub(crate) fn turn(&mut self)
+        ensures next { self.new.next ≡ (self.old.next + 4) % 128 }
+        ensures latest { (step place : ℕ) (sign : Sign) → step < 4
+            → number_ago self.new (3 - step) place sign ≡ number_next self.old step place sign }
+        ensures others { (ago place : ℕ) (sign : Sign) → ago ≤ 96
+            → number_ago self.new (ago + 4) place sign ≡ number_ago self.old ago place sign }
+    {
+        self.next = (self.next + 4) % 128;
     }
 }

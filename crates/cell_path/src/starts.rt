@@ -1,83 +1,75 @@
-//! The best ways to begin behind the latest step. Read next: `scores`.
-ghost use Rattle.std.specs.Prelude.{◌≡◌, ◌≢◌, ℕ, ◌+◌, ◌*◌, ◌^◌, ◌<◌, ◌≤◌, List, ◌∷◌};
+//! The best ways to begin behind the latest four steps. Read next: `scores`.
+ghost use Rattle.std.specs.Prelude.{◌≡◌, ◌≢◌, ℕ, ◌<◌, List};
 ghost use Rattle.cell_path.specs.declared.cell.Sign.{Sign};
 ghost use Rattle.cell_path.specs.declared.cell.Step.{Step};
-ghost use Rattle.cell_path.specs.declared.lengths.TheConstants.{LENGTHS};
-ghost use Rattle.cell_path.specs.Kept.{number_at, AreWithin};
-ghost use Rattle.cell_path.specs.Number.{IsBestEnd};
-ghost use Rattle.cell_path.specs.StandsFor.{way_at, AreStarts, AreWithinTo, NumbersEnd};
-ghost use Rattle.cell_path.specs.Within.{IsWithin};
+ghost use Rattle.cell_path.specs.Four.{at_step};
+ghost use Rattle.cell_path.specs.Started.{mark_at, AreStarted, AreStartsOf, HasMarks, IsStarted, KeepsBest, KeepsNumbers};
+ghost use Rattle.cell_path.specs.Kept.{number_next};
+ghost use Rattle.cell_path.specs.StandsFor.{AreBits};
 
-use crate::cell::{Sign, Way};
-use crate::numbers::{Numbers, PLACES};
-use crate::start::{Start, best_start};
+use crate::cell::Sign;
+use crate::ends::Ends;
+use crate::four::Four;
+use crate::lengths::PLACES;
+use crate::mark::{FourMarks, mark_of};
+use crate::rows::Rows;
+use crate::start::best_start;
 
-/// A way for each length, by the sign with which the cell before ends.
-#[derive(Clone, Copy)]
-pub struct Ways {
-    pub plus: [Way; PLACES],
-    pub minus: [Way; PLACES],
-}
-
-/// The best ways to begin behind one step, for each length and sign before: the scores of what comes
-/// before, and the ways.
-#[derive(Clone, Copy)]
-pub struct Starts {
-    pub numbers: Numbers,
-    pub ways: Ways,
-}
-
-impl Starts {
-    /// Puts in the two of a length.
-    #[inline(always)]
-    fn put(&mut self, place: usize, plus: Start, minus: Start)
-        requires { place < 45 }
-        ensures plus { number_at self.new.numbers place Sign.Plus ≡ plus.number }
-        ensures plus_way { way_at self.new.ways place Sign.Plus ≡ plus.way }
-        ensures minus { number_at self.new.numbers place Sign.Minus ≡ minus.number }
-        ensures minus_way { way_at self.new.ways place Sign.Minus ≡ minus.way }
-        ensures others { (other : ℕ) (sign : Sign) → other ≢ place
-            → number_at self.new.numbers other sign ≡ number_at self.old.numbers other sign }
-        ensures other_ways { (other : ℕ) (sign : Sign) → other ≢ place
-            → way_at self.new.ways other sign ≡ way_at self.old.ways other sign }
-    {
-        self.numbers.plus[place] = plus.number;
-        self.numbers.minus[place] = minus.number;
-        self.ways.plus[place] = plus.way;
-        self.ways.minus[place] = minus.way;
-    }
-}
-
-/// The best ways to begin behind the latest step, with the best path of all and the mean size there.
-pub(crate) fn best_starts(ends: &Numbers, best: i64, level: u32) -> Starts
-    requires ends { AreWithin (2 ^ 62 + 2 ^ 40) ends.now }
-    requires best { IsWithin (2 ^ 62 + 2 ^ 40) best }
-    requires level { level ≤ 2 ^ 15 }
-    ensures starts { (step : Step) (before : List Step) (place_of_best : ℕ) (sign_of_best : Sign) → step.level ≡ level
-        → NumbersEnd ends.now (step ∷ before)
-        → IsBestEnd LENGTHS (step ∷ before) place_of_best sign_of_best best
-        → AreStarts 45 result (step ∷ before) }
-    ensures size { (most : ℕ) → AreWithin most ends.now → IsWithin most best
-        → AreWithinTo 45 (most + 3 * 2 ^ 22) result.numbers }
+/// Puts the marks of a length in.
+#[inline(always)]
+fn mark(marks: &mut FourMarks, place: usize, plus: Four, minus: Four, plus_start: Four, minus_start: Four)
+    requires place { place < 45 }
+    requires plus { (step : ℕ) → step < 4 → at_step plus.codes step < 2 }
+    requires minus { (step : ℕ) → step < 4 → at_step minus.codes step < 2 }
+    requires plus_start { (step : ℕ) → step < 4 → at_step plus_start.codes step < 4 }
+    requires minus_start { (step : ℕ) → step < 4 → at_step minus_start.codes step < 4 }
+    ensures marked { (step : ℕ) → step < 4 → HasMarks marks.new place plus minus plus_start minus_start step }
+    ensures others { (step other : ℕ) → other ≢ place → mark_at marks.new step other ≡ mark_at marks.old step other }
+    ensures best { KeepsBest marks.old marks.new }
 {
-    let mut starts = Starts {
-        numbers: Numbers::all(0),
-        ways: Ways {
-            plus: [Way::Same; PLACES],
-            minus: [Way::Same; PLACES],
-        },
-    };
+    let a = plus.codes;
+    let b = minus.codes;
+    let c = plus_start.codes;
+    let d = minus_start.codes;
+    marks.first.marks[place] = mark_of(a[0], b[0], c[0], d[0]);
+    marks.second.marks[place] = mark_of(a[1], b[1], c[1], d[1]);
+    marks.third.marks[place] = mark_of(a[2], b[2], c[2], d[2]);
+    marks.fourth.marks[place] = mark_of(a[3], b[3], c[3], d[3]);
+}
+
+/// Puts in the best ways to begin a cell of one length.
+#[inline(always)]
+fn begin(rows: &mut Rows, marks: &mut FourMarks, ends: &Ends, best: Four, levels: [u32; 4], place: usize)
+    requires place { place < 45 }
+    requires bits { AreBits ends.now }
+    ensures started { (sign : Sign) (step : ℕ) (steps : List Step) → AreStartsOf ends.now best levels steps step
+        → IsStarted steps rows.new marks.new ends.now place sign step }
+    ensures others { (step other : ℕ) (sign : Sign) → other ≢ place
+        → number_next rows.new step other sign ≡ number_next rows.old step other sign }
+    ensures other_marks { (step other : ℕ) → other ≢ place
+        → mark_at marks.new step other ≡ mark_at marks.old step other }
+    ensures keeps { KeepsNumbers rows.old rows.new }
+    ensures best { KeepsBest marks.old marks.new }
+{
+    let plus = best_start(ends, best, levels, place, Sign::Plus);
+    let minus = best_start(ends, best, levels, place, Sign::Minus);
+    rows.put(place, plus.numbers, minus.numbers);
+    mark(marks, place, ends.plus[place], ends.minus[place], plus, minus);
+}
+
+/// Puts in the best ways to begin behind each of the latest four steps, with the best paths of all and the mean
+/// sizes there.
+pub(crate) fn best_starts(rows: &mut Rows, marks: &mut FourMarks, ends: &Ends, best: Four, levels: [u32; 4])
+    requires bits { AreBits ends.now }
+    ensures started { (step : ℕ) (steps : List Step) → AreStartsOf ends.now best levels steps step
+        → AreStarted 45 steps rows.new marks.new ends.now step }
+    ensures keeps { KeepsNumbers rows.old rows.new }
+    ensures best { KeepsBest marks.old marks.new }
+{
     // The shortest and the longest stand apart, so that no length between them is asked whether it has both neighbours.
-    let least_plus = best_start(ends, best, level, 0, Sign::Plus);
-    let least_minus = best_start(ends, best, level, 0, Sign::Minus);
-    starts.put(0, least_plus, least_minus);
+    begin(rows, marks, ends, best, levels, 0);
     for place in 1..PLACES - 1 {
-        let plus = best_start(ends, best, level, place, Sign::Plus);
-        let minus = best_start(ends, best, level, place, Sign::Minus);
-        starts.put(place, plus, minus);
+        begin(rows, marks, ends, best, levels, place);
     }
-    let most_plus = best_start(ends, best, level, PLACES - 1, Sign::Plus);
-    let most_minus = best_start(ends, best, level, PLACES - 1, Sign::Minus);
-    starts.put(PLACES - 1, most_plus, most_minus);
-    starts
+    begin(rows, marks, ends, best, levels, PLACES - 1);
 }

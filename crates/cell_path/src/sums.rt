@@ -1,15 +1,20 @@
 //! The sums of the sound up to each of the latest steps. Read next: `rows`.
-ghost use Rattle.std.specs.Prelude.{◌≡◌, ℕ, ◌+◌, ◌-◌, ◌*◌, ◌^◌, ◌<◌, ◌≤◌, pos, ◌+ℤ◌, ◌-ℤ◌};
+ghost use Rattle.std.specs.Prelude.{◌≡◌, ℕ, ◌+◌, ◌-◌, ◌%◌, ◌<◌, ◌≤◌, List, [], ◌∷◌};
+ghost use Rattle.cell_path.specs.declared.cell.Step.{Step};
+ghost use Rattle.cell_path.specs.Four.{at_step};
 ghost use Rattle.cell_path.specs.Kept.{sum_ago};
-ghost use Rattle.cell_path.specs.Within.{IsWithin};
+ghost use Rattle.cell_path.specs.Scores.{AreSteps};
+ghost use Rattle.cell_path.specs.StandsFor.{SumsStandFor};
 
+use crate::cell::Step;
+use crate::ring::{read, write};
 use std::marker::Model;
 
-/// The sums up to the latest 97 steps, in a ring. Before the sound they are 0.
+/// The sums up to the latest 128 steps, in a ring. Before the sound they are 0.
 #[derive(Drop)]
 pub(crate) struct Sums {
-    ring: [i64; 128],
-    count: u64,
+    ring: [u32; 132],
+    next: usize,
 }
 
 impl Model for Sums {
@@ -17,53 +22,44 @@ impl Model for Sums {
 
     ghost Value = { SumsState };
 
-    ghost view = { λ s. record { ring = s.ring; count = s.count } };
+    ghost view = { λ s. record { ring = s.ring; next = s.next } };
 
-    ghost invariant = { λ s. AreSums (record { ring = s.ring; count = s.count }) };
+    ghost invariant = { λ s. AreSums (record { ring = s.ring; next = s.next }) };
 }
 
 impl Sums {
     /// Before the first step.
     pub(crate) fn new() -> Sums
-        ensures count { result.count ≡ 0 }
-        ensures sums { (ago : ℕ) → ago ≤ 96 → sum_ago result ago ≡ pos 0 }
+        ensures next { result.next ≡ 0 }
+        ensures stands { SumsStandFor result [] }
     {
         Sums {
-            ring: [0; 128],
-            count: 0,
+            ring: [0; 132],
+            next: 0,
         }
     }
 
-    /// The sum up to the step `ago` steps before the latest.
-    fn ago(&self, ago: usize) -> i64
+    /// The sums up to `ago` steps before each of the latest four.
+    #[inline(always)]
+    pub(crate) fn four(&self, ago: usize) -> [u32; 4]
         requires { ago ≤ 96 }
-        ensures value { result ≡ sum_ago self.now ago }
-        ensures size { IsWithin (self.now.count * 2 ^ 16) result }
+        ensures { (step : ℕ) → step < 4 → at_step result step ≡ sum_ago self.now (3 - step + ago) }
     {
-        self.ring[(self.count as usize + 128 - ago) % 128]
+        read(&self.ring, (self.next + 124 - ago) % 128)
     }
 
-    /// The sum of the sound after the step `ago` steps before the latest, up to a later one.
-    pub(crate) fn between(&self, ago: usize, later: usize) -> i64
-        requires order { later ≤ ago }
-        requires within { ago ≤ 96 }
-        ensures value { result ≡ sum_ago self.now later -ℤ sum_ago self.now ago }
-        ensures size { IsWithin ((ago - later) * 2 ^ 16) result }
+    /// Takes the sound of the next four steps.
+    pub(crate) fn push(&mut self, a: Step, b: Step, c: Step, d: Step)
+        ensures next { self.new.next ≡ (self.old.next + 4) % 128 }
+        ensures stands { (steps : List Step) → AreSteps (d ∷ c ∷ b ∷ a ∷ []) → SumsStandFor self.old steps
+            → SumsStandFor self.new (d ∷ c ∷ b ∷ a ∷ steps) }
     {
-        let _ = &self.ring;
-        self.ago(later) - self.ago(ago)
-    }
-
-    /// Takes the sound of the next step.
-    pub(crate) fn push(&mut self, sound: i32)
-        requires sound { IsWithin (2 ^ 16) sound }
-        requires room { self.old.count < 2 ^ 40 }
-        ensures count { self.new.count ≡ self.old.count + 1 }
-        ensures latest { sum_ago self.new 0 ≡ sum_ago self.old 0 +ℤ sound }
-        ensures others { (ago : ℕ) → ago < 96 → sum_ago self.new (ago + 1) ≡ sum_ago self.old ago }
-    {
-        let sum = self.ago(0) + i64::from(sound);
-        self.count += 1;
-        self.ring[self.count as usize % 128] = sum;
+        let first = self.four(0)[3].wrapping_add(a.sound.cast_unsigned());
+        let second = first.wrapping_add(b.sound.cast_unsigned());
+        let third = second.wrapping_add(c.sound.cast_unsigned());
+        let fourth = third.wrapping_add(d.sound.cast_unsigned());
+        let at = self.next;
+        write(&mut self.ring, at, [first, second, third, fourth]);
+        self.next = (self.next + 4) % 128;
     }
 }

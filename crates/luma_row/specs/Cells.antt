@@ -3,12 +3,14 @@ use Rattle.std.specs.Prelude.{ℕ, ◌+◌, ◌-◌, ◌*◌, leb, cond, Bool, �
 use Rattle.std.specs.List.{range_with_len}
 use Rattle.luma_row.specs.declared.place.Place.{Place}
 use Rattle.luma_row.specs.Choice.{sum_of}
-use Rattle.luma_row.specs.Light.{light}
+use Rattle.luma_row.specs.Light.{darkest, light}
 use Rattle.luma_row.specs.Place.{apart, eighth}
 
--- the light of the middle six eighths of a cell
+-- the light of the middle six eighths of a cell, beyond that of the darkest pixel: places are whole sixteenths of a
+-- pixel, so one cell may be a sixteenth longer than another
 abbrev pub cell : List ℕ → Place → ℕ → ℕ
 cell row place bit = light row (eighth place (8 * bit + 7)) - light row (eighth place (8 * bit + 1))
+    - darkest row * (eighth place (8 * bit + 7) - eighth place (8 * bit + 1))
 
 -- the light of each of the 90 cells
 abbrev pub cells_of : List ℕ → Place → List ℕ

@@ -1,6 +1,5 @@
 -- A row that carries code, and what its cells say.
-use Rattle.std.specs.Prelude.{◌≡◌, ℕ, ◌-◌, ◌*◌, ◌<◌, leb, min, max, Bool, true, List}
-use Rattle.std.specs.List.{fold}
+use Rattle.std.specs.Prelude.{◌≡◌, ℕ, ◌-◌, ◌*◌, ◌<◌, leb, Bool, true, List}
 use Rattle.luma_row.specs.declared.light.TheConstants.{EVEN}
 use Rattle.luma_row.specs.declared.place.Place.{Place}
 use Rattle.luma_row.specs.declared.row.CodeRow.{CodeRow}
@@ -9,21 +8,14 @@ use Rattle.luma_row.specs.Climb.{IsPlace}
 use Rattle.luma_row.specs.Coarse.{IsCoarse}
 use Rattle.luma_row.specs.Earliest.{earliest}
 use Rattle.luma_row.specs.Heights.{heights_of}
-
--- the lightest pixel of a row
-abbrev pub lightest : List ℕ → ℕ
-lightest row = fold max 0 row
-
--- the darkest pixel of a row
-abbrev pub darkest : List ℕ → ℕ
-darkest row = fold min 255 row
+use Rattle.luma_row.specs.Light.{darkest, lightest}
 
 -- two of its pixels are eight levels apart
 abbrev pub has_contrast : List ℕ → Bool
 has_contrast row = leb 8 (lightest row - darkest row)
 
 -- where a word lies in a row: its sync pairs fall at the coarse place, which is made finer, and the earliest place is
--- taken at which the word fits nearly as well
+-- taken at which all of them fall
 pub record LiesAt (row : List ℕ) (place : Place) : Type 0 where
   pub coarse : Place
   pub sum : ℕ

@@ -3,8 +3,8 @@ ghost use Rattle.std.specs.Prelude.{◌≡◌, ℕ, ◌+◌, ◌*◌, ◌^◌, �
 ghost use Rattle.luma_row.specs.Cells.{cell, cells_of, counts, standing_out, stands_out, swing};
 ghost use Rattle.luma_row.specs.KeptCells.{AreCells};
 ghost use Rattle.luma_row.specs.KeptLight.{AreSums};
-ghost use Rattle.luma_row.specs.KeptPlace.{IsInRow};
-ghost use Rattle.luma_row.specs.Light.{IsRow};
+ghost use Rattle.luma_row.specs.KeptPlace.{IsNear};
+ghost use Rattle.luma_row.specs.Light.{darkest, IsRow};
 
 use crate::light::{Sums, light};
 use crate::place::Place;
@@ -15,31 +15,34 @@ pub(crate) const BITS: usize = 90;
 /// The light of each cell.
 pub(crate) type Cells = [u32; BITS];
 
-/// The light of the middle six eighths of a cell.
-fn cell(row: &[u8], sums: &Sums, place: Place, bit: usize) -> u32
+/// The light of the middle six eighths of a cell, beyond that of the darkest pixel.
+fn cell(row: &[u8], sums: &Sums, dark: u8, place: Place, bit: usize) -> u32
     requires row { IsRow row.now }
     requires sums { AreSums row.now sums.now }
-    requires place { IsInRow place }
+    requires dark { dark ≡ darkest row.now }
+    requires place { IsNear place }
     requires bit { bit < 90 }
     ensures cell { result ≡ cell row.now place bit }
     ensures most { result ≤ 2 ^ 24 }
 {
     let begin = place.eighth(8 * bit as u32 + 1);
     let end = place.eighth(8 * bit as u32 + 7);
-    light(row, sums, end).saturating_sub(light(row, sums, begin))
+    let all = light(row, sums, end).saturating_sub(light(row, sums, begin));
+    all.saturating_sub(u32::from(dark) * end.saturating_sub(begin))
 }
 
 /// The cells of a word.
-pub(crate) fn cells_of(row: &[u8], sums: &Sums, place: Place) -> Cells
+pub(crate) fn cells_of(row: &[u8], sums: &Sums, dark: u8, place: Place) -> Cells
     requires row { IsRow row.now }
     requires sums { AreSums row.now sums.now }
-    requires place { IsInRow place }
+    requires dark { dark ≡ darkest row.now }
+    requires place { IsNear place }
     ensures cells { result ≡ cells_of row.now place }
     ensures most { AreCells result }
 {
     let mut cells = [0; BITS];
     for bit in 0..BITS {
-        cells[bit] = cell(row, sums, place, bit);
+        cells[bit] = cell(row, sums, dark, place, bit);
     }
     cells
 }
@@ -86,7 +89,7 @@ fn standing_out(cells: &Cells, total: u32) -> u32
 
 /// Whether the row counts.
 pub(crate) fn counts(place: Place, cells: &Cells, total: u32) -> bool
-    requires place { IsInRow place }
+    requires place { IsNear place }
     requires cells { AreCells cells.now }
     requires total { total ≡ swing cells.now }
     ensures { result ≡ counts place cells.now }

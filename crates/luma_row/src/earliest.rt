@@ -1,27 +1,29 @@
-//! From the place with the deepest falls to the earliest at which the word fits. Read next: `cells`.
-ghost use Rattle.std.specs.Prelude.{◌≡◌, ◌^◌, ◌≤◌, length};
-ghost use Rattle.luma_row.specs.Earliest.{earlier, earliest, falls, fits_nearly};
+//! From the place with the deepest falls to the earliest at which all sync pairs fall. Read next: `cells`.
+ghost use Rattle.std.specs.Prelude.{◌≡◌, ◌^◌, ◌<◌, ◌≤◌};
+ghost use Rattle.luma_row.specs.Earliest.{all_fall, back, earliest, falls, falls_enough};
 ghost use Rattle.luma_row.specs.KeptLight.{AreSums};
-ghost use Rattle.luma_row.specs.KeptPlace.{IsInRow};
+ghost use Rattle.luma_row.specs.KeptPlace.{IsInRow, IsNear};
 ghost use Rattle.luma_row.specs.Light.{IsRow};
 
 use crate::light::{EVEN, Sums};
-use crate::place::Place;
+use crate::place::{PAIRS, Place};
 
-/// A 1 and a 0 fit into ten bits at most this many cells behind the sync pair.
-const MOST_CELLS: u32 = 8;
+/// How many places are tried, a cell apart. A 1 and a 0 fit into ten bits at most eight cells behind the sync pair, so
+/// these are eight cells later, the place itself, and eight cells earlier.
+const PLACES: u32 = 17;
 
-/// The place of a word some cells earlier.
-fn earlier(place: Place, cells: u32) -> Place
+/// The place of a word eight cells later, and from there so many back.
+fn back(place: Place, cells: u32) -> Place
     requires place { IsInRow place }
-    requires cells { cells ≤ 8 }
-    ensures earlier { result ≡ earlier place cells }
-    ensures place { IsInRow result }
+    requires cells { cells < 17 }
+    ensures back { result ≡ back place cells }
+    ensures place { IsNear result }
 {
-    let less = cells * (place.last - place.first) / 80;
+    let apart = place.last - place.first;
+    let less = cells * apart / 80;
     Place {
-        first: place.first.saturating_sub(less),
-        last: place.last - less,
+        first: (place.first + apart / 10).saturating_sub(less),
+        last: place.last + apart / 10 - less,
     }
 }
 
@@ -35,30 +37,45 @@ fn falls(row: &[u8], sums: &Sums, place: Place) -> u32
     place.score(row, sums).saturating_sub(9 * EVEN)
 }
 
-/// Whether a word fits nearly as well at another place. Of the first the falls are known.
-fn fits_nearly(row: &[u8], sums: &Sums, place: Place, own: u32, other: Place) -> bool
+/// Whether a pair falls half as much as nine do in the mean, whose sum this is.
+fn falls_enough(row: &[u8], sums: &Sums, sum: u32, place: Place, pair: u32) -> bool
     requires row { IsRow row.now }
     requires sums { AreSums row.now sums.now }
-    requires own { own ≡ falls row.now place }
-    requires other { IsInRow other }
-    ensures { result ≡ fits_nearly row.now place other }
+    requires place { IsNear place }
+    requires pair { pair < 9 }
+    ensures { result ≡ falls_enough row.now sum place pair }
 {
-    other.fits(row) && own.saturating_sub(falls(row, sums, other)) <= own / 18
+    sum <= 18 * place.pair_fall(row, sums, pair).saturating_sub(EVEN)
 }
 
-/// The earliest place at which the word fits nearly as well, up to eight cells before this one.
-pub(crate) fn earliest(row: &[u8], sums: &Sums, place: Place) -> Place
+/// Whether all pairs of a place do.
+fn all_fall(row: &[u8], sums: &Sums, sum: u32, place: Place) -> bool
     requires row { IsRow row.now }
     requires sums { AreSums row.now sums.now }
-    requires place { IsInRow place }
-    ensures earliest { result ≡ earliest row.now place }
-    ensures place { IsInRow result }
+    requires place { IsNear place }
+    ensures { result ≡ all_fall row.now sum place }
 {
-    let own = falls(row, sums, place);
-    let mut best = place;
-    for before in 0..MOST_CELLS {
-        let other = earlier(place, before + 1);
-        if fits_nearly(row, sums, place, own, other) {
+    for pair in 0..PAIRS {
+        if !falls_enough(row, sums, sum, place, pair) {
+            return false;
+        }
+    }
+    true
+}
+
+/// The earliest place at which all pairs fall, from eight cells before the one with the deepest falls to eight behind.
+pub(crate) fn earliest(row: &[u8], sums: &Sums, deepest: Place) -> Place
+    requires row { IsRow row.now }
+    requires sums { AreSums row.now sums.now }
+    requires place { IsInRow deepest }
+    ensures earliest { result ≡ earliest row.now deepest }
+    ensures place { IsNear result }
+{
+    let sum = falls(row, sums, deepest);
+    let mut best = deepest;
+    for cells in 0..PLACES {
+        let other = back(deepest, cells);
+        if all_fall(row, sums, sum, other) {
             best = other;
         }
     }

@@ -1,10 +1,11 @@
 //! What follows from the definitions alone.
-ghost use Rattle.std.specs.Prelude.{◌≡◌, ℕ, ◌+◌, ◌*◌, ◌^◌, ◌<◌, ◌≤◌, true, unsigned_abs, List};
+ghost use Rattle.std.specs.Prelude.{◌≡◌, ℕ, ◌+◌, ◌*◌, ◌^◌, ◌<◌, ◌≤◌, ◌⊎◌, true, unsigned_abs, List};
 ghost use Rattle.luma_row.specs.declared.levels.Levels.{Levels};
 ghost use Rattle.luma_row.specs.declared.light.TheConstants.{EVEN};
 ghost use Rattle.luma_row.specs.declared.place.Place.{Place};
 ghost use Rattle.luma_row.specs.declared.row.CodeRow.{CodeRow};
 ghost use Rattle.luma_row.specs.declared.width.TheConstants.{MAX_WIDTH, MIN_WIDTH};
+ghost use Rattle.luma_row.specs.Earliest.{back, IsEarliestAt, IsNowhereEarlier};
 ghost use Rattle.luma_row.specs.KeptLevels.{AreLevels};
 ghost use Rattle.luma_row.specs.Levels.{height_at, says_bits};
 ghost use Rattle.luma_row.specs.Row.{IsCode, LiesAt};
@@ -32,6 +33,14 @@ pub fn a_row_of_720_pixels()
 pub fn a_row_says_one_thing()
     ensures place { (row : List ℕ) (a b : Place) → LiesAt row a → LiesAt row b → a ≡ b }
     ensures code { (row : List ℕ) (a b : CodeRow) → IsCode row a → IsCode row b → a ≡ b }
+{}
+
+/// A word lies at a place where all its pairs fall, and at none before it; or at the one with the deepest falls, where
+/// they fall at none. The one with the deepest falls is eight cells back from eight cells later.
+pub fn a_word_lies_at_the_earliest_place()
+    ensures earliest { (row : List ℕ) (place : Place) (lies : LiesAt row place)
+        → ((cells : ℕ) × IsEarliestAt row lies.deepest place cells) ⊎ IsNowhereEarlier row lies.deepest place }
+    ensures eight { (place : Place) → back place 8 ≡ place }
 {}
 
 /// What holds of the levels of a row holds of those of two rows.

@@ -9,10 +9,11 @@
 //! - `RowReader::read` gives a row that carries code, and nothing of every other (`code`, `none`; `specs/Row.antt`,
 //!   `IsCode`): two pixels are eight levels apart; the word lies at the first of the best coarse places
 //!   (`specs/Coarse.antt`, `IsCoarse`: no distance and start that is looked at has a greater sum of nine falls),
-//!   made finer by moves to the first of the best neighbours (`specs/Climb.antt`, `IsPlace`), or earlier if the word
-//!   fits there nearly as well (`specs/Earliest.antt`, `earliest`); and the swing of the sync pairs counts
-//!   (`specs/Cells.antt`, `counts`).
-//! - The heights of the 90 cells above their threshold are those of `specs/Heights.antt`, `height`.
+//!   made finer by moves to the first of the best neighbours (`specs/Climb.antt`, `IsPlace`), or some cells beside it,
+//!   at the earliest place where all nine pairs fall (`specs/Earliest.antt`, `earliest`); and the swing of the sync
+//!   pairs counts (`specs/Cells.antt`, `counts`).
+//! - The light of a cell is counted from the darkest pixel (`specs/Cells.antt`, `cell`), and the heights of the
+//!   90 cells above their threshold are those of `specs/Heights.antt`, `height`.
 //! - `Levels::bits` gives the 90 bits where bit 0 is 1 and each bit is an eighth of the way to its level, and else
 //!   nothing (`specs/Levels.antt`, `says_bits`, `number_of`). So no bit is decided nearer to its threshold
 //!   (`laws::a_bit_that_is_said_is_clear`).

@@ -26,7 +26,8 @@ impl Place {
     pub(crate) fn eighth(self, count: u32) -> u32
         requires near { IsNear self }
         requires count { count ≤ 727 }
-        ensures { result ≡ eighth self count }
+        ensures value { result ≡ eighth self count }
+        ensures most { result < 2 ^ 20 }
     {
         let apart = self.last - self.first;
         (640 * self.first + apart * count).saturating_sub(8 * apart) / 640
@@ -46,7 +47,7 @@ impl Place {
 
     /// The fall of a sync pair.
     #[inline(always)]
-    fn pair_fall(self, row: &[u8], sums: &Sums, pair: u32) -> u32
+    pub(crate) fn pair_fall(self, row: &[u8], sums: &Sums, pair: u32) -> u32
         requires row { IsRow row.now }
         requires sums { AreSums row.now sums.now }
         requires near { IsNear self }

@@ -3,7 +3,7 @@ ghost use Rattle.std.specs.Prelude.{◌≡◌, ◌^◌, ◌≤◌, min, max, IfN
 ghost use Rattle.std.specs.List.{fold};
 ghost use Rattle.luma_row.specs.declared.row.CodeRow.{CodeRow};
 ghost use Rattle.luma_row.specs.KeptLevels.{AreLevels};
-ghost use Rattle.luma_row.specs.Light.{IsRow};
+ghost use Rattle.luma_row.specs.Light.{darkest, lightest, IsRow};
 ghost use Rattle.luma_row.specs.Row.{has_contrast, IsCode};
 
 use crate::cells::{cells_of, counts, swing_of};
@@ -31,9 +31,10 @@ pub struct RowReader {
     sums_of_falls: Falls,
 }
 
-/// Whether two pixels are eight levels apart.
-fn has_contrast(row: &[u8]) -> bool
-    ensures { result ≡ has_contrast row.now }
+/// The darkest and the lightest pixel of a row.
+fn extremes(row: &[u8]) -> (u8, u8)
+    ensures dark { result.0 ≡ darkest row.now }
+    ensures light { result.1 ≡ lightest row.now }
 {
     let mut darkest = 255;
     let mut lightest = 0;
@@ -41,7 +42,17 @@ fn has_contrast(row: &[u8]) -> bool
         darkest = darkest.min(row[at]);
         lightest = lightest.max(row[at]);
     }
-    8 <= lightest.saturating_sub(darkest)
+    (darkest, lightest)
+}
+
+/// Whether two pixels are eight levels apart.
+fn has_contrast(row: &[u8], dark: u8, light: u8) -> bool
+    requires dark { dark ≡ darkest row.now }
+    requires light { light ≡ lightest row.now }
+    ensures { result ≡ has_contrast row.now }
+{
+    let _ = row;
+    8 <= light.saturating_sub(dark)
 }
 
 impl RowReader {
@@ -61,7 +72,8 @@ impl RowReader {
         ensures none { IfNone result ((code : CodeRow) → IsCode row.now code → ⊥) }
         ensures size { IfSome result (λ code. AreLevels (2 ^ 28) (2 ^ 35) code.levels) }
     {
-        if !has_contrast(row) {
+        let (dark, light) = extremes(row);
+        if !has_contrast(row, dark, light) {
             return None;
         }
         sum_up(row, &mut self.sums);
@@ -72,7 +84,7 @@ impl RowReader {
         }
         let deepest = refine(row, &self.sums, coarse.place);
         let place = earliest(row, &self.sums, deepest);
-        let cells = cells_of(row, &self.sums, place);
+        let cells = cells_of(row, &self.sums, dark, place);
         let swing = swing_of(&cells);
         if !counts(place, &cells, swing) {
             return None;

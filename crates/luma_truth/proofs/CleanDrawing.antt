@@ -1,5 +1,5 @@
 -- The margin of a drawing sets its 1s and 0s far enough apart, so a row that is drawn says its word.
-use Rattle.std.proofs.Common.{◌≡◌, ℕ, ◌+◌, ◌-◌, ◌*◌, ◌<◌, ◌≤◌, ◌⊎◌, inl, inr, true, List, refl, arith}
+use Rattle.std.proofs.Common.{◌≡◌, ℕ, ◌+◌, ◌-◌, ◌*◌, ◌<◌, ◌≤◌, ◌⊎◌, inl, inr, true, List, refl, sym, subst, arith}
 use Rattle.std.proofs.Math.Nat.{mul-le-mul_left}
 use Rattle.luma_row.specs.declared.levels.Levels.{Levels}
 use Rattle.luma_row.specs.declared.place.Place.{Place}
@@ -7,66 +7,85 @@ use Rattle.luma_row.specs.declared.row.CodeRow.{CodeRow}
 use Rattle.luma_row.specs.Cells.{cells_of, counts, swing}
 use Rattle.luma_row.specs.Heights.{heights_of}
 use Rattle.luma_row.specs.Levels.{number_of, says_bits}
-use Rattle.luma_row.specs.Light.{IsRow}
+use Rattle.luma_row.specs.Light.{darkest, IsRow}
 use Rattle.luma_row.specs.Place.{apart}
 use Rattle.luma_row.specs.Row.{IsCode, LiesAt}
 use Rattle.luma_truth.specs.Drawing.{Drawing, IsDrawn}
 use Rattle.luma_truth.specs.Inside.{core, HasMargin, IsEnough, LiesInside}
 use Rattle.luma_truth.proofs.AllSay.{all_say, swing_least, AreApart, AreBetween, HasPairs, SayTheWord}
-use Rattle.luma_truth.proofs.InCells.{are_lit, AreLit, Reading}
-use Rattle.luma_truth.proofs.IsCarried.{contrast_is}
+use Rattle.luma_truth.proofs.InCells.{are_lit, wide_cell, AreLit, Reading}
+use Rattle.luma_truth.proofs.IsCarried.{contrast_is, dark_enough}
 use Rattle.luma_truth.proofs.OfBits.{number_is}
 use Rattle.luma_truth.proofs.PairsCount.{pairs_count, six_levels}
 
 -- the bounds of the light of a cell, twice
-abbrev one_least : Drawing → ℕ → ℕ
-one_least drawing core = 2 * (drawing.dark + drawing.swing) * core
-    - (drawing.noise * (core + 1) + 16 * drawing.swing)
+abbrev one_least : Drawing → ℕ → ℕ → ℕ → ℕ
+one_least drawing less over core = 2 * (less + drawing.swing) * core
+    - (2 * over * (core + 1) + drawing.noise * (core + 1) + 16 * drawing.swing)
 
-abbrev one_most : Drawing → ℕ → ℕ
-one_most drawing core = 2 * (drawing.dark + drawing.swing) * (core + 1) + drawing.noise * (core + 1)
+abbrev one_most : Drawing → ℕ → ℕ → ℕ → ℕ
+one_most drawing less over core = 2 * (less + drawing.swing) * (core + 1) + drawing.noise * (core + 1)
+    - 2 * over * core
 
-abbrev zero_least : Drawing → ℕ → ℕ
-zero_least drawing core = 2 * drawing.dark * core - drawing.noise * (core + 1)
+abbrev zero_least : Drawing → ℕ → ℕ → ℕ → ℕ
+zero_least drawing less over core = 2 * less * core - (2 * over * (core + 1) + drawing.noise * (core + 1))
 
-abbrev zero_most : Drawing → ℕ → ℕ
-zero_most drawing core = 2 * drawing.dark * (core + 1) + drawing.noise * (core + 1) + 16 * drawing.swing
+abbrev zero_most : Drawing → ℕ → ℕ → ℕ → ℕ
+zero_most drawing less over core = 2 * less * (core + 1) + drawing.noise * (core + 1) + 16 * drawing.swing
+    - 2 * over * core
 
-far_enough : (dark swing noise core : ℕ) → IsEnough dark swing noise core
-    → 107 * (2 * (dark + swing) * (core + 1) + noise * (core + 1))
-    + 97 * (2 * dark * (core + 1) + noise * (core + 1) + 16 * swing)
-    ≤ 177 * (2 * (dark + swing) * core - (noise * (core + 1) + 16 * swing))
-    + 27 * (2 * dark * core - noise * (core + 1))
-far_enough dark swing noise core enough = omega arith
-
-shared_out : (dark swing noise core : ℕ) → IsEnough dark swing noise core
-    → 2 * dark * (core + 1) + noise * (core + 1) + 16 * swing
-    + (2 * (dark + swing) * core - (noise * (core + 1) + 16 * swing))
-    ≤ 2 * (dark + swing) * (core + 1) + noise * (core + 1) + (2 * dark * core - noise * (core + 1))
-shared_out dark swing noise core enough = omega arith
-
-in_order : (dark swing noise core : ℕ) → 0 < swing
-    → 2 * dark * core - noise * (core + 1) < 2 * (dark + swing) * (core + 1) + noise * (core + 1)
-in_order dark swing noise core some = omega arith
-
-apart_enough : (drawing : Drawing) (core : ℕ) → 0 < drawing.swing
-    → IsEnough drawing.dark drawing.swing drawing.noise core
-    → AreApart (one_least drawing core) (one_most drawing core) (zero_least drawing core)
-    (zero_most drawing core)
-apart_enough drawing core some enough = record {
-  far = far_enough drawing.dark drawing.swing drawing.noise core enough;
-  shares = shared_out drawing.dark drawing.swing drawing.noise core enough;
-  order = in_order drawing.dark drawing.swing drawing.noise core some;
+-- 1s and 0s are far apart where the darkest pixel is below the level of a 0
+below_apart : (dark swing noise less core : ℕ) → 0 < swing → IsEnough dark swing noise core → less ≤ dark
+    → AreApart (2 * (less + swing) * core - (2 * 0 * (core + 1) + noise * (core + 1) + 16 * swing))
+    (2 * (less + swing) * (core + 1) + noise * (core + 1) - 2 * 0 * core)
+    (2 * less * core - (2 * 0 * (core + 1) + noise * (core + 1)))
+    (2 * less * (core + 1) + noise * (core + 1) + 16 * swing - 2 * 0 * core)
+below_apart dark swing noise less core some enough few = record {
+  far = omega (arith, enough, few);
+  shares = omega (arith, enough, few);
+  order = omega (arith, some);
 }
 
-between_these : (drawing : Drawing) (core : ℕ) (cells : List ℕ) → AreLit drawing core cells
-    → AreBetween drawing.word (one_least drawing core) (one_most drawing core) (zero_least drawing core)
-    (zero_most drawing core) cells
-between_these drawing core cells lit = record {
+-- and where the noise lifts it above that
+above_apart : (dark swing noise over core : ℕ) → 0 < swing → IsEnough dark swing noise core → 2 * over ≤ noise
+    → 32 ≤ core
+    → AreApart (2 * (0 + swing) * core - (2 * over * (core + 1) + noise * (core + 1) + 16 * swing))
+    (2 * (0 + swing) * (core + 1) + noise * (core + 1) - 2 * over * core)
+    (2 * 0 * core - (2 * over * (core + 1) + noise * (core + 1)))
+    (2 * 0 * (core + 1) + noise * (core + 1) + 16 * swing - 2 * over * core)
+above_apart dark swing noise over core some enough quiet long =
+    let q = mul-le-mul_left core quiet in
+    let r = mul-le-mul_left over long in
+    record {
+      far = omega (arith, enough, quiet, q, r);
+      shares = omega (arith, enough, quiet, q, r);
+      order = omega (arith, some, q);
+    }
+
+apart_enough : (drawing : Drawing) (less over core : ℕ) → 0 < drawing.swing
+    → IsEnough drawing.dark drawing.swing drawing.noise core → 32 ≤ core → less ≤ drawing.dark
+    → 2 * over ≤ drawing.noise → (over ≡ 0) ⊎ (less ≡ 0)
+    → AreApart (one_least drawing less over core) (one_most drawing less over core)
+    (zero_least drawing less over core) (zero_most drawing less over core)
+apart_enough drawing less over core some enough long few quiet cases = elim cases [
+  | inl none ↦
+      subst (λ (k : ℕ). AreApart (one_least drawing less k core) (one_most drawing less k core)
+      (zero_least drawing less k core) (zero_most drawing less k core)) (sym none)
+      (below_apart drawing.dark drawing.swing drawing.noise less core some enough few)
+  | inr none ↦
+      subst (λ (k : ℕ). AreApart (one_least drawing k over core) (one_most drawing k over core)
+      (zero_least drawing k over core) (zero_most drawing k over core)) (sym none)
+      (above_apart drawing.dark drawing.swing drawing.noise over core some enough quiet long)
+]
+
+between_these : (drawing : Drawing) (less over core : ℕ) (cells : List ℕ) → AreLit drawing less over core cells
+    → AreBetween drawing.word (one_least drawing less over core) (one_most drawing less over core)
+    (zero_least drawing less over core) (zero_most drawing less over core) cells
+between_these drawing less over core cells lit = record {
   ones_least = λ bit h set. let l = lit.ones_least bit h set in omega (arith, l);
-  ones_most = lit.ones_most;
+  ones_most = λ bit h set. let l = lit.ones_most bit h set in omega (arith, l);
   zeros_least = λ bit h set. let l = lit.zeros_least bit h set in omega (arith, l);
-  zeros_most = lit.zeros_most;
+  zeros_most = λ bit h set. let l = lit.zeros_most bit h set in omega (arith, l);
 }
 
 pairs_of : (drawing : Drawing) (row : List ℕ) → IsDrawn drawing row → HasPairs drawing.word
@@ -81,13 +100,48 @@ long_core dark swing noise core some enough =
       | inr long ↦ long
     ]
 
+-- how the darkest pixel differs from the level of a 0
+pub record IsRead (drawing : Drawing) (row : List ℕ) (place : Place) : Type 0 where
+  pub less : ℕ
+  pub over : ℕ
+  pub reading : Reading drawing row place less over
+  pub few : less ≤ drawing.dark
+  pub one : (over ≡ 0) ⊎ (less ≡ 0)
+
 reading_of : (drawing : Drawing) (row : List ℕ) (place : Place) → IsDrawn drawing row → LiesInside drawing place
-    → HasMargin drawing place → 0 < drawing.swing → Reading drawing row place
-reading_of drawing row place is inside enough some = record {
-  drawn = is;
-  inside = inside;
-  long = long_core drawing.dark drawing.swing drawing.noise (core place) some enough;
-}
+    → HasMargin drawing place → 0 < drawing.swing → IsRead drawing row place
+reading_of drawing row place is inside enough some =
+    let long = long_core drawing.dark drawing.swing drawing.noise (core place) some enough in
+    let dark = dark_enough drawing row is (wide_cell drawing place inside long) in
+    let cases : (darkest row ≤ drawing.dark) ⊎ (drawing.dark ≤ darkest row) = grind arith in
+    elim cases [
+      | inl below ↦ record {
+        less = drawing.dark - darkest row;
+        over = 0;
+        reading = record {
+          drawn = is;
+          inside = inside;
+          long = long;
+          split = omega (arith, below);
+          quiet = omega arith;
+        };
+        few = omega arith;
+        one = inl refl;
+      }
+      | inr above ↦ record {
+        less = 0;
+        over = darkest row - drawing.dark;
+        reading = record {
+          drawn = is;
+          inside = inside;
+          long = long;
+          split = omega (arith, above);
+          quiet = omega (arith, above, dark);
+        };
+        few = omega arith;
+        one = inr refl;
+      }
+    ]
 
 -- levels of the cells at such a place say the word
 levels_say : (drawing : Drawing) (row : List ℕ) (place : Place) (levels : Levels) → IsDrawn drawing row
@@ -95,11 +149,16 @@ levels_say : (drawing : Drawing) (row : List ℕ) (place : Place) (levels : Leve
     → levels.swing ≡ swing (cells_of row place) → levels.heights ≡ heights_of (cells_of row place)
     → SayTheWord drawing.word levels
 levels_say drawing row place levels is inside enough some swing_is heights_are =
-    let reading = reading_of drawing row place is inside enough some in
-    let between = between_these drawing (core place) (cells_of row place) (are_lit drawing row place reading) in
-    all_say drawing.word (one_least drawing (core place)) (one_most drawing (core place))
-    (zero_least drawing (core place)) (zero_most drawing (core place)) (cells_of row place) levels between
-    (pairs_of drawing row is) (apart_enough drawing (core place) some enough) swing_is heights_are
+    let read = reading_of drawing row place is inside enough some in
+    let less = read.less in
+    let over = read.over in
+    let between = between_these drawing less over (core place) (cells_of row place)
+    (are_lit drawing row place less over read.reading) in
+    all_say drawing.word (one_least drawing less over (core place)) (one_most drawing less over (core place))
+    (zero_least drawing less over (core place)) (zero_most drawing less over (core place)) (cells_of row place) levels
+    between (pairs_of drawing row is)
+    (apart_enough drawing less over (core place) some enough read.reading.long read.few read.reading.quiet read.one)
+    swing_is heights_are
 
 pub says_its_word : (drawing : Drawing) (row : List ℕ) (code : CodeRow) → IsDrawn drawing row → IsCode row code
     → LiesInside drawing code.place → HasMargin drawing code.place
@@ -120,16 +179,21 @@ count_at : (drawing : Drawing) (row : List ℕ) (place : Place) → IsDrawn draw
     → HasMargin drawing place → counts place (cells_of row place) ≡ true
 count_at drawing row place is inside enough =
     let some : 0 < drawing.swing = omega (arith, is.of_row.levels) in
-    let reading = reading_of drawing row place is inside enough some in
-    let between = between_these drawing (core place) (cells_of row place) (are_lit drawing row place reading) in
+    let read = reading_of drawing row place is inside enough some in
+    let less = read.less in
+    let over = read.over in
+    let between = between_these drawing less over (core place) (cells_of row place)
+    (are_lit drawing row place less over read.reading) in
     let pairs = pairs_of drawing row is in
-    let least = swing_least drawing.word (one_least drawing (core place)) (one_most drawing (core place))
-    (zero_least drawing (core place)) (zero_most drawing (core place)) (cells_of row place) between pairs in
-    pairs_count drawing.word (one_least drawing (core place)) (one_most drawing (core place))
-    (zero_least drawing (core place)) (zero_most drawing (core place)) (cells_of row place) place between pairs
-    (apart_enough drawing (core place) some enough)
-    (six_levels drawing.dark drawing.swing drawing.noise (core place) (apart place) (swing (cells_of row place))
-    is.of_row.levels enough refl least)
+    let least = swing_least drawing.word (one_least drawing less over (core place))
+    (one_most drawing less over (core place)) (zero_least drawing less over (core place))
+    (zero_most drawing less over (core place)) (cells_of row place) between pairs in
+    pairs_count drawing.word (one_least drawing less over (core place)) (one_most drawing less over (core place))
+    (zero_least drawing less over (core place)) (zero_most drawing less over (core place)) (cells_of row place) place
+    between pairs
+    (apart_enough drawing less over (core place) some enough read.reading.long read.few read.reading.quiet read.one)
+    (six_levels drawing.dark drawing.swing drawing.noise less over (core place) (apart place)
+    (swing (cells_of row place)) is.of_row.levels enough read.few read.reading.quiet read.reading.long refl least)
 
 -- a row whose word lies in a drawing carries code, which says the word
 pub carries_its_word : (drawing : Drawing) (row : List ℕ) (place : Place) → IsRow row → IsDrawn drawing row

@@ -1,15 +1,18 @@
--- Some cells before the true place the first sync pair is looked for before the word, where nothing falls: so the word
--- fits at no earlier place nearly as well, whatever its other bits are.
-use Rattle.std.proofs.Common.{◌≡◌, ℕ, suc, ◌+◌, ◌-◌, ◌*◌, ◌/◌, ◌<◌, ◌≤◌, ◌⊎◌, inl, inr, Bool, true, false, ◌&&◌}
-use Rattle.std.proofs.Common.{leb, List, length, refl, arith}
+-- Some cells before the true place the first sync pair is looked for before the word, where nothing falls. At the place
+-- that is found all nine fall, since together they fall nearly the most. So it is the earliest, whatever the other bits
+-- of the word are.
+use Rattle.std.proofs.Common.{◌≡◌, ℕ, zero, suc, ◌+◌, ◌-◌, ◌*◌, ◌/◌, ◌<◌, ◌≤◌, ◌⊎◌, inl, inr, Bool, true, false}
+use Rattle.std.proofs.Common.{◌&&◌, leb, List, refl, ap, ap₂, sym, subst, arith}
 use Rattle.std.proofs.Math.Nat.{mul-le-mul_left, mul-le-mul_right}
 use Rattle.std.proofs.lemmas.Bool.Decides.{nat_tests}
 use Rattle.luma_row.specs.declared.light.TheConstants.{EVEN}
 use Rattle.luma_row.specs.declared.place.Place.{Place}
-use Rattle.luma_row.specs.Earliest.{earlier, falls, fits_nearly}
+use Rattle.luma_row.specs.Choice.{all_of, sum_of}
+use Rattle.luma_row.specs.Earliest.{all_fall, back, falls, falls_enough}
 use Rattle.luma_row.specs.Light.{fall}
-use Rattle.luma_row.specs.Place.{apart, fits, pair_fall, score}
-use Rattle.luma_truth.proofs.Kept.{front_of, IsKept}
+use Rattle.luma_row.specs.Place.{apart, eighth, pair_fall, score}
+use Rattle.luma_truth.specs.Alone.{StandsFirst}
+use Rattle.luma_truth.proofs.Kept.{IsKept}
 use Rattle.luma_truth.proofs.NearPairs.{at_pair, fall_anywhere, nine, pair_is}
 use Rattle.luma_truth.proofs.OnPixels.{IsLit}
 use Rattle.luma_truth.proofs.Rest.{rest_of}
@@ -41,30 +44,36 @@ fall_at_begin word dark swing twos end row is before k o place r behind a b few 
     let lighter = mul-le-mul_left swing few in
     omega (arith, one, two, three, four, darker, lighter)
 
--- the fall of the first sync pair
+-- the fall of the first sync pair; a cell before the row is cut off
 first_falls : (word dark swing twos end : ℕ) (row : List ℕ) → IsLit word dark swing twos end row
-    → (at apart : ℕ) → 19100 ≤ apart → apart ≤ 19300 → 8 * apart ≤ at → at + 138240 ≤ 640 * end
-    → fall row ((at - 8 * apart) / 640) (at / 640) ((at + 8 * apart) / 640) ≤ EVEN + dark
-first_falls word dark swing twos end row is at apart wide narrow front before =
+    → (first apart : ℕ) → apart ≤ 19300 → first + 216 ≤ end → (first + 240 ≤ end) ⊎ (19100 ≤ apart)
+    → fall row ((640 * first - 8 * apart) / 640) first ((640 * first + 8 * apart) / 640) ≤ EVEN + dark
+first_falls word dark swing twos end row is first apart narrow before cases =
     let early = is.within in
-    let n = rest_of ((at - 8 * apart) / 640) (at / 640) (omega arith) in
-    let m = rest_of (at / 640) ((at + 8 * apart) / 640) (omega arith) in
+    let end_is = is.end_is in
+    let n = rest_of ((640 * first - 8 * apart) / 640) first (omega arith) in
+    let m = rest_of first ((640 * first + 8 * apart) / 640) (omega arith) in
     let e = n.1 in
     let f = m.1 in
-    let cases : (at / 640 + 240 ≤ end) ⊎ (end ≤ at / 640 + 240) = grind arith in
     elim cases [
-      | inl out ↦ fall_before word dark swing twos end row is ((at - 8 * apart) / 640) n.0 (at / 640) m.0
-          ((at + 8 * apart) / 640) e f (omega (arith, early)) (omega (arith, e, f)) out
-      | inr begun ↦
-          let k = rest_of ((at - 8 * apart) / 640 + 240) end (omega arith) in
-          let o = rest_of end (at / 640 + 240) begun in
-          let r = rest_of (at / 640 + 100) ((at + 8 * apart) / 640) (omega arith) in
-          let p = k.1 in
-          let q = o.1 in
-          let s = r.1 in
-          fall_at_begin word dark swing twos end row is ((at - 8 * apart) / 640) k.0 o.0 (at / 640) r.0
-          ((at + 8 * apart) / 640) (omega (arith, p)) (omega (arith, p, q)) (omega (arith, q)) s (omega (arith, early))
-          (omega (arith, p, q, s))
+      | inl out ↦ fall_before word dark swing twos end row is ((640 * first - 8 * apart) / 640) n.0 first m.0
+          ((640 * first + 8 * apart) / 640) e f (omega (arith, early, out)) (omega (arith, e, f)) out
+      | inr wide ↦
+          let halves : (first + 240 ≤ end) ⊎ (end ≤ first + 240) = grind arith in
+          elim halves [
+            | inl out ↦ fall_before word dark swing twos end row is ((640 * first - 8 * apart) / 640) n.0 first m.0
+                ((640 * first + 8 * apart) / 640) e f (omega (arith, early, out)) (omega (arith, e, f)) out
+            | inr begun ↦
+                let k = rest_of ((640 * first - 8 * apart) / 640 + 240) end (omega (arith, end_is)) in
+                let o = rest_of end (first + 240) begun in
+                let r = rest_of (first + 100) ((640 * first + 8 * apart) / 640) (omega arith) in
+                let p = k.1 in
+                let q = o.1 in
+                let s = r.1 in
+                fall_at_begin word dark swing twos end row is ((640 * first - 8 * apart) / 640) k.0 o.0 first r.0
+                ((640 * first + 8 * apart) / 640) (omega (arith, p)) (omega (arith, p, q)) (omega (arith, q)) s
+                (omega (arith, early)) (omega (arith, p, q, s))
+          ]
     ]
 
 -- and that of each other
@@ -103,75 +112,162 @@ pair_falls word dark swing twos end row place is wide narrow front early pair h 
     (pair_before place.first (apart place) pair h early narrow) in
     omega (arith, same, most)
 
+-- the first pair of a place, which may begin before the row
+first_is : (first apart : ℕ) → (640 * first + apart * 0 - 8 * apart) / 640 ≡ (640 * first - 8 * apart) / 640
+first_is first apart = omega arith
+
+middle_is : (first apart : ℕ) → (640 * first + apart * 8 - 8 * apart) / 640 ≡ first
+middle_is first apart = omega arith
+
+behind_is : (first apart : ℕ) → (640 * first + apart * 16 - 8 * apart) / 640 ≡ (640 * first + 8 * apart) / 640
+behind_is first apart = omega arith
+
+first_pair_is : (row : List ℕ) (place : Place) → pair_fall row place 0
+    ≡ fall row ((640 * place.first - 8 * apart place) / 640) place.first ((640 * place.first + 8 * apart place) / 640)
+first_pair_is row place =
+    let a : eighth place 0 ≡ (640 * place.first - 8 * apart place) / 640 = first_is place.first (apart place) in
+    let b : eighth place 8 ≡ place.first = middle_is place.first (apart place) in
+    let c : eighth place 16 ≡ (640 * place.first + 8 * apart place) / 640 = behind_is place.first (apart place) in
+    rw (a, b, c) refl
+
 first_pair_falls : (word dark swing twos end : ℕ) (row : List ℕ) (place : Place) → IsLit word dark swing twos end row
-    → 19100 ≤ apart place → apart place ≤ 19300 → apart place ≤ 80 * place.first → place.first + 216 ≤ end
+    → apart place ≤ 19300 → place.first + 216 ≤ end → (place.first + 240 ≤ end) ⊎ (19100 ≤ apart place)
     → pair_fall row place 0 ≤ EVEN + dark
-first_pair_falls word dark swing twos end row place is wide narrow front early =
-    let same = pair_is row place 0 front in
-    let most = first_falls word dark swing twos end row is (at_pair place 0) (apart place) wide narrow
-    (room_before place.first (apart place) (80 * 0) front) (omega (arith, early)) in
+first_pair_falls word dark swing twos end row place is narrow early cases =
+    let same = first_pair_is row place in
+    let most = first_falls word dark swing twos end row is place.first (apart place) narrow early cases in
     omega (arith, same, most)
 
--- so the nine falls are worth less than eight and a tenth
-score_before : (word dark swing twos end : ℕ) (row : List ℕ) (place : Place) → IsLit word dark swing twos end row
-    → 19100 ≤ apart place → apart place ≤ 19300 → apart place ≤ 80 * place.first → place.first + 216 ≤ end
-    → score row place ≤ 9 * EVEN + 1945 * swing
-unfolding score
-score_before word dark swing twos end row place is wide narrow front early =
-    let within = is.within in
-    let few = is.few in
-    let sum = nine (pair_fall row place) in
-    let each : (pair : ℕ) → pair < 9 → pair_fall row place pair ≤ EVEN + dark + 242 * swing
-    = pair_falls word dark swing twos end row place is wide narrow front (omega (arith, within, early)) in
-    let f0 = first_pair_falls word dark swing twos end row place is wide narrow front early in
-    let f1 = each 1 (omega arith) in
-    let f2 = each 2 (omega arith) in
-    let f3 = each 3 (omega arith) in
-    let f4 = each 4 (omega arith) in
-    let f5 = each 5 (omega arith) in
-    let f6 = each 6 (omega arith) in
-    let f7 = each 7 (omega arith) in
-    let f8 = each 8 (omega arith) in
-    omega (arith, few, sum, f0, f1, f2, f3, f4, f5, f6, f7, f8)
+-- ---- no place before it
 
--- what a place some cells earlier is, if the word fits there
-fits_in_order : (width : ℕ) (place : Place) → fits width place ≡ true → place.first < place.last
-fits_in_order width place fit = grind (arith, nat_tests)
+-- what a place some cells earlier is
+less_than : (cells apart : ℕ) → 8 < cells → 19150 ≤ apart → apart / 10 + 239 ≤ cells * apart / 80
+less_than cells apart some wide = let m = mul-le-mul_right apart some in omega (arith, m)
 
-less_than : (cells apart : ℕ) → 19120 ≤ apart → 239 ≤ suc cells * apart / 80
-less_than cells apart wide =
-    let some : 1 ≤ suc cells = omega arith in
-    let m = mul-le-mul_right apart some in
+no_less_than : (cells apart : ℕ) → cells < 17 → cells * apart / 80 ≤ apart / 5
+no_less_than cells apart few =
+    let le : cells ≤ 16 = omega (arith, few) in
+    let m = mul-le-mul_right apart le in
     omega (arith, m)
 
-back_apart : (first last less : ℕ) → first ≤ last → last - less - (first - less) ≤ 80 * (first - less)
-    → first - less < last - less → (less ≤ first) × (last - less - (first - less) ≡ last - first)
-back_apart first last less order front some = (omega arith, omega arith)
+-- a number that is moved on and back
+back_is : (first last on less : ℕ) → first ≤ last → less ≤ last → on ≤ less
+    → (last + on - less - (first + on - less) ≤ last - first)
+    × ((first + on - less ≡ 0) ⊎ (last + on - less - (first + on - less) ≡ last - first))
+back_is first last on less order few back =
+    let cases : (first + on ≤ less) ⊎ (less ≤ first + on) = grind arith in
+    elim cases [
+      | inl front ↦ (omega arith, inl (omega arith))
+      | inr behind ↦ (omega arith, inr (omega arith))
+    ]
 
-isnt_nearly : (fit : Bool) (lacks part : ℕ) → (fit ≡ true → part < lacks) → (fit && leb lacks part) ≡ false
-isnt_nearly true lacks part less = let h = less refl in grind (arith, nat_tests)
-isnt_nearly false lacks part less = refl
+isnt_enough : (sum fall even swing : ℕ) → 1 ≤ swing → 9 * even + 2088 * swing ≤ sum → fall ≤ even + swing
+    → leb (sum - 9 * even) (18 * (fall - even)) ≡ false
+isnt_enough sum fall even swing some most few = grind (arith, nat_tests)
 
-lacks_more : (own other swing even : ℕ) → 1 ≤ swing → even + 2088 * swing ≤ own → other ≤ even + 1945 * swing
-    → (own - even) / 18 < own - even - (other - even)
-lacks_more own other swing even some most few = omega arith
+and_not : (a b : Bool) → b ≡ false → (a && b) ≡ false
+and_not true b isnt = isnt
+and_not false b isnt = refl
 
-pub not_nearly : (word dark swing twos end : ℕ) (row : List ℕ) (place : Place) → IsLit word dark swing twos end row
-    → IsKept swing end row place → (cells : ℕ) → fits_nearly row place (earlier place (suc cells)) ≡ false
-not_nearly word dark swing twos end row place is kept cells =
-    let other = earlier place (suc cells) in
-    let close = kept.close in
-    let fb = close.first_below in
-    let fa = close.first_above in
-    let lb = close.last_below in
-    let la = close.last_above in
-    let less = less_than cells (apart place) (omega (arith, fa, lb)) in
-    isnt_nearly (fits (length row) other) (falls row place - falls row other) (falls row place / 18) (λ fit.
-    let front = front_of (length row) other fit in
-    let order = fits_in_order (length row) other fit in
-    let back = back_apart place.first place.last (suc cells * apart place / 80) (omega (arith, fa, lb)) front order in
-    let within = back.0 in
-    let same : apart other ≡ place.last - place.first = back.1 in
-    let there = score_before word dark swing twos end row other is (omega (arith, same, fa, lb))
-    (omega (arith, same, fb, la)) front (omega (arith, within, less, fa)) in
-    lacks_more (score row place) (score row other) swing (9 * EVEN) is.some kept.falls there)
+not_all : (n : ℕ) (p : ℕ → Bool) (k : ℕ) → k < n → p k ≡ false → all_of n p ≡ false
+unfolding all_of
+not_all zero p k h isnt = absurd (omega arith)
+not_all (suc n) p k h isnt =
+    let cases : (k < n) ⊎ (k ≡ n) = grind arith in
+    elim cases [
+      | inl less ↦ ap (λ (b : Bool). b && p n) (not_all n p k less isnt)
+      | inr same ↦ and_not (all_of n p) (p n) (subst (λ (m : ℕ). p m ≡ false) same isnt)
+    ]
+
+none_earlier : (word dark swing twos end : ℕ) (row : List ℕ) (place : Place) → IsLit word dark swing twos end row
+    → IsKept swing end row place → (cells : ℕ) → 8 < cells → cells < 17
+    → all_fall row (falls row place) (back place cells) ≡ false
+none_earlier word dark swing twos end row place is kept cells some few =
+    let other = back place cells in
+    let fb = kept.close.first_below in
+    let fa = kept.close.first_above in
+    let lb = kept.close.last_below in
+    let la = kept.close.last_above in
+    let less = less_than cells (apart place) some (omega (arith, fa, lb)) in
+    let no_less = no_less_than cells (apart place) few in
+    let end_is = is.end_is in
+    let dim = is.few in
+    let there = back_is place.first place.last (apart place / 10) (cells * apart place / 80) (omega (arith, fa, lb))
+    (omega (arith, no_less, fa, lb, la)) (omega (arith, less)) in
+    let narrow = there.0 in
+    let cases : (other.first + 240 ≤ end) ⊎ (19100 ≤ apart other) = elim there.1 [
+      | inl none ↦ inl (omega (arith, none, end_is))
+      | inr same ↦ inr (omega (arith, same, fa, lb))
+    ] in
+    let first = first_pair_falls word dark swing twos end row other is (omega (arith, narrow, fb, la))
+    (omega (arith, less, fa, end_is)) cases in
+    not_all 9 (falls_enough row (falls row place) other) 0 (omega arith)
+    (isnt_enough (score row place) (pair_fall row other 0) EVEN swing is.some kept.falls (omega (arith, first, dim)))
+
+-- ---- at the place itself
+
+sum_most : (n : ℕ) (f : ℕ → ℕ) (most : ℕ) → ((k : ℕ) → k < n → f k ≤ most) → sum_of n f ≤ sum_of n (λ k. most)
+unfolding sum_of
+sum_most zero f most each = omega arith
+sum_most (suc n) f most each =
+    let before = sum_most n f most (λ k h. each k (omega (arith, h))) in
+    let last = each n (omega arith) in
+    omega (arith, before, last)
+
+-- one of some has what the others leave
+left_for : (n : ℕ) (f : ℕ → ℕ) (most k : ℕ) → ((j : ℕ) → j < n → f j ≤ most) → k < n
+    → sum_of n f + most ≤ f k + sum_of n (λ j. most)
+unfolding sum_of
+left_for zero f most k each h = absurd (omega (arith, h))
+left_for (suc n) f most k each h =
+    let cases : (k < n) ⊎ (k ≡ n) = grind arith in
+    elim cases [
+      | inl less ↦
+          let before = left_for n f most k (λ j h. each j (omega (arith, h))) less in
+          let last = each n (omega arith) in
+          omega (arith, before, last)
+      | inr same ↦
+          let before = sum_most n f most (λ j h. each j (omega (arith, h))) in
+          subst (λ (m : ℕ). sum_of n f + f n + most ≤ f m + (sum_of n (λ j. most) + most)) (sym same)
+          (omega (arith, before))
+    ]
+
+is_enough : (sum fall even dark swing : ℕ) → dark ≤ swing → 9 * even + 2088 * swing ≤ sum
+    → sum + (even + dark + 242 * swing) ≤ fall + 9 * (even + dark + 242 * swing)
+    → sum ≤ 9 * (even + dark + 242 * swing) → leb (sum - 9 * even) (18 * (fall - even)) ≡ true
+is_enough sum fall even dark swing few most left all =
+    let le : sum - 9 * even ≤ 18 * (fall - even) = omega (arith, few, most, left, all) in
+    grind (arith, nat_tests)
+
+all_true : (n : ℕ) (p : ℕ → Bool) → ((k : ℕ) → k < n → p k ≡ true) → all_of n p ≡ true
+unfolding all_of
+all_true zero p each = refl
+all_true (suc n) p each =
+    ap₂ ◌&&◌ (all_true n p (λ k h. each k (omega (arith, h)))) (each n (omega arith))
+
+all_here : (word dark swing twos end : ℕ) (row : List ℕ) (place : Place) → IsLit word dark swing twos end row
+    → IsKept swing end row place → all_fall row (falls row place) place ≡ true
+unfolding score
+all_here word dark swing twos end row place is kept =
+    let fb = kept.close.first_below in
+    let fa = kept.close.first_above in
+    let lb = kept.close.last_below in
+    let la = kept.close.last_above in
+    let within = is.within in
+    let most = EVEN + dark + 242 * swing in
+    let each : (pair : ℕ) → pair < 9 → pair_fall row place pair ≤ EVEN + dark + 242 * swing
+    = pair_falls word dark swing twos end row place is (omega (arith, fa, lb)) (omega (arith, fb, la)) kept.front
+    (omega (arith, fa, within)) in
+    let nines = nine (λ k. most) in
+    let all = sum_most 9 (pair_fall row place) most each in
+    all_true 9 (falls_enough row (falls row place) place) (λ pair h.
+    let left = left_for 9 (pair_fall row place) most pair each h in
+    is_enough (score row place) (pair_fall row place pair) EVEN dark swing is.few kept.falls
+    (omega (arith, left, nines)) (omega (arith, all, nines)))
+
+pub stands_first : (word dark swing twos end : ℕ) (row : List ℕ) (place : Place) → IsLit word dark swing twos end row
+    → IsKept swing end row place → StandsFirst row place
+stands_first word dark swing twos end row place is kept = record {
+  here = all_here word dark swing twos end row place is kept;
+  none = none_earlier word dark swing twos end row place is kept;
+}

@@ -19,7 +19,7 @@ use Rattle.luma_truth.specs.Drawing.{Drawing, IsDrawn}
 use Rattle.luma_truth.specs.Inside.{core, HasMargin, LiesInside}
 use Rattle.luma_truth.specs.Whole.{IsOnWholePixels}
 use Rattle.luma_truth.proofs.CleanDrawing.{carries_its_word}
-use Rattle.luma_truth.proofs.FirstOfAll.{not_nearly}
+use Rattle.luma_truth.proofs.FirstOfAll.{stands_first}
 use Rattle.luma_truth.proofs.LineOfAField.{has_its_line, OneCode}
 use Rattle.luma_truth.proofs.Kept.{refines_kept, IsKept}
 use Rattle.luma_truth.proofs.NearPairs.{at_pair, pair_is, IsClose}
@@ -166,8 +166,7 @@ lies_near word dark swing twos end row is =
     let few : 2 * grain (length row) ≤ 64 = omega (arith, long) in
     let found = refines_kept word dark swing twos end row (2 * grain (length row)) 8 (coarse_at end) is few
     (coarse_kept word dark swing twos end row is) in
-    let first = none_before row found.0 8
-    (λ cells h. not_nearly word dark swing twos end row found.0 is found.2 cells) in
+    let first = none_before row found.0 (stands_first word dark swing twos end row found.0 is found.2) in
     record {
       place = found.0;
       lies = record {

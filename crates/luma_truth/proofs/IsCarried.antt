@@ -4,8 +4,8 @@ use Rattle.std.proofs.Common.{true, List, [], ◌∷◌, length, get_or, min, ma
 use Rattle.std.specs.List.{fold}
 use Rattle.std.proofs.Math.Nat.{mul-le-mul_left}
 use Rattle.std.proofs.lemmas.Bool.Decides.{nat_tests}
-use Rattle.luma_row.specs.Light.{IsRow}
-use Rattle.luma_row.specs.Row.{darkest, has_contrast, lightest}
+use Rattle.luma_row.specs.Light.{darkest, lightest, IsRow}
+use Rattle.luma_row.specs.Row.{has_contrast}
 use Rattle.luma_truth.specs.Drawing.{edge, share, Drawing, IsDrawn}
 use Rattle.luma_truth.proofs.InPixels.{bright_pixel, dark_pixel}
 
@@ -47,13 +47,10 @@ eight_left dark swing noise core some enough =
     ]
 
 -- a pixel in a cell
-midst : (drawing : Drawing) (row : List ℕ) (bit : ℕ) → IsDrawn drawing row → IsRow row → bit < 90
+midst : (drawing : Drawing) (row : List ℕ) (bit : ℕ) → IsDrawn drawing row → 20480 ≤ drawing.cell → bit < 90
     → (pixel : ℕ) × (pixel < length row) × (share drawing pixel bit + 0 ≡ 10240)
-midst drawing row bit is row_is h =
+midst drawing row bit is wide h =
     let pixel = (edge drawing bit + 10239) / 10240 in
-    let narrow = is.of_row.narrow in
-    let least = row_is.0 in
-    let wide : 20480 ≤ drawing.cell = omega (arith, narrow, least) in
     let few : bit + 1 ≤ 90 = omega arith in
     let m = mul-le-mul_left drawing.cell few in
     let within = is.of_row.within in
@@ -67,8 +64,11 @@ pub contrast_is : (drawing : Drawing) (row : List ℕ) (core : ℕ) → IsDrawn 
 contrast_is drawing row core is row_is enough =
     let some = is.of_row.levels in
     let left = eight_left drawing.dark drawing.swing drawing.noise core some enough in
-    let one = midst drawing row 0 is row_is (omega arith) in
-    let nought = midst drawing row 1 is row_is (omega arith) in
+    let narrow = is.of_row.narrow in
+    let least = row_is.0 in
+    let wide : 20480 ≤ drawing.cell = omega (arith, narrow, least) in
+    let one = midst drawing row 0 is wide (omega arith) in
+    let nought = midst drawing row 1 is wide (omega arith) in
     let light = bright_pixel drawing row one.0 0 0 is one.1 (omega arith) (is.of_row.ones 0 (omega arith)) one.2 in
     let zero_is = is.of_row.zeros 0 (omega arith) in
     let dark = dark_pixel drawing row nought.0 1 0 is nought.1 (omega arith) zero_is nought.2 in
@@ -76,3 +76,13 @@ contrast_is drawing row core is row_is enough =
     let low = min_at 255 row nought.0 nought.1 in
     let apart : 8 ≤ lightest row - darkest row = omega (arith, light, dark, high, low, left) in
     grind (arith, nat_tests)
+
+-- the darkest pixel is no lighter than a 0, but for the noise
+pub dark_enough : (drawing : Drawing) (row : List ℕ) → IsDrawn drawing row → 20480 ≤ drawing.cell
+    → 2 * darkest row ≤ 2 * drawing.dark + drawing.noise
+dark_enough drawing row is wide =
+    let nought = midst drawing row 1 is wide (omega arith) in
+    let zero_is = is.of_row.zeros 0 (omega arith) in
+    let dark = dark_pixel drawing row nought.0 1 0 is nought.1 (omega arith) zero_is nought.2 in
+    let low = min_at 255 row nought.0 nought.1 in
+    omega (arith, dark, low)

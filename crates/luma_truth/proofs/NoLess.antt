@@ -1,12 +1,12 @@
 -- Each move goes to a place that fits and falls more, or stays: so the place with the deepest falls falls no less than
 -- the coarse one.
-use Rattle.std.proofs.Common.{◌≡◌, ℕ, zero, suc, ◌*◌, ◌<◌, ◌==◌, ◌⊎◌, inl, inr}
-use Rattle.std.proofs.Common.{Bool, true, false, cond, List, length, refl, ap, sym, subst, ◌∙◌, arith}
+use Rattle.std.proofs.Common.{◌≡◌, ℕ, zero, suc, ◌+◌, ◌-◌, ◌*◌, ◌/◌, ◌<◌, ◌==◌, ◌⊎◌, inl, inr}
+use Rattle.std.proofs.Common.{Bool, true, false, cond, List, length, refl, ap, ap₂, sym, subst, ◌∙◌, arith}
 use Rattle.std.proofs.lemmas.Bool.Decides.{nat_tests}
 use Rattle.luma_row.specs.declared.place.Place.{Place}
 use Rattle.luma_row.specs.Climb.{halved, neighbour, worth, Climbs, Moves, Refines}
-use Rattle.luma_row.specs.Earliest.{earlier, earliest_within, fits_nearly}
-use Rattle.luma_row.specs.Place.{fits, score}
+use Rattle.luma_row.specs.Earliest.{all_fall, back, earliest, earliest_within, falls}
+use Rattle.luma_row.specs.Place.{apart, fits, score}
 use Rattle.luma_row.specs.Row.{LiesAt}
 use Rattle.luma_row.specs.Width.{grain}
 use Rattle.luma_truth.specs.Drawing.{Drawing}
@@ -85,19 +85,42 @@ refines_on row step (suc steps) from to refines =
 pub place_falls : (row : List ℕ) (place : Place) (lies : LiesAt row place) → FallsNoLess row lies.coarse lies.deepest
 place_falls row place lies = refines_on row (2 * grain (length row)) 8 lies.coarse lies.deepest lies.fine
 
--- where the word fits at no place before it, it is the earliest
-pub none_before : (row : List ℕ) (place : Place) (cells : ℕ) → ((less : ℕ) → less < cells
-    → fits_nearly row place (earlier place (suc less)) ≡ false) → earliest_within row place cells ≡ place
+-- eight cells back from eight cells later is the place itself
+pub back_eight : (place : Place) → back place 8 ≡ place
+back_eight place =
+    let first : place.first + apart place / 10 - 8 * apart place / 80 ≡ place.first = omega arith in
+    let last : place.last + apart place / 10 - 8 * apart place / 80 ≡ place.last = omega arith in
+    ap₂ (λ (f l : ℕ). record { first = f; last = l }) first last
+
+-- where all pairs fall at a place, and at none before it, it is the earliest
+first_within : (row : List ℕ) (place : Place) (cells : ℕ) → all_fall row (falls row place) (back place 8) ≡ true
+    → ((less : ℕ) → 8 < less → less < cells → all_fall row (falls row place) (back place less) ≡ false)
+    → 8 < cells → earliest_within row place cells ≡ place
 unfolding earliest_within
-none_before row place zero none = refl
-none_before row place (suc cells) none =
-    rw (none cells (omega arith))
-    (none_before row place cells (λ (less : ℕ) (below : less < cells). none less (omega (arith, below))))
+first_within row place zero here none some = absurd (omega (arith, some))
+first_within row place (suc cells) here none some =
+    let cases : (8 < cells) ⊎ (cells ≡ 8) = grind arith in
+    elim cases [
+      | inl more ↦
+          rw (none cells more (omega arith))
+          (first_within row place cells here
+          (λ (less : ℕ) (above : 8 < less) (below : less < cells). none less above (omega (arith, below))) more)
+      | inr same ↦
+          let there : all_fall row (falls row place) (back place cells) ≡ true =
+          subst (λ (n : ℕ). all_fall row (falls row place) (back place n) ≡ true) (sym same) here in
+          rw there (ap (back place) same ∙ back_eight place)
+    ]
+
+pub none_before : (row : List ℕ) (place : Place) → StandsFirst row place → earliest row place ≡ place
+none_before row place first =
+    first_within row place 17
+    (subst (λ (other : Place). all_fall row (falls row place) other ≡ true) (sym (back_eight place)) first.here)
+    first.none (omega arith)
 
 -- so it lies in a drawing that stands alone
 pub lies_inside : (drawing : Drawing) (row : List ℕ) (place : Place) (lies : LiesAt row place)
     → IsSummit row lies.deepest → StandsAlone drawing row lies.coarse → StandsFirst row lies.deepest
     → LiesInside drawing place
 lies_inside drawing row place lies top alone first =
-    let there = lies.earliest_is ∙ none_before row lies.deepest 8 first in
+    let there = lies.earliest_is ∙ none_before row lies.deepest first in
     subst (LiesInside drawing) (sym there) (alone lies.deepest (place_falls row place lies) top)

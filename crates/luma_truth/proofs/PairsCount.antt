@@ -45,24 +45,26 @@ at_most : (a b : ℕ) → a ≤ b → leb a b ≡ true
 at_most a b h = grind (arith, nat_tests)
 
 -- six levels over the middle six eighths of a cell
-pub six_levels : (dark swing noise core apart total : ℕ) → 12 ≤ swing
-    → 204 * (dark + noise * (core + 1)) + 2299 * swing ≤ 70 * (swing * core)
-    → 6 * apart / 640 ≡ core
-    → 9 * (2 * (dark + swing) * core - (noise * (core + 1) + 16 * swing))
-    ≤ 2 * total + 9 * (2 * dark * (core + 1) + noise * (core + 1) + 16 * swing)
+pub six_levels : (dark swing noise less over core apart total : ℕ) → 12 ≤ swing
+    → 204 * (dark + noise * (core + 1)) + 2299 * swing ≤ 70 * (swing * core) → less ≤ dark → 2 * over ≤ noise
+    → 32 ≤ core → 6 * apart / 640 ≡ core
+    → 9 * (2 * (less + swing) * core - (2 * over * (core + 1) + noise * (core + 1) + 16 * swing))
+    ≤ 2 * total + 9 * (2 * less * (core + 1) + noise * (core + 1) + 16 * swing - 2 * over * core)
     → 81 * apart ≤ 160 * total
-six_levels dark swing noise core apart total some enough is least =
+six_levels dark swing noise less over core apart total some enough few_less quiet long is least =
+    let q = mul-le-mul_left core quiet in
+    let r = mul-le-mul_left over long in
     let cases : (core ≤ 33) ⊎ (34 ≤ core) = grind arith in
     elim cases [
       | inl few ↦
           let m = mul-le-mul_left swing few in
           let n = mul-le-mul_left core some in
-          omega (arith, m, n)
+          omega (arith, some, enough, few, few_less, quiet, is, least, m, n, q, r)
       | inr many ↦
           let extra = rest_of 34 core many in
           let m = mul-le-mul_left extra.0 some in
           let product = ap (λ (w : ℕ). swing * w) extra.1 in
-          omega (arith, m, product, extra.1)
+          omega (arith, some, enough, few_less, quiet, is, least, m, product, extra.1, q, r)
     ]
 
 pub pairs_count : (word one_least one_most zero_least zero_most : ℕ) (cells : List ℕ) (place : Place)

@@ -10,7 +10,7 @@ use Rattle.luma_row.specs.declared.row.CodeRow.{CodeRow}
 use Rattle.luma_row.specs.Choice.{all_of, sum_of, IsFirstBest}
 use Rattle.luma_row.specs.Climb.{halved, neighbour, worth, Climbs, Moves, Refines}
 use Rattle.luma_row.specs.Coarse.{best_at, coarse_fall, coarse_sum, fall_at, pixel_of, step_to, sum_at, IsCoarse}
-use Rattle.luma_row.specs.Earliest.{earlier, fits_nearly}
+use Rattle.luma_row.specs.Earliest.{all_fall, back, falls}
 use Rattle.luma_row.specs.Levels.{number_of, says_bits}
 use Rattle.luma_row.specs.Light.{fall, light, IsRow}
 use Rattle.luma_row.specs.Place.{score}
@@ -380,18 +380,28 @@ refined_is =
 
 -- ---- the earliest place
 
-abbrev is_not_nearly : ℕ → Bool
-is_not_nearly cells = not (fits_nearly ten_hours_row deepest (earlier deepest (suc cells)))
+abbrev fall_not : ℕ → Bool
+fall_not less = not (all_fall ten_hours_row (falls ten_hours_row deepest) (back deepest (9 + less)))
 
-none_nearly : all_of 8 is_not_nearly ≡ true
+none_fall : all_of 8 fall_not ≡ true
 unfolding all_of sum_of score fall light ten_hours_row
-none_nearly = refl
+none_fall = refl
+
+here_all_fall : all_fall ten_hours_row (falls ten_hours_row deepest) deepest ≡ true
+unfolding all_of sum_of score fall light ten_hours_row
+here_all_fall = refl
+
+none_earlier : (cells : ℕ) → 8 < cells → cells < 17
+    → all_fall ten_hours_row (falls ten_hours_row deepest) (back deepest cells) ≡ false
+none_earlier cells some few =
+    let e : 9 + (cells - 9) ≡ cells = omega (arith, some) in
+    subst (λ (n : ℕ). all_fall ten_hours_row (falls ten_hours_row deepest) (back deepest n) ≡ false) e
+    (isnt (all_fall ten_hours_row (falls ten_hours_row deepest) (back deepest (9 + (cells - 9))))
+    (each 8 fall_not (cells - 9) none_fall (omega (arith, some, few))))
 
 row_lies : LiesAt ten_hours_row deepest
 row_lies =
-    let first = none_before ten_hours_row deepest 8 (λ cells h.
-    isnt (fits_nearly ten_hours_row deepest (earlier deepest (suc cells)))
-    (each 8 is_not_nearly cells none_nearly h)) in
+    let first = none_before ten_hours_row deepest (record { here = here_all_fall; none = none_earlier }) in
     let best = best_is in
     record {
       coarse = coarse;

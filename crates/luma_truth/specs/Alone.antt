@@ -1,8 +1,8 @@
 -- Places at which a word may be found, and a drawing that is the only one.
-use Rattle.std.specs.Prelude.{◌≡◌, ℕ, suc, ◌<◌, ◌≤◌, ◌⊎◌, true, false, List, length}
+use Rattle.std.specs.Prelude.{◌≡◌, ℕ, ◌<◌, ◌≤◌, ◌⊎◌, true, false, List, length}
 use Rattle.luma_row.specs.declared.place.Place.{Place}
 use Rattle.luma_row.specs.Climb.{worth}
-use Rattle.luma_row.specs.Earliest.{earlier, fits_nearly}
+use Rattle.luma_row.specs.Earliest.{all_fall, back, falls}
 use Rattle.luma_row.specs.Place.{fits, score}
 use Rattle.luma_truth.specs.Drawing.{Drawing}
 use Rattle.luma_truth.specs.Inside.{LiesInside}
@@ -21,6 +21,7 @@ abbrev pub StandsAlone : Drawing → List ℕ → Place → Type 0
 StandsAlone drawing row coarse = (other : Place) → FallsNoLess row coarse other → IsSummit row other
     → LiesInside drawing other
 
--- at none of the places up to eight cells earlier the word fits nearly as well
-abbrev pub StandsFirst : List ℕ → Place → Type 0
-StandsFirst row place = (cells : ℕ) → cells < 8 → fits_nearly row place (earlier place (suc cells)) ≡ false
+-- all sync pairs fall at the place, and at none of the eight places before it, a cell apart
+pub record StandsFirst (row : List ℕ) (place : Place) : Type 0 where
+  pub here : all_fall row (falls row place) place ≡ true
+  pub none : (cells : ℕ) → 8 < cells → cells < 17 → all_fall row (falls row place) (back place cells) ≡ false

@@ -59,7 +59,8 @@ pub fn a_field_has_the_line_of_a_clean_drawing()
 }
 
 /// The place with the deepest falls falls no less than the coarse place. So if it is a summit, it lies in a drawing
-/// that stands alone; and if the word fits nowhere earlier, that is the place of the word.
+/// that stands alone; and if all sync pairs fall there, and at none of the eight places before it, that is the place of
+/// the word.
 pub fn a_drawing_that_stands_alone_is_found()
     ensures falls { (row : List ℕ) (place : Place) (lies : LiesAt row place)
         → FallsNoLess row lies.coarse lies.deepest }

@@ -1,5 +1,5 @@
 //! The level of cells. Read next: `fit`.
-ghost use Rattle.std.specs.Prelude.{◌≡◌, ◌+◌, ◌*◌, ◌^◌, ◌<◌, ◌≤◌, ℕ, unsigned_abs, List, ◌∷◌, length, take};
+ghost use Rattle.std.specs.Prelude.{◌≡◌, ◌+◌, ◌+ℤ◌, ◌*◌, ◌^◌, ◌<◌, ◌≤◌, ℕ, unsigned_abs, List, ◌∷◌, length, take};
 ghost use Rattle.std.specs.List.{sum_by, All};
 ghost use Rattle.path_front.specs.Levels.{above, is_faint, level_of, mean_level, slowly};
 ghost use Rattle.path_front.specs.Measured.{IsMeasured};
@@ -21,13 +21,23 @@ pub(crate) fn above(number: i64) -> u64
     }
 }
 
+/// The sum of two halves, or 0 if it is below zero.
+fn both_above(first: i64, second: i64) -> u64
+    requires first { unsigned_abs first ≤ 96 * 2 ^ 15 }
+    requires second { unsigned_abs second ≤ 96 * 2 ^ 15 }
+    ensures value { result ≡ above (first +ℤ second) }
+    ensures most { result ≤ unsigned_abs first + unsigned_abs second }
+{
+    above(first + second)
+}
+
 /// The level of a cell: the mean of the sound times the signs.
 pub(crate) fn level(cell: &Measured) -> u64
     requires { IsMeasured cell.now }
     ensures value { result ≡ level_of cell.now }
     ensures most { result ≤ 2 ^ 21 }
 {
-    above(cell.first.sum + cell.second.sum) * 32 / u64::from(cell.length)
+    both_above(cell.first.sum, cell.second.sum) * 32 / u64::from(cell.length)
 }
 
 /// The sum of the levels of some cells.
@@ -82,6 +92,6 @@ pub(crate) fn is_faint(before: &Measured, cell: &Measured, least: u64) -> bool
     requires least { least ≤ 2 ^ 21 }
     ensures { result ≡ is_faint before.now cell.now least }
 {
-    let sum = above(before.second.sum + cell.first.sum);
+    let sum = both_above(before.second.sum, cell.first.sum);
     FINE * sum < least * u64::from(before.length + cell.length)
 }

@@ -24,6 +24,8 @@ pub mod Together
 pub mod UpTo
 pub mod Windows
 pub mod QuietRuns
+pub mod RaisedSizes
+pub mod RaisedLevels
 pub mod ReadBack
 pub mod AllCovered
 pub mod BytesAgain

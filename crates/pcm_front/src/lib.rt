@@ -29,7 +29,7 @@
 //!   `TellTheCrossings`; `laws`).
 //! - Sound that is made of intervals is sliced into them again (`specs/Sound.antt`, `sound`; `laws`).
 //!
-//! Read `start`, `samples`, `window`, `quiet`, `threshold`, `level`, `side`, `crossing`, `still`, `finder`,
+//! Read `start`, `samples`, `window`, `quiet`, `threshold`, `level`, `sizes`, `side`, `crossing`, `still`, `finder`,
 //! `slicer`, `interval`, `pace` and `paced`, in this order, and `specs/Sums.antt`, `Level.antt`, `Side.antt`,
 //! `Crossing.antt`, `Distance.antt` and `Pace.antt` beside them. Nothing here allocates or fails.
 #![tactic(auto)]
@@ -44,6 +44,7 @@ mod paced;
 mod quiet;
 mod samples;
 mod side;
+mod sizes;
 mod slicer;
 mod start;
 mod still;

@@ -112,8 +112,10 @@ impl Slicer {
         ensures runs { RunsTo self.old.finder self.new.finder self.old.window self.new.window (sample ∷ []) result }
     {
         let sum = self.window.sum_with(sample);
+        let distance = self.finder.step(sum);
+        // The window is written last, so that what was just written of the finder is still at hand.
         self.window.push(sample);
-        self.finder.step(sum)
+        distance
     }
 
     /// The ticks that have passed, at the latest sample, since the moment from which the next distance

@@ -82,19 +82,18 @@ sliced_on old new next count found s settings stands intervals settled is = λ f
 pub front_longer : (at n : ℕ) (s : List ℤ) → take (at + n) s ≡ take at s ++ take n (take (length s - at) (drop at s))
 front_longer at n s = rw (take_rest s at) (take-add at n s)
 
--- what is left was read, without an event of the samples before
-pub brings_further : (a b c : SoundState) (at : ℕ) (s : List ℤ) (own : List Event) → Brings a b (take at s) []
-    → Brings b c [] own → Brings a c (take at s) own
-brings_further a b c at s own first second =
-    subst (λ (t : List ℤ). Brings a c t own) (append-nil (take at s))
-    (brings_on a b c (take at s) [] [] own first second)
+-- what waits was read
+pub then_waiting : (a b c : SoundState) (s : List ℤ) (own : List Event) → Brings a b s [] → Brings b c [] own
+    → Brings a c s own
+then_waiting a b c s own first second =
+    subst (λ (t : List ℤ). Brings a c t own) (append-nil s) (brings_on a b c s [] [] own first second)
 
--- and then samples behind those
-pub brings_over : (a b c : SoundState) (at n : ℕ) (s : List ℤ) → Brings a b (take at s) []
-    → Brings b c (take n (take (length s - at) (drop at s))) [] → Brings a c (take (at + n) s) []
-brings_over a b c at n s first second =
+-- samples behind others
+pub brings_over : (a b c : SoundState) (at n : ℕ) (s : List ℤ) (own : List Event) → Brings a b (take at s) []
+    → Brings b c (take n (take (length s - at) (drop at s))) own → Brings a c (take (at + n) s) own
+brings_over a b c at n s own first second =
     rw (front_longer at n s)
-    (brings_on a b c (take at s) (take n (take (length s - at) (drop at s))) [] [] first second)
+    (brings_on a b c (take at s) (take n (take (length s - at) (drop at s))) [] own first second)
 
 -- the front of a front
 pub front_of_front : (n most : ℕ) (s : List ℤ) → n ≤ most → take n (take most s) ≡ take n s

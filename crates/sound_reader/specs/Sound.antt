@@ -1,6 +1,9 @@
 -- What a reader of sound keeps, and which samples it stands for, with which events.
 use Rattle.std.specs.Prelude.{◌≡◌, ℕ, ℤ, ◌*◌, ◌≤◌, nat_le, ◌||◌, Bool, List, [], ◌∷◌, ◌++◌}
+use Rattle.direction_reader.specs.declared.brought.Brought.{Brought}
 use Rattle.direction_reader.specs.declared.event.Event.{Event}
+use Rattle.direction_reader.specs.declared.event.Events.{Events}
+use Rattle.direction_reader.specs.Events.{event_list}
 use Rattle.direction_reader.specs.Reader.{ReaderState, Takes}
 use Rattle.direction_reader.specs.StandsFor as reader
 use Rattle.direction_reader.specs.Tracker.{profile_of}
@@ -60,3 +63,10 @@ pub record Reads (old new : ReaderState) (x : ℕ) (own : List Event) : Type 0 w
   pub takes : Takes old x new
   pub stands : (intervals : List ℕ) (events : List Event) → reader.StandsFor old intervals events
       → reader.StandsFor new (intervals ++ x ∷ []) (events ++ own)
+
+-- samples were taken, and the one interval that they brought was read, which may have brought an event
+pub record Found (old new : SoundState) (samples : List ℤ) (brought : Brought) : Type 0 where
+  pub settled : IsSettled new
+  pub may : reader.MayTell new.reader brought
+  pub some : 1 ≤ new.reader.intervals
+  pub brings : (own : Events) → reader.Tells new.reader brought own → Brings old new samples (event_list own)

@@ -1,15 +1,15 @@
 //! A reader of sound. Read next: `laws`.
-ghost use Rattle.std.specs.Prelude.{◌≡◌, ◌+◌, ◌≤◌, ◌<◌, ◌↔◌, IsTrue, [], length, take, true, false};
+ghost use Rattle.std.specs.Prelude.{◌≡◌, ◌+◌, ◌≤◌, ◌<◌, ◌↔◌, IsTrue, [], length, take, true, false, None, IfSome};
 ghost use Rattle.direction_reader.specs.declared.event.Events.{Events};
 ghost use Rattle.direction_reader.specs.Events.{event_list, no_events};
 ghost use Rattle.direction_reader.specs.StandsFor.{MayTell, Tells};
 ghost use Rattle.limits.specs.declared.recording.TheConstants.{MAX_INTERVAL, MAX_INTERVALS};
 ghost use Rattle.sound_reader.specs.Settings.{AreInRange};
-ghost use Rattle.sound_reader.specs.Sound.{is_full, Brings, IsSettled, Reads, StandsFor};
-ghost use Rattle.sound_reader.specs.Waiting.{count_of, is_nothing};
+ghost use Rattle.sound_reader.specs.Sound.{is_full, Brings, Found, IsSettled, Reads, StandsFor};
+ghost use Rattle.sound_reader.specs.Waiting.{count_of, is_nothing, AreIntervals};
 
 use crate::settings::SoundSettings;
-use crate::waiting::next;
+use crate::waiting::{alone, next};
 use direction_reader::{Brought, DirectionReader, Events};
 use limits::{MAX_INTERVAL, MAX_INTERVALS};
 use pcm_front::{Intervals, Slicer};
@@ -100,17 +100,47 @@ impl SoundReader {
         ensures all { result.1 ≡ no_events → is_full self.new ≡ false
             → (result.0 ≡ length samples.now) × IsSettled self.new }
     {
-        let mut at = 0;
-        'reading: loop {
-            let events = self.read_waiting();
-            if !are_none(&events) || at == samples.len() || self.is_full() {
-                return (at, events);
-            }
-            at += self.slice(&samples[at..]);
+        let events = self.read_waiting();
+        if !are_none(&events) {
+            return (0, events);
         }
+        let mut at = 0;
+        'reading: while at < samples.len() && !self.is_full() {
+            let (count, found) = self.slice(&samples[at..]);
+            at += count;
+            match found {
+                Some(brought) => {
+                    if is_nothing(brought) {
+                        continue;
+                    }
+                    let events = self.events(brought);
+                    if !are_none(&events) {
+                        return (at, events);
+                    }
+                }
+                None => {
+                    let events = self.read_waiting();
+                    if !are_none(&events) {
+                        return (at, events);
+                    }
+                }
+            }
+        }
+        (at, none())
+    }
+
+    /// What the latest interval brought.
+    fn events(&self, brought: Brought) -> Events
+        requires may { MayTell self.now.reader brought }
+        requires some { 1 ≤ self.now.reader.intervals }
+        ensures { Tells self.now.reader brought result }
+    {
+        self.reader.events(brought)
     }
 
     /// Reads the intervals that wait, up to the first that brings an event, and gives what it brought.
+    #[cold]
+    #[inline(never)]
     fn read_waiting(&mut self) -> Events
         ensures rest { self.new ≡ record self.old { reader = self.new.reader; waiting = self.new.waiting } }
         ensures brings { Brings self.old self.new [] (event_list result) }
@@ -126,10 +156,7 @@ impl SoundReader {
                 return events;
             }
         }
-        Events {
-            first: None,
-            second: None,
-        }
+        none()
     }
 
     /// Reads the intervals that wait, up to the first that may bring an event, and returns whether it
@@ -172,15 +199,42 @@ impl SoundReader {
         self.reader.step(x)
     }
 
-    /// Takes samples from the front, up to the first that brings intervals, which wait then.
-    fn slice(&mut self, samples: &[i16]) -> usize
+    /// Takes samples from the front, up to the first that brings intervals. Nearly always it brings one, which
+    /// is read at once, and whether that may have brought an event is returned. Others wait then.
+    #[inline(always)]
+    fn slice(&mut self, samples: &[i16]) -> (usize, Option<Brought>)
+        requires some { 1 ≤ length samples.now }
+        requires room { is_full self.old ≡ false }
+        requires settled { IsSettled self.old }
+        ensures some { 1 ≤ result.0 }
+        ensures within { result.0 ≤ length samples.now }
+        ensures settings { self.new.settings ≡ self.old.settings }
+        ensures waits { result.1 ≡ None → Brings self.old self.new (take result.0 samples.now) [] }
+        ensures found { IfSome result.1 (Found self.old self.new (take result.0 samples.now)) }
+    {
+        let (count, found) = self.cut(samples);
+        match alone(&found) {
+            Some(x) => (count, Some(self.step(x))),
+            None => {
+                self.waiting = found;
+                (count, None)
+            }
+        }
+    }
+
+    /// Takes samples from the front, up to the first that brings intervals, and gives these.
+    #[inline(always)]
+    fn cut(&mut self, samples: &[i16]) -> (usize, Intervals)
         requires some { 1 ≤ length samples.now }
         requires room { self.old.samples < MAX_SAMPLES }
         requires settled { IsSettled self.old }
-        ensures some { 1 ≤ result }
-        ensures within { result ≤ length samples.now }
+        ensures some { 1 ≤ result.0 }
+        ensures within { result.0 ≤ length samples.now }
         ensures settings { self.new.settings ≡ self.old.settings }
-        ensures brings { Brings self.old self.new (take result samples.now) [] }
+        ensures reader { self.new.reader ≡ self.old.reader }
+        ensures waiting { self.new.waiting ≡ self.old.waiting }
+        ensures intervals { AreIntervals result.1 }
+        ensures brings { Brings self.old (record self.new { waiting = result.1 }) (take result.0 samples.now) [] }
     {
         let room = MAX_SAMPLES - self.samples;
         let most = if samples.len() as u64 <= room {
@@ -188,12 +242,21 @@ impl SoundReader {
         } else {
             room as usize
         };
-        let (count, intervals) = self
+        let (count, found) = self
             .slicer
             .intervals_of_samples(self.settings.pace, &samples[..most]);
         self.samples += count as u64;
-        self.waiting = intervals;
-        count
+        (count, found)
+    }
+}
+
+/// No event.
+fn none() -> Events
+    ensures { result ≡ no_events }
+{
+    Events {
+        first: None,
+        second: None,
     }
 }
 

@@ -1,5 +1,5 @@
 //! Intervals that are found, and not read yet. Read next: `reader`.
-ghost use Rattle.std.specs.Prelude.{◌≡◌, ◌<◌, ◌++◌, [], IfSome, None};
+ghost use Rattle.std.specs.Prelude.{◌≡◌, ◌<◌, ◌++◌, [], ◌∷◌, IfSome, None};
 ghost use Rattle.std.specs.Option.{option_to_list};
 ghost use Rattle.pcm_front.specs.Distance.{IsInterval};
 ghost use Rattle.pcm_front.specs.Pace.{intervals_in};
@@ -30,4 +30,17 @@ pub(crate) fn next(waiting: &mut Intervals) -> Option<u32>
         return Some(waiting.length);
     }
     None
+}
+
+/// The interval, if it is the rest of a distance and alone.
+#[inline(always)]
+pub(crate) fn alone(found: &Intervals) -> Option<u32>
+    requires { AreIntervals found.now }
+    ensures range { IfSome result IsInterval }
+    ensures value { IfSome result (λ x. intervals_in found.now ≡ x ∷ []) }
+{
+    if found.whole > 0 || found.begun > 0 {
+        return None;
+    }
+    found.rest
 }

@@ -24,8 +24,8 @@ const READ_NOTE: &[u8] = b"tc: read fault\n";
 
 const WRITE_NOTE: &[u8] = b"tc: write fault\n";
 
-/// How many bytes a pull gives, in the runs that are compared with the whole.
-const PIECES: [usize; 6] = [1, 3, 4, 5, 4095, 4096];
+/// How many bytes a pull gives, in the runs that have to write the same.
+const PIECES: [usize; 7] = [LONGEST_PULL, 1, 3, 4, 5, 4095, 4096];
 
 /// How many bytes a pull gives when each pull fails in turn.
 const PIECE: usize = 13;
@@ -43,31 +43,43 @@ const HEADER: usize = 12;
 
 /// The first difference between a case and its runs.
 pub fn judge(runner: &mut Runner, case: &Case) -> Verdict {
-    let mut wrong = in_pieces(runner, case)?;
-    if wrong.is_none() {
-        wrong = where_pulls_fail(runner, case)?;
+    if let Some(wrong) = in_pieces(runner, case)? {
+        return Ok(Some(wrong));
     }
-    if wrong.is_none() {
-        wrong = where_pushes_fail(runner, case)?;
+    if let Some(wrong) = where_calls_fail(runner, case)? {
+        return Ok(Some(wrong));
     }
-    if wrong.is_none() {
-        wrong = at_named_pushes(runner, case)?;
+    if let Some(wrong) = where_sinks_are_full(runner, case)? {
+        return Ok(Some(wrong));
     }
-    if wrong.is_none() {
-        wrong = where_output_is_full(runner, case)?;
+    at_early_ends(runner, case)
+}
+
+/// The first of those in which a pull or a push fails.
+fn where_calls_fail(runner: &mut Runner, case: &Case) -> Verdict {
+    if let Some(wrong) = where_pulls_fail(runner, case)? {
+        return Ok(Some(wrong));
     }
-    if wrong.is_none() {
-        wrong = where_notes_are_full(runner, case)?;
+    if let Some(wrong) = where_pushes_fail(runner, case)? {
+        return Ok(Some(wrong));
     }
-    if wrong.is_none() {
-        wrong = at_early_ends(runner, case)?;
+    at_named_pushes(runner, case)
+}
+
+/// The first of those in which an output or the notes are full.
+fn where_sinks_are_full(runner: &mut Runner, case: &Case) -> Verdict {
+    if let Some(wrong) = where_output_is_full(runner, case)? {
+        return Ok(Some(wrong));
     }
-    Ok(wrong)
+    if let Some(wrong) = where_notes_are_full(runner, case)? {
+        return Ok(Some(wrong));
+    }
+    where_neither_takes_all(runner, case)
 }
 
 /// Which part of an end differs: its status, its note or its output.
 fn difference(ended: &Ended, status: u8, note: &[u8], output: &[u8]) -> Option<&'static str> {
-    if ended.status != status {
+    if ended.code() != status {
         Some("status")
     } else if ended.note.as_slice() != note {
         Some("note")
@@ -99,7 +111,7 @@ fn told(run: &'static str, number: usize, part: Option<&'static str>) -> Option<
 /// The same comes of each cutting of the input: by pulls as long as they can be first. The pull behind the end would
 /// fail, which no run makes.
 fn in_pieces(runner: &mut Runner, case: &Case) -> Verdict {
-    for piece in [LONGEST_PULL].into_iter().chain(PIECES) {
+    for piece in PIECES {
         let pieces = [piece];
         let trial = case.trial(&pieces);
         let behind_the_end = pull_behind(case.input.len(), piece).saturating_add(1);
@@ -139,7 +151,7 @@ fn where_pulls_fail(runner: &mut Runner, case: &Case) -> Verdict {
             ..case.trial(&[PIECE])
         })?;
         let pulled = before.saturating_mul(PIECE).min(case.input.len());
-        let is_decided = case.status != 0 && ended.status == case.status;
+        let is_decided = case.status != 0 && ended.code() == case.status;
         let part = if is_decided && case.status != READ_FAULT {
             difference(&ended, case.status, &case.note, &case.output)
         } else {
@@ -149,7 +161,7 @@ fn where_pulls_fail(runner: &mut Runner, case: &Case) -> Verdict {
             return Ok(told("a pull that fails behind byte", pulled, part));
         }
         let at_once = behind(runner, case, pulled)?;
-        let part = difference(&at_once, ended.status, &ended.note, &ended.output);
+        let part = difference(&at_once, ended.code(), &ended.note, &ended.output);
         if part.is_some() {
             return Ok(told("other pulls before byte", pulled, part));
         }
@@ -165,7 +177,7 @@ fn where_pushes_fail(runner: &mut Runner, case: &Case) -> Verdict {
             failing_push: Some(push as u64),
             ..case.trial(&[LONGEST_PULL])
         })?;
-        if ended.status == case.status {
+        if ended.code() == case.status {
             let part = difference(&ended, case.status, &case.note, &case.output);
             return Ok(told("the push behind the last", push, part));
         }
@@ -235,6 +247,11 @@ fn where_notes_are_full(runner: &mut Runner, case: &Case) -> Verdict {
             return Ok(told("notes of", notes_room, part));
         }
     }
+    Ok(None)
+}
+
+/// Notes that are full change no status either where the first push fails.
+fn where_neither_takes_all(runner: &mut Runner, case: &Case) -> Verdict {
     if case.output.is_empty() {
         return Ok(None);
     }
@@ -273,13 +290,23 @@ fn at_early_ends(runner: &mut Runner, case: &Case) -> Verdict {
         let part = if is_whole {
             difference(&ended, 0, &[], &ended.output)
         } else {
-            let note = format!(in runner.alloc; "tc: refused: truncated at byte {length}\n")?;
-            let stands = behind(runner, case, length)?;
-            difference(&ended, REFUSED, note.as_bytes(), &stands.output)
+            broken_off(runner, case, length, &ended)?
         };
         if part.is_some() {
             return Ok(told("an input that ends at byte", length, part));
         }
     }
     Ok(None)
+}
+
+/// What differs in the end behind a length at which no interval ends.
+fn broken_off(
+    runner: &mut Runner,
+    case: &Case,
+    length: usize,
+    ended: &Ended,
+) -> Result<Option<&'static str>, AllocError> {
+    let note = format!(in runner.alloc; "tc: refused: truncated at byte {length}\n")?;
+    let stands = behind(runner, case, length)?;
+    Ok(difference(ended, REFUSED, note.as_bytes(), &stands.output))
 }

@@ -1,7 +1,7 @@
 //! One run of the program, over a source and sinks that fail at given calls. Read next: `sweeps`.
 use std::alloc::{AllocError, Global};
 use tc_io::{MemorySink, MemorySource};
-use tc_top::run;
+use tc_top::{Status, run};
 
 /// A run: its words, its input, and where its source and its sinks fail.
 #[derive(Clone, Copy)]
@@ -23,7 +23,7 @@ pub struct Trial<'a> {
 /// How a run ended.
 #[derive(Drop)]
 pub struct Ended {
-    pub status: u8,
+    pub status: Status,
     pub output: Vec<u8>,
     pub note: Vec<u8>,
 }
@@ -53,18 +53,34 @@ impl<'a> Trial<'a> {
 impl Runner {
     pub fn run(&mut self, trial: &Trial) -> Result<Ended, AllocError> {
         self.runs = self.runs.saturating_add(1);
-        let alloc = self.alloc;
-        let pulls = listed(alloc, trial.failing_pull)?;
-        let pushes = listed(alloc, trial.failing_push)?;
-        let mut source = MemorySource::new(alloc, trial.input, trial.pieces, &pulls)?;
-        let mut out = MemorySink::new(alloc, trial.room, &pushes)?;
-        let mut notes = MemorySink::new(alloc, trial.notes_room, &[])?;
-        let status = run(alloc, trial.words, &mut source, &mut out, &mut notes);
-        Ok(Ended {
-            status: status.code(),
-            output: out.written().to_vec(alloc)?,
-            note: notes.written().to_vec(alloc)?,
-        })
+        let pulls = listed(self.alloc, trial.failing_pull)?;
+        let pushes = listed(self.alloc, trial.failing_push)?;
+        run_failing(self.alloc, trial, &pulls, &pushes)
+    }
+}
+
+/// How a run ends in which these pulls and these pushes fail.
+fn run_failing(
+    alloc: Global,
+    trial: &Trial,
+    pulls: &[u64],
+    pushes: &[u64],
+) -> Result<Ended, AllocError> {
+    let mut source = MemorySource::new(alloc, trial.input, trial.pieces, pulls)?;
+    let mut out = MemorySink::new(alloc, trial.room, pushes)?;
+    let mut notes = MemorySink::new(alloc, trial.notes_room, &[])?;
+    let status = run(alloc, trial.words, &mut source, &mut out, &mut notes);
+    Ok(Ended {
+        status,
+        output: out.written().to_vec(alloc)?,
+        note: notes.written().to_vec(alloc)?,
+    })
+}
+
+impl Ended {
+    /// The number that its status ends with.
+    pub fn code(&self) -> u8 {
+        self.status.code()
     }
 }
 

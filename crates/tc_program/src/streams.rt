@@ -20,7 +20,7 @@ pub fn ended_on<W: Write + Drop>(rt: &HostRuntime, out: W) -> ExitCode
 }
 
 /// The exit code that says how the program ended.
-fn exit_code(ended: Result<Status, NoArguments>) -> ExitCode
+pub fn exit_code(ended: Result<Status, NoArguments>) -> ExitCode
     ensures { exit_status result ≡ exit_number ended }
 {
     ExitCode::from(exit_number(ended))

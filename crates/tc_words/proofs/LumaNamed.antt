@@ -14,20 +14,9 @@ use Rattle.tc_words.specs.LumaVitc.{fields_of, system_with_lines}
 use Rattle.tc_words.specs.Pages.{are_told, between_spaces, is_told}
 use Rattle.tc_words.specs.Values.{Word, between, map_ok, number_spelled}
 use Rattle.tc_words.specs.Words.{luma_vitc, task_of}
-use Rattle.tc_words.proofs.Taken.{both, ok_below, some_is, took}
+use Rattle.tc_words.proofs.Taken.{both, is_spelled, ok_below, some_is, took}
 
 -- ---- numbers of a range
-
--- a number of a range is a number
-read_first : (read : Option ℕ) (next : ℕ → Option ℕ) → is_some (option_and_then next read) ≡ true
-    → is_some read ≡ true
-read_first None next is = is
-read_first (Some n) next is = refl
-
-is_spelled : (least greatest : ℕ) (w : Word) → is_some (between least greatest w) ≡ true
-    → is_some (number_spelled w) ≡ true
-unfolding between
-is_spelled least greatest w = read_first (number_spelled w) _
 
 -- both tests of a range held
 held : (a b : Bool) (n : ℕ) → is_some (if a && b then Some n else None) ≡ true → (a ≡ true) × (b ≡ true)

@@ -3,9 +3,10 @@ use Rattle.std.proofs.Common.{◌≡◌, ℕ, Bool, true, false, ◌&&◌, Some,
 use Rattle.std.specs.declared.option.Option.{Option}
 use Rattle.std.specs.declared.result.Result.{Result}
 use Rattle.std.specs.Option.{is_some}
+use Rattle.std.specs.Prelude.{option_and_then}
 use Rattle.std.specs.Result.{is_ok}
 use Rattle.tc_job.specs.declared.fault.WordsFault.{WordsFault}
-use Rattle.tc_words.specs.Values.{map_ok, value_or}
+use Rattle.tc_words.specs.Values.{Word, between, map_ok, number_spelled, value_or}
 
 pub both : (a b : Bool) → a ≡ true → b ≡ true → (a && b) ≡ true
 both true b is so = so
@@ -23,3 +24,14 @@ took place (Some x) next taken = (x, refl, taken)
 
 pub some_is : {X : Type 0} (value : Option X) (x : X) → value ≡ Some x → is_some value ≡ true
 some_is value x is = rw is refl
+
+-- a number of a range is a number
+read_first : (read : Option ℕ) (next : ℕ → Option ℕ) → is_some (option_and_then next read) ≡ true
+    → is_some read ≡ true
+read_first None next is = is
+read_first (Some n) next is = refl
+
+pub is_spelled : (least greatest : ℕ) (w : Word) → is_some (between least greatest w) ≡ true
+    → is_some (number_spelled w) ≡ true
+unfolding between
+is_spelled least greatest w = read_first (number_spelled w) _

@@ -1,31 +1,40 @@
 use Rattle.std.proofs.Common.{sym, subst, ◌∙◌, arith}
-use Rattle.luma_row.specs.KeptPlace.{IsInRow}
-use Rattle.luma_row.proofs.PlacesTried.{it_fits, it_fits_not, within_none}
+use Rattle.luma_row.specs.KeptPlace.{IsNear}
+use Rattle.luma_row.proofs.PlacesTried.{they_fall, they_fall_not, within_none}
 use Rattle.luma_row.proofs.earliest.earliest.Goals as goal
-use Rattle.luma_row.proofs.earliest.earliest.Goals.{then-fits_nearly, else-fits_nearly}
+use Rattle.luma_row.proofs.earliest.earliest.Goals.{then-all_fall, else-all_fall}
 
-pub loop-before-init : goal.loop-before-init
-loop-before-init c = (omega arith, sym (within_none c.args.row.now c.args.place), c.requires.place)
+pub loop-cells-init : goal.loop-cells-init
+loop-cells-init c =
+    let order = c.requires.place.order in
+    let last = c.requires.place.last in (
+      omega arith,
+      sym (within_none c.args.row.now c.args.deepest),
+      record {
+        order = omega (arith, order);
+        last = omega (arith, last);
+      },
+    )
 
-pub loop-before-preserved : goal.loop-before-preserved
-loop-before-preserved c =
+pub loop-cells-preserved : goal.loop-cells-preserved
+loop-cells-preserved c =
     let row = c.args.row.now in
-    let place = c.args.place in
-    let before = c.loop-before.before in
-    let other = c.earlier-other.ensures in
-    elim c.if-fits_nearly.branch [
-      | then-fits_nearly w ↦ (
-        omega (arith, c.loop-before-test.true),
+    let deepest = c.args.deepest in
+    let cells = c.loop-cells.cells in
+    let other = c.back-other.ensures in
+    elim c.if-all_fall.branch [
+      | then-all_fall w ↦ (
+        omega (arith, c.loop-cells-test.true),
         w.best-is
-            ∙ it_fits row place c.earlier-other.result before other.earlier
-            (sym c.fits_nearly.ensures ∙ w.if-fits_nearly.true),
-        subst IsInRow (sym w.best-is) other.place,
+            ∙ they_fall row deepest c.back-other.result c.falls-sum.result cells c.falls-sum.ensures other.back
+            (sym c.all_fall.ensures ∙ w.if-all_fall.true),
+        subst IsNear (sym w.best-is) other.place,
       )
-      | else-fits_nearly w ↦ (
-        omega (arith, c.loop-before-test.true),
-        w.best-is ∙ (c.loop-before.invariant.1
-            ∙ it_fits_not row place c.earlier-other.result before other.earlier
-            (sym c.fits_nearly.ensures ∙ w.if-fits_nearly.false)),
-        subst IsInRow (sym w.best-is) c.loop-before.invariant.2,
+      | else-all_fall w ↦ (
+        omega (arith, c.loop-cells-test.true),
+        w.best-is ∙ (c.loop-cells.invariant.1
+            ∙ they_fall_not row deepest c.back-other.result c.falls-sum.result cells c.falls-sum.ensures other.back
+            (sym c.all_fall.ensures ∙ w.if-all_fall.false)),
+        subst IsNear (sym w.best-is) c.loop-cells.invariant.2,
       )
     ]

@@ -1,7 +1,8 @@
-use Rattle.std.proofs.Common.{◌≡◌, ◌+◌, [], ◌∷◌, ◌++◌, length, ap, subst, sym, ◌∙◌, arith}
+use Rattle.std.proofs.Common.{◌≡◌, ◌+◌, ◌%◌, [], ◌∷◌, ◌++◌, length, ap, subst, sym, ◌∙◌, arith}
 use Rattle.cell_path.specs.Decided.{end_behind, AreDecided}
 use Rattle.cell_path.specs.Decisions.{DecisionsStandFor, DecisionsState}
-use Rattle.cell_path.proofs.DecidesNext.{due_adds, end_of_all}
+use Rattle.cell_path.specs.KeptMarks.{MarksStandFor}
+use Rattle.cell_path.proofs.DecidesNext.{due_adds, end_of_all, whole_stands}
 use Rattle.cell_path.proofs.decisions.Decisions.feed.Goals as goal
 
 pub returns-then-self-eq0-clause-stands : goal.returns-then-self-eq0-clause-stands
@@ -9,6 +10,7 @@ returns-then-self-eq0-clause-stands c = λ steps given stand_now.
     let inside = c.self.inside in
     let state : DecisionsState = record {
       paths = inside.paths;
+      pending = inside.pending;
       count = inside.count;
       done = inside.done;
       waiting = inside.waiting;
@@ -19,14 +21,17 @@ returns-then-self-eq0-clause-stands c = λ steps given stand_now.
     let none : inside.waiting ≡ [] = ap (λ (s : DecisionsState). s.waiting) c.self.view_is ∙ c.requires.given in
     let decided : AreDecided steps given = subst (λ l. AreDecided steps (l ++ given)) none stand.decided in
     let done : inside.done ≡ end_behind 0 given = stand.done ∙ ap (λ l. end_behind 0 (l ++ given)) none in
-    let paths = c.feed.ensures.stands steps stand.paths in
+    let stands = c.take.ensures.stands steps c.requires.step stand.stands in
+    let whole = c.if-self-eq0.true in
+    let marks : MarksStandFor c.take.new.paths.marks (c.args.step ∷ steps) =
+    whole_stands c.take.new.paths c.take.new.pending (inside.count + 1) (c.args.step ∷ steps) whole stands in
     let long : inside.count + 1 ≡ length (c.args.step ∷ steps) = omega (arith, stand.count) in
     record {
-      paths = paths;
+      stands = stands;
       count = long;
       decided = due_adds c.args.step steps given c.decide.new.waiting (inside.count + 1) inside.done decided long done
-          c.if-self-ge-FIRST.true c.if-self-eq0.true
-          (c.decide.ensures.decided (c.args.step ∷ steps) paths (omega arith));
+          c.if-self-ge-FIRST.true whole
+          (c.decide.ensures.decided (c.args.step ∷ steps) marks (omega arith));
       done = c.decide.ensures.done ∙ end_of_all inside.done c.decide.new.waiting given done;
       last = stand.last;
     }

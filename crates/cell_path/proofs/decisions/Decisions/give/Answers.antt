@@ -6,6 +6,7 @@ use Rattle.cell_path.proofs.decisions.Decisions.give.Goals as goal
 pub invariant_of-self-2 : goal.invariant_of-self-2
 invariant_of-self-2 c = still_decisions (record {
   paths = c.self.inside.paths;
+  pending = c.self.inside.pending;
   count = c.self.inside.count;
   done = c.self.inside.done;
   waiting = c.self.inside.waiting;
@@ -16,6 +17,7 @@ pub returns-clause-near : goal.returns-clause-near
 returns-clause-near c =
     subst (λ s. IsNear s (record {
       paths = c.self.inside.paths;
+  pending = c.self.inside.pending;
       count = c.self.inside.count;
       done = c.self.inside.done;
       waiting = c.pop.new.self;
@@ -23,6 +25,7 @@ returns-clause-near c =
     }) (record { placed = c.in_ok-placed.placed; jumps = c.jumps-jumps.result })) c.self.view_is
     (given_is_near (record {
       paths = c.self.inside.paths;
+  pending = c.self.inside.pending;
       count = c.self.inside.count;
       done = c.self.inside.done;
       waiting = c.self.inside.waiting;

@@ -1,11 +1,12 @@
-use Rattle.cell_path.proofs.NumbersAgo.{fresh_early, fresh_here, no_rows}
+use Rattle.cell_path.proofs.NextStep.{fresh_rows, fresh_stand}
 use Rattle.cell_path.proofs.rows.Rows.new.Goals as goal
 
 pub invariant_of-result : goal.invariant_of-result
-invariant_of-result c = let a = c.all-ring.ensures in let b = c.all.ensures in rw (a, b) no_rows
+invariant_of-result c =
+    fresh_rows c.no_numbers.result c.no_numbers-2.result c.no_numbers.ensures.ring c.no_numbers-2.ensures.ring
 
-pub returns-clause-here : goal.returns-clause-here
-returns-clause-here c = let b = c.all.ensures in rw b fresh_here
-
-pub returns-clause-early : goal.returns-clause-early
-returns-clause-early c = let a = c.all-ring.ensures in let b = c.all.ensures in rw (a, b) fresh_early
+pub returns-clause-stands : goal.returns-clause-stands
+returns-clause-stands c =
+    let a = c.no_numbers.ensures in
+    let b = c.no_numbers-2.ensures in
+    fresh_stand c.no_numbers.result c.no_numbers-2.result a.here b.here a.early b.early

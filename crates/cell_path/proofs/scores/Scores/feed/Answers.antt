@@ -1,82 +1,92 @@
-use Rattle.std.proofs.Common.{rules, ◌+◌, ◌*◌, ◌^◌, ◌≤◌, FitsSigned, to_z-of_z, arith, ap, refl, subst, sym, ◌∷◌}
-use Rattle.std.specs.Int.{w32, w64}
-use Rattle.cell_path.specs.Kept.{limit, number_at}
-use Rattle.cell_path.specs.Scores.{ScoresState, StandsFor}
-use Rattle.cell_path.specs.StandsFor.{SumsStandFor}
-use Rattle.cell_path.proofs.NextStep.{numbers_end, rows_fed, sums_fed, wider}
+use Rattle.std.proofs.Common.{◌≡◌, ℕ, ◌/◌, ◌%◌, ◌<◌, ◌≤◌, List, [], ◌∷◌, length, arith, ap, refl, subst, sym, ◌∙◌}
+use Rattle.cell_path.specs.declared.cell.Sign.{Sign}
+use Rattle.cell_path.specs.declared.cell.Step.{Step}
+use Rattle.cell_path.specs.declared.mark.FourMarks.{FourMarks}
+use Rattle.cell_path.specs.declared.mark.StepMarks.{StepMarks}
+use Rattle.cell_path.specs.Four.{at_step}
+use Rattle.cell_path.specs.Marks.{sign_from}
+use Rattle.cell_path.specs.Scores.{AreSteps, StandsFor}
+use Rattle.cell_path.specs.StandsFor.{AreEnds, IsBestAt}
+use Rattle.cell_path.specs.Started.{marks_of, AreStartsOf}
+use Rattle.cell_path.proofs.Lowest.{at_each_step}
+use Rattle.cell_path.proofs.MarkedSteps.{four_more, levels_are, marked_step}
+use Rattle.cell_path.proofs.NextStep.{rows_fed}
 use Rattle.cell_path.proofs.scores.Scores.feed.Goals as goal
 
-pub best_starts-starts-requires-clause-best : goal.best_starts-starts-requires-clause-best
-best_starts-starts-requires-clause-best c =
-    let f : FitsSigned w64 c.best_of_all-best.result.number = search rules in
-    let same = ap (λ (s : ScoresState). s.sums.count) c.self.view_is in
-    let both = c.self.invariant in
-    let w = c.best_of_all-best.ensures.size (limit c.self.inside.rows.count 2) c.best_ends-ends.ensures.size in
-    let few : c.self.inside.rows.count ≤ 2 ^ 40 = omega (arith, both, same, c.requires.room) in
-    rw (to_z-of_z f) (wider (limit c.self.inside.rows.count 2) (2 ^ 62 + 2 ^ 40) c.best_of_all-best.result.number
-    (omega arith) w)
+-- the marks before a length has been marked
+abbrev first : goal.After-turn → FourMarks
+first c = record {
+  first = c.no_marks_yet.result;
+  second = c.no_marks_yet-2.result;
+  third = c.no_marks_yet-3.result;
+  fourth = c.no_marks_yet-4.result;
+}
 
-pub push-requires-2-clause-size : goal.push-requires-2-clause-size
-push-requires-2-clause-size c =
-    let f : FitsSigned w64 c.best_of_all-best.result.number = search rules in
-    let w = c.best_of_all-best.ensures.size (limit c.self.inside.rows.count 2) c.best_ends-ends.ensures.size in
-    let size = rw (to_z-of_z f) at c.best_starts-starts.ensures.size in
-    λ place sign within. wider (limit c.self.inside.rows.count 2 + 3 * 2 ^ 22) (limit (c.self.inside.rows.count + 1) 0)
-    (number_at c.best_starts-starts.result.numbers place sign) (omega arith)
-    (size (limit c.self.inside.rows.count 2) c.best_ends-ends.ensures.size w place sign within)
+place_first : (c : goal.After-turn) (step : ℕ) → step < 4
+    → (marks_of (first c) step).best_place ≡ at_step c.best_of_all-best.result.codes step / 2
+place_first c = at_each_step (λ s. (marks_of (first c) s).best_place ≡ at_step c.best_of_all-best.result.codes s / 2)
+    (ap (λ (m : StepMarks). m.best_place) c.no_marks_yet.ensures)
+    (ap (λ (m : StepMarks). m.best_place) c.no_marks_yet-2.ensures)
+    (ap (λ (m : StepMarks). m.best_place) c.no_marks_yet-3.ensures)
+    (ap (λ (m : StepMarks). m.best_place) c.no_marks_yet-4.ensures)
 
-pub returns-clause-stands : goal.returns-clause-stands
-returns-clause-stands c = λ steps stand_now.
-    let stand : StandsFor (record { sums = c.self.inside.sums; rows = c.self.inside.rows }) steps =
-    subst (λ s. StandsFor s steps) (sym c.self.view_is) stand_now in
-    let g : FitsSigned w32 c.args.step.sound = search rules in
-    let f : FitsSigned w64 c.best_of_all-best.result.number = search rules in
-    let latest = rw (to_z-of_z g) at c.push.ensures.latest in
-    let sums : SumsStandFor c.push.new.self (c.args.step ∷ steps) =
-    sums_fed c.self.inside.sums c.push.new.self c.args.step steps stand.sums latest c.push.ensures.others in
-    let are = c.best_ends-ends.ensures.ends c.args.step steps sums stand.rows in
-    let ends = numbers_end c.best_ends-ends.result (c.args.step ∷ steps) are in
-    let best = c.best_of_all-best.ensures.best (c.args.step ∷ steps) (omega arith) ends in
-    let starts = rw (to_z-of_z f) at c.best_starts-starts.ensures.starts in
+sign_first : (c : goal.After-turn) (step : ℕ) → step < 4
+    → (marks_of (first c) step).best_sign ≡ sign_from (at_step c.best_of_all-best.result.codes step % 2)
+sign_first c = at_each_step (λ s. (marks_of (first c) s).best_sign
+    ≡ sign_from (at_step c.best_of_all-best.result.codes s % 2))
+    (ap (λ (m : StepMarks). m.best_sign) c.no_marks_yet.ensures)
+    (ap (λ (m : StepMarks). m.best_sign) c.no_marks_yet-2.ensures)
+    (ap (λ (m : StepMarks). m.best_sign) c.no_marks_yet-3.ensures)
+    (ap (λ (m : StepMarks). m.best_sign) c.no_marks_yet-4.ensures)
+
+-- what is known at each of the four steps
+starts_of : (c : goal.After-turn) (steps : List Step) → AreSteps (c.args.d ∷ c.args.c ∷ c.args.b ∷ c.args.a ∷ [])
+    → StandsFor (record { sums = c.self.inside.sums; rows = c.self.inside.rows }) steps → (step : ℕ) → step < 4
+    → AreStartsOf c.best_ends-ends.result c.best_of_all-best.result
+    (c.args.a.level ∷ c.args.b.level ∷ c.args.c.level ∷ c.args.d.level ∷ [])
+    (c.args.d ∷ c.args.c ∷ c.args.b ∷ c.args.a ∷ steps) step
+starts_of c steps four stand step within =
+    let all = c.args.d ∷ c.args.c ∷ c.args.b ∷ c.args.a ∷ steps in
+    let long : 4 ≤ length all = omega arith in
+    let are = four_more c.args.a c.args.b c.args.c c.args.d steps four stand.are in
+    let ends = c.best_ends-ends.ensures.ends step all within long are (c.push.ensures.stands steps four stand.sums)
+    stand.rows in
     record {
-      sums = sums;
-      rows = rows_fed c.self.inside.rows c.push-2.new.self c.best_starts-starts.result c.args.step steps stand.rows
-          (starts c.args.step steps c.best_of_all-best.result.place c.best_of_all-best.result.sign refl ends best)
-          c.push-2.ensures.latest c.push-2.ensures.others;
+      within = within;
+      long = long;
+      are_steps = are;
+      level = levels_are c.args.a c.args.b c.args.c c.args.d steps step within;
+      are_ends = ends;
+      is_best = c.best_of_all-best.ensures.best step all within long are ends;
     }
 
-pub returns-clause-ends : goal.returns-clause-ends
-returns-clause-ends c = λ steps stand_now.
+pub returns-clause-stands : goal.returns-clause-stands
+returns-clause-stands c = λ steps four stand_now.
     let stand : StandsFor (record { sums = c.self.inside.sums; rows = c.self.inside.rows }) steps =
     subst (λ s. StandsFor s steps) (sym c.self.view_is) stand_now in
-    let g : FitsSigned w32 c.args.step.sound = search rules in
-    let latest = rw (to_z-of_z g) at c.push.ensures.latest in
-    c.best_ends-ends.ensures.ends c.args.step steps
-    (sums_fed c.self.inside.sums c.push.new.self c.args.step steps stand.sums latest c.push.ensures.others) stand.rows
+    let all = c.args.d ∷ c.args.c ∷ c.args.b ∷ c.args.a ∷ steps in
+    record {
+      are = four_more c.args.a c.args.b c.args.c c.args.d steps four stand.are;
+      sums = c.push.ensures.stands steps four stand.sums;
+      rows = rows_fed c.self.inside.rows c.best_starts.new.rows c.turn.new.self c.best_starts.new.marks
+          c.best_ends-ends.result all steps refl (omega arith) stand.rows c.best_starts.ensures.keeps.numbers
+          (λ step within. c.best_starts.ensures.started step all (starts_of c steps four stand step within))
+          c.turn.ensures.latest c.turn.ensures.others;
+    }
 
-pub returns-clause-best : goal.returns-clause-best
-returns-clause-best c = λ steps stand_now.
+pub returns-clause-marked : goal.returns-clause-marked
+returns-clause-marked c = λ step steps within four stand_now.
     let stand : StandsFor (record { sums = c.self.inside.sums; rows = c.self.inside.rows }) steps =
     subst (λ s. StandsFor s steps) (sym c.self.view_is) stand_now in
-    let g : FitsSigned w32 c.args.step.sound = search rules in
-    let latest = rw (to_z-of_z g) at c.push.ensures.latest in
-    let are = c.best_ends-ends.ensures.ends c.args.step steps
-    (sums_fed c.self.inside.sums c.push.new.self c.args.step steps stand.sums latest c.push.ensures.others) stand.rows
-    in
-    c.best_of_all-best.ensures.best (c.args.step ∷ steps) (omega arith)
-    (numbers_end c.best_ends-ends.result (c.args.step ∷ steps) are)
+    let all = c.args.d ∷ c.args.c ∷ c.args.b ∷ c.args.a ∷ steps in
+    let known = starts_of c steps four stand step within in
+    marked_step all step c.best_starts.new.rows (first c) c.best_starts.new.marks c.best_ends-ends.result
+    c.best_of_all-best.result (c.best_starts.ensures.started step all known) known.are_ends known.is_best
+    c.best_starts.ensures.best (place_first c step within) (sign_first c step within)
 
-pub returns-clause-starts : goal.returns-clause-starts
-returns-clause-starts c = λ steps stand_now.
-    let stand : StandsFor (record { sums = c.self.inside.sums; rows = c.self.inside.rows }) steps =
-    subst (λ s. StandsFor s steps) (sym c.self.view_is) stand_now in
-    let g : FitsSigned w32 c.args.step.sound = search rules in
-    let f : FitsSigned w64 c.best_of_all-best.result.number = search rules in
-    let latest = rw (to_z-of_z g) at c.push.ensures.latest in
-    let are = c.best_ends-ends.ensures.ends c.args.step steps
-    (sums_fed c.self.inside.sums c.push.new.self c.args.step steps stand.sums latest c.push.ensures.others) stand.rows
-    in
-    let ends = numbers_end c.best_ends-ends.result (c.args.step ∷ steps) are in
-    let best = c.best_of_all-best.ensures.best (c.args.step ∷ steps) (omega arith) ends in
-    let starts = rw (to_z-of_z f) at c.best_starts-starts.ensures.starts in
-    starts c.args.step steps c.best_of_all-best.result.place c.best_of_all-best.result.sign refl ends best
+pub returns-clause-places : goal.returns-clause-places
+returns-clause-places c = λ step within.
+    let e = c.best_starts.ensures.best.places step in
+    let f = place_first c step within in
+    let g = c.best_of_all-best.ensures.codes step within in
+    omega (arith, e, f, g)

@@ -10,8 +10,8 @@ returns-clause-runs c =
     let fits_too : FitsSigned w32 c.sum_with-sum.result = search rules in
     let value = rw (to_z-of_z fits) at c.sum_with-sum.ensures.value in
     let pushed = rw (to_z-of_z fits) at c.push.ensures in
-    let state = rw (to_z-of_z fits_too) at c.step.ensures.state in
-    let distance = rw (to_z-of_z fits_too) at c.step.ensures.distance in
-    one_taken c.args.self.now.finder c.step.new.self c.args.self.now.window c.push.new.self c.args.sample
-    c.sum_with-sum.result c.step.result
+    let state = rw (to_z-of_z fits_too) at c.step-distance.ensures.state in
+    let distance = rw (to_z-of_z fits_too) at c.step-distance.ensures.distance in
+    one_taken c.args.self.now.finder c.step-distance.new.self c.args.self.now.window c.push.new.self c.args.sample
+    c.sum_with-sum.result c.step-distance.result
     c.sum_with-sum.ensures.some value pushed state distance

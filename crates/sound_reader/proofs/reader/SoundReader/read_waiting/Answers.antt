@@ -29,6 +29,6 @@ waiting-preserved c =
 pub returns-clause-brings : goal.returns-clause-brings
 returns-clause-brings c =
     let new = c.pass_waiting-brought.new.self in
-    brings_on c.args.self.now c.waiting.self new [] [] [] [] c.waiting.invariant.brings
+    rw c.none.ensures (brings_on c.args.self.now c.waiting.self new [] [] [] [] c.waiting.invariant.brings
     (c.pass_waiting-brought.ensures.brings no_events
-    (tells_none new.reader c.pass_waiting-brought.result (sym c.is_nothing.ensures ∙ c.if-is_nothing.true)))
+    (tells_none new.reader c.pass_waiting-brought.result (sym c.is_nothing.ensures ∙ c.if-is_nothing.true))))

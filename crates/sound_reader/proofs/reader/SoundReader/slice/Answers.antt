@@ -1,31 +1,26 @@
-use Rattle.std.proofs.Common.{[], ◌≡◌, ◌+◌, ℤ, List, take, subst, sym, refl}
+use Rattle.std.proofs.Common.{◌≡◌, [], ◌∷◌, ◌++◌, List, ℕ, Some, take, sym, ap, ◌∙◌}
+use Rattle.std.specs.Option.{option_to_list}
+use Rattle.direction_reader.specs.Events.{event_list}
 use Rattle.pcm_front.specs.Pace.{intervals_in}
-use Rattle.sound_reader.specs.Sound.{Brings, SoundState}
-use Rattle.sound_reader.specs.contracts.reader.SoundReader.{the_view}
-use Rattle.sound_reader.proofs.StepsGoOn.{front_of_front, sliced_on, within_front}
+use Rattle.sound_reader.specs.Sound.{SoundState}
+use Rattle.sound_reader.proofs.StepsGoOn.{reads_on, then_waiting}
 use Rattle.sound_reader.proofs.reader.SoundReader.slice.Goals as goal
 
--- the slicer takes the samples up to the limit, and some from their front
-pub returns-clause-brings : goal.returns-clause-brings
-returns-clause-brings c =
-    let count = c.intervals_of_samples-count.result.0 in
-    let most = c.if-samples-room.most in
-    let samples = c.args.samples.now in
-    let settled = subst (λ (s : SoundState). intervals_in s.waiting ≡ []) (sym c.self.view_is) c.requires.settled in
-    let new : SoundState = record {
-      settings = c.self.inside.settings;
-      slicer = c.intervals_of_samples-count.new.self;
-      reader = c.self.inside.reader;
-      samples = c.self.inside.samples + count;
-      waiting = c.intervals_of_samples-count.result.1;
-    } in
-    let step : Brings (the_view c.self.inside) new (take count (take most samples)) [] =
-    sliced_on (the_view c.self.inside) new c.intervals_of_samples-count.new.self (c.self.inside.samples + count)
-    c.intervals_of_samples-count.result.1 (take count (take most samples))
-    c.intervals_of_samples-count.ensures.settings c.intervals_of_samples-count.ensures.stands
-    c.intervals_of_samples-count.ensures.intervals settled refl in
-    let own : Brings c.args.self.now new (take count (take most samples)) [] =
-    subst (λ (s : SoundState). Brings s new (take count (take most samples)) []) c.self.view_is step in
-    subst (λ (s : List ℤ). Brings c.args.self.now new s [])
-    (front_of_front count most samples (within_front count most samples c.intervals_of_samples-count.ensures.within))
-    own
+-- the interval is alone, so it is read as one that waited
+pub returns-in-Some-clause-found : goal.returns-in-Some-clause-found
+returns-in-Some-clause-found c =
+    let cut = c.cut-count.new.self in
+    let new = c.step.new.self in
+    let x = c.in-Some.x in
+    let mid : SoundState = record cut { waiting = c.cut-count.result.1 } in
+    let none : intervals_in cut.waiting ≡ [] = ap intervals_in c.cut-count.ensures.waiting ∙ c.requires.settled in
+    let waited : option_to_list (Some x) ++ intervals_in cut.waiting ≡ intervals_in c.cut-count.result.1 =
+    ap (λ (ys : List ℕ). x ∷ ys) none ∙ sym c.in-Some.ensures.value in
+    record {
+      settled = ap (λ (s : SoundState). intervals_in s.waiting) c.step.ensures.rest ∙ none;
+      may = c.step.ensures.may;
+      some = c.step.ensures.some;
+      brings = λ own tells. then_waiting c.args.self.now mid new (take c.cut-count.result.0 c.args.samples.now)
+          (event_list own) c.cut-count.ensures.brings
+          (reads_on mid new cut.waiting x (event_list own) waited c.step.ensures.rest (c.step.ensures.reads own tells));
+    }
