@@ -47,10 +47,6 @@ below-drop most zero noise are = are
 below-drop most (suc n) [] are = tt
 below-drop most (suc n) (x ∷ noise) are = below-drop most n noise are.1
 
-no-noise : (samples : List ℤ) → with_noise [] samples ≡ samples
-unfolding with_noise
-no-noise samples = refl
-
 noise-alone : (noise : List ℤ) → with_noise noise [] ≡ []
 unfolding with_noise
 noise-alone [] = refl
