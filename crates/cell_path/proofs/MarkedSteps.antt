@@ -1,5 +1,5 @@
 -- The marks of four steps are those of the ends, of the ways to begin and of the best path of all at each.
-use Rattle.std.proofs.Common.{◌≡◌, ℕ, ◌+◌, ◌-◌, ◌*◌, ◌/◌, ◌%◌, ◌<◌, ◌≤◌, List, [], ◌∷◌, length, refl, ap, subst, sym, ◌∙◌}
+use Rattle.std.proofs.Common.{◌≡◌, ℕ, ◌/◌, ◌%◌, ◌<◌, List, [], ◌∷◌, refl, ap, subst, sym, ◌∙◌}
 use Rattle.std.proofs.Common.{arith}
 use Rattle.cell_path.specs.declared.cell.Sign.{Sign}
 use Rattle.cell_path.specs.declared.cell.Sign.TheVariants.{Plus, Minus}

@@ -22,7 +22,7 @@ use Rattle.cell_path.specs.Kept.{number_ago, number_next, place_ago, ring_of, su
 use Rattle.cell_path.specs.Number.{score_before, IsBeginning, WinsBy}
 use Rattle.cell_path.specs.Path.{total, Follows, IsPath}
 use Rattle.cell_path.specs.Scores.{AreSteps, IsStep}
-use Rattle.cell_path.specs.StandsFor.{steps_at, HasBeginning, RowsStandFor, SumsStandFor}
+use Rattle.cell_path.specs.StandsFor.{HasBeginning, RowsStandFor, SumsStandFor}
 use Rattle.cell_path.specs.Started.{AreStarted}
 use Rattle.cell_path.proofs.EndOfSteps.{older_by}
 use Rattle.cell_path.proofs.Lowest.{low-plus, low_fits_signed}
@@ -219,11 +219,6 @@ fresh_at place within other =
 pub fresh_early : (place : ℕ) → place < 127 → get_or fresh_ring place 0 ≡ low (neg_ℤ EARLY)
 fresh_early place within =
     let other : place ≢ 127 = λ e. omega arith in fresh_at place (omega arith) other ∙ sym early_is
-
-pub fresh_here : get_or fresh_ring 127 0 ≡ low (pos 0)
-fresh_here =
-    let long = length-replicate {A = ℕ} 132 4_026_531_840 in
-    get_or-set_same (replicate 132 4_026_531_840) 127 0 0 (omega (arith, long)) ∙ sym none_is
 
 pub fresh_is_ring : IsRing fresh_ring
 fresh_is_ring = record {

@@ -8,9 +8,9 @@ use Rattle.cell_path.specs.declared.four.Four.{Four}
 use Rattle.cell_path.specs.declared.mark.FourMarks.{FourMarks}
 use Rattle.cell_path.specs.Four.{at_step}
 use Rattle.cell_path.specs.Kept.{number_next, RowsState, SumsState}
-use Rattle.cell_path.specs.Marks.{bit_from, marked_bit, marked_way}
+use Rattle.cell_path.specs.Marks.{marked_bit, marked_way}
 use Rattle.cell_path.specs.Scores.{AreSteps}
-use Rattle.cell_path.specs.StandsFor.{end_at, AreEnds, IsEndAt, RowsStandFor, SumsStandFor}
+use Rattle.cell_path.specs.StandsFor.{end_at, IsEndAt, RowsStandFor, SumsStandFor}
 use Rattle.cell_path.specs.Started.{mark_at, AreStarted, AreStartsOf, IsStarted, KeepsBest, KeepsNumbers}
 
 -- a fact of the first n lengths and signs, of each one more

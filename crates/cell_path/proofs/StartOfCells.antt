@@ -1,28 +1,26 @@
 -- Of the best so far and the best in one more way the better is the best of both. They lie near one another, since
 -- all come behind ends of the same step.
 use Rattle.std.proofs.Common.{◌≡◌, ℕ, ◌+◌, ◌-◌, ◌*◌, ◌<◌, ◌≤◌, ◌^◌, ℤ, pos, ◌+ℤ◌, ◌-ℤ◌, ◌≤ℤ◌, ◌<ℤ◌, ◌⊎◌, inl, inr, List}
-use Rattle.std.proofs.Common.{length, refl, ap, subst, sym, ◌∙◌, mul-le-mul, arith}
+use Rattle.std.proofs.Common.{length, refl, ap, ◌∙◌, mul-le-mul, arith}
 use Rattle.std.proofs.lemmas.Int.{ints}
 use Rattle.std.proofs.lemmas.List.{length-drop}
 use Rattle.cell_path.specs.declared.cell.Bit.{Bit}
-use Rattle.cell_path.specs.declared.cell.Cell.{Cell}
 use Rattle.cell_path.specs.declared.cell.Sign.{Sign}
 use Rattle.cell_path.specs.declared.cell.Step.{Step}
 use Rattle.cell_path.specs.declared.cell.Way.{Way}
 use Rattle.cell_path.specs.declared.cell.Way.TheVariants.{Same}
-use Rattle.cell_path.specs.declared.ends.Ends.{Ends}
 use Rattle.cell_path.specs.declared.four.Four.{Four}
 use Rattle.cell_path.specs.declared.lengths.TheConstants.{LENGTHS}
 use Rattle.cell_path.specs.Best.{rank_of_way}
 use Rattle.cell_path.specs.Four.{at_step, low, AreNear}
 use Rattle.cell_path.specs.Marks.{way_from}
-use Rattle.cell_path.specs.Number.{Begins, IsBestEnd, IsEnd}
+use Rattle.cell_path.specs.Number.{IsBestEnd, IsEnd}
 use Rattle.cell_path.specs.Path.{level_at}
 use Rattle.cell_path.specs.Scores.{AreSteps}
-use Rattle.cell_path.specs.StandsFor.{end_at, steps_at, IsEndAt, IsStartAt}
-use Rattle.cell_path.specs.Started.{AreStartsOf, IsStartSoFar}
-use Rattle.cell_path.specs.Trying.{IsBestBefore, IsBestOfWay}
-use Rattle.cell_path.proofs.BestBeginning.{all_tried, same_best, way_comes, way_fails, way_stays}
+use Rattle.cell_path.specs.StandsFor.{steps_at, IsEndAt, IsStartAt}
+use Rattle.cell_path.specs.Started.{IsStartSoFar}
+use Rattle.cell_path.specs.Trying.{IsBestOfWay}
+use Rattle.cell_path.proofs.BestBeginning.{all_tried, same_best, way_comes, way_stays}
 use Rattle.cell_path.proofs.BestEnd.{bit_at, has_bit_at}
 use Rattle.cell_path.proofs.Lowest.{low_small}
 use Rattle.cell_path.proofs.NearScores.{level-within, near_ends, steps_before}
@@ -157,20 +155,6 @@ best_is_end steps place sign number best = record {
   };
   number_is = best.number_is;
   bit_is = has_bit_at place sign best.path best.ends;
-}
-
--- a way that leads nowhere
-pub no_way : (steps : List Step) (place : ℕ) (sign : Sign) (so_far : Four) (step : ℕ) (more : Way)
-    → ((others : List Cell) → Begins LENGTHS (steps_at step steps) 0 place sign more others → ⊥)
-    → IsStartSoFar steps (rank_of_way more) place sign so_far step
-    → IsStartSoFar steps (rank_of_way more + 1) place sign so_far step
-no_way steps place sign so_far step more none best = record {
-  number = best.number;
-  way = best.way;
-  is = way_fails LENGTHS (steps_at step steps) place sign best.number best.way more best.is none;
-  kept = best.kept;
-  code = best.code;
-  near = best.near;
 }
 
 -- with all ways tried

@@ -16,7 +16,10 @@ pub(crate) fn best_of_all(ends: &Ends) -> Four
         → AreEnds 45 ends.now steps step → IsBestAt steps result step }
     ensures codes { (step : ℕ) → step < 4 → at_step result.codes step < 90 }
 {
-    let mut best = Four::first(ends.at(0, Sign::Plus).numbers).or(ends.at(0, Sign::Minus).numbers, 1);
+    let mut best = Four::first(ends.at(0, Sign::Plus).numbers).or(
+        ends.at(0, Sign::Minus).numbers,
+        1,
+    );
     for place in 1..PLACES {
         let code = 2 * place as u32;
         best = best

@@ -40,7 +40,14 @@ fn sound(sums: &Sums, length: usize, bit: Bit) -> [u32; 4]
 
 /// The scores of paths that end with a bit, after the best that can come before it.
 #[inline(always)]
-fn behind(rows: &Rows, length: usize, place: usize, bit: Bit, sign: Sign, sound: [u32; 4]) -> [u32; 4]
+fn behind(
+    rows: &Rows,
+    length: usize,
+    place: usize,
+    bit: Bit,
+    sign: Sign,
+    sound: [u32; 4],
+) -> [u32; 4]
     requires place { place < 45 }
     requires least { 4 ≤ length }
     requires most { length ≤ 96 }

@@ -7,10 +7,15 @@
 //! in the whole sound speaks against.
 //!
 //! What this crate promises:
-//! - After each step the numbers that are kept are the scores of the best paths so far, in each length
-//!   and sign (`Scores::feed`, clauses `ends`, `best`, `starts`; `specs/Best.antt`, `IsBest`: no other
-//!   path that ends so has a greater score, and of equal ones the best is the first in one order). The
+//! - The marks of each step are those of the best paths so far, in each length and sign, of the best ways to
+//!   begin behind it, and of the best path of all (`Scores::feed`, clause `marked`; `specs/Best.antt`, `IsBest`:
+//!   no other path that ends so has a greater score, and of equal ones the best is the first in one order). The
 //!   definition speaks of all lists of cells (`specs/Path.antt`, `IsPath`, `score`), and of no machine.
+//! - Four steps are taken at once: no cell has fewer, so what ends with four steps in a row depends on no step
+//!   among them. The numbers that are kept are those of scores (`specs/StandsFor.antt`, `RowsStandFor`), and of
+//!   each score its lowest 32 bits (`specs/Four.antt`, `low`). Scores that are compared lie near one another
+//!   (`laws`, `the_best_scores_lie_near_one_another`), so the difference of what is kept says which is greater,
+//!   and no score can be too great.
 //! - A best path is followed back from point to point: each `Paths::back` gives its latest cell, and
 //!   where the cell before it ends (`specs/KeptMarks.antt`, `GoesBack`), as long as the points lie within
 //!   4,000 steps. A mark of one byte for each step and length keeps the bits and the ways
@@ -22,16 +27,14 @@
 //!   rest of its best path is decided too (`Decisions::finish`; `AreDecidedInAll`). A cell jumps if it
 //!   does not meet the one before it within a quarter of its length and with its sign. At most 512 are
 //!   decided at once, so nothing is allocated.
-//! - No score overflows in 2^40 steps, since a step adds 2^22 in the mean at most (`specs/Kept.antt`,
-//!   `limit`).
 //! - A sound has one best path for each end, and what comes before the latest cell of a best path is a
 //!   best path itself; what is decided stays, and what is decided later comes after it. When it ends, one list
 //!   of cells is decided in all, and covers it to within a quarter of a cell (`laws`).
 //!
 //! Read `lengths` and `cell` with `specs/Path.antt` and `specs/Best.antt`, then `scores` with
 //! `specs/Number.antt` and `specs/StandsFor.antt`, `paths` with `specs/KeptMarks.antt`, and `decisions`
-//! with `specs/Decided.antt`; below them are `end`, `best` and `start`, which try one length each, and
-//! `follow`. Lists of steps and of cells begin with the latest.
+//! with `specs/Decided.antt`; below them are `four` and `ring`, `end`, `best` and `start`, which try one length
+//! each, and `follow`. Lists of steps and of cells begin with the latest.
 //! Nothing here allocates or refuses. What makes the steps of samples, and what separates cells from noise, is in
 //! path_front.
 #![tactic(auto)]

@@ -71,7 +71,9 @@ impl Paths {
             return;
         }
         let silence = Step { sound: 0, level: 0 };
-        let marks = self.scores.feed(pending.first, pending.second, pending.third, silence);
+        let marks = self
+            .scores
+            .feed(pending.first, pending.second, pending.third, silence);
         self.marks.push(marks.first);
         if count == 1 {
             return;

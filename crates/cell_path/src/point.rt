@@ -3,8 +3,8 @@ ghost use Rattle.std.specs.Prelude.{◌≡◌, ◌+◌, ◌^◌, ◌<◌, ◌≤
 ghost use Rattle.cell_path.specs.KeptMarks.{point_before};
 
 use crate::cell::{Cell, Sign, Way};
-use crate::mark::StepMarks;
 use crate::lengths::PLACES;
+use crate::mark::StepMarks;
 
 /// The end of a cell: how many steps ago, the place of its length, and its sign.
 #[derive(Clone, Copy)]

@@ -54,14 +54,23 @@ fn or_jump(start: Four, best: Four, levels: [u32; 4], place: usize) -> Four
         → IsStartSoFar steps 3 place sign start step → IsStartSoFar steps 4 place sign result step }
     ensures codes { (step : ℕ) → step < 4 → at_step start.codes step < 4 → at_step result.codes step < 4 }
 {
-    let number = minus(best.numbers, times(levels, (JUMP * length_at(place)) as u32));
+    let number = minus(
+        best.numbers,
+        times(levels, (JUMP * length_at(place)) as u32),
+    );
     start.or(number, 3)
 }
 
 /// The best ways to begin a cell of one length behind each of the latest four steps, if the cell before has to
 /// end with this sign. The codes are those of ways.
 #[inline(always)]
-pub(crate) fn best_start(ends: &Ends, best: Four, levels: [u32; 4], place: usize, sign: Sign) -> Four
+pub(crate) fn best_start(
+    ends: &Ends,
+    best: Four,
+    levels: [u32; 4],
+    place: usize,
+    sign: Sign,
+) -> Four
     requires { place < 45 }
     ensures starts { (step : ℕ) (steps : List Step) → AreStartsOf ends.now best levels steps step
         → IsStartAt steps place sign result step }

@@ -17,7 +17,14 @@ use crate::start::best_start;
 
 /// Puts the marks of a length in.
 #[inline(always)]
-fn mark(marks: &mut FourMarks, place: usize, plus: Four, minus: Four, plus_start: Four, minus_start: Four)
+fn mark(
+    marks: &mut FourMarks,
+    place: usize,
+    plus: Four,
+    minus: Four,
+    plus_start: Four,
+    minus_start: Four,
+)
     requires place { place < 45 }
     requires plus { (step : ℕ) → step < 4 → at_step plus.codes step < 2 }
     requires minus { (step : ℕ) → step < 4 → at_step minus.codes step < 2 }
@@ -39,7 +46,14 @@ fn mark(marks: &mut FourMarks, place: usize, plus: Four, minus: Four, plus_start
 
 /// Puts in the best ways to begin a cell of one length.
 #[inline(always)]
-fn begin(rows: &mut Rows, marks: &mut FourMarks, ends: &Ends, best: Four, levels: [u32; 4], place: usize)
+fn begin(
+    rows: &mut Rows,
+    marks: &mut FourMarks,
+    ends: &Ends,
+    best: Four,
+    levels: [u32; 4],
+    place: usize,
+)
     requires place { place < 45 }
     requires bits { AreBits ends.now }
     ensures started { (sign : Sign) (step : ℕ) (steps : List Step) → AreStartsOf ends.now best levels steps step
@@ -54,12 +68,25 @@ fn begin(rows: &mut Rows, marks: &mut FourMarks, ends: &Ends, best: Four, levels
     let plus = best_start(ends, best, levels, place, Sign::Plus);
     let minus = best_start(ends, best, levels, place, Sign::Minus);
     rows.put(place, plus.numbers, minus.numbers);
-    mark(marks, place, ends.plus[place], ends.minus[place], plus, minus);
+    mark(
+        marks,
+        place,
+        ends.plus[place],
+        ends.minus[place],
+        plus,
+        minus,
+    );
 }
 
 /// Puts in the best ways to begin behind each of the latest four steps, with the best paths of all and the mean
 /// sizes there.
-pub(crate) fn best_starts(rows: &mut Rows, marks: &mut FourMarks, ends: &Ends, best: Four, levels: [u32; 4])
+pub(crate) fn best_starts(
+    rows: &mut Rows,
+    marks: &mut FourMarks,
+    ends: &Ends,
+    best: Four,
+    levels: [u32; 4],
+)
     requires bits { AreBits ends.now }
     ensures started { (step : ℕ) (steps : List Step) → AreStartsOf ends.now best levels steps step
         → AreStarted 45 steps rows.new marks.new ends.now step }

@@ -1,4 +1,4 @@
-use Rattle.std.proofs.Common.{◌≡◌, ◌-◌, ◌*◌, ◌≤◌, ◌-ℤ◌, pos, arith, ap, refl, subst, sym, ◌∙◌}
+use Rattle.std.proofs.Common.{◌-◌, ◌*◌, ◌≤◌, ◌-ℤ◌, pos, arith, refl, subst, sym}
 use Rattle.cell_path.specs.declared.cell.Way.TheVariants.{Jump}
 use Rattle.cell_path.specs.declared.lengths.TheConstants.{JUMP, LENGTHS}
 use Rattle.cell_path.specs.Path.{level_at}

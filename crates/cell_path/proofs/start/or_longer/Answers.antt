@@ -1,9 +1,8 @@
-use Rattle.std.proofs.Common.{◌≡◌, ◌+◌, ◌-◌, ◌*◌, ◌≤◌, ◌-ℤ◌, pos, arith, ap, ap₂, refl, subst, sym, ◌∙◌}
+use Rattle.std.proofs.Common.{◌+◌, ◌-◌, ◌*◌, ◌≤◌, ◌-ℤ◌, pos, arith, ap, ap₂, refl, subst, sym, ◌∙◌}
 use Rattle.cell_path.specs.declared.cell.Way.TheVariants.{Longer}
 use Rattle.cell_path.specs.declared.four.Four.{Four}
 use Rattle.cell_path.specs.declared.lengths.TheConstants.{LENGTHS}
 use Rattle.cell_path.specs.Four.{at_step}
-use Rattle.cell_path.specs.Lengths.{length_in}
 use Rattle.cell_path.specs.Path.{level_at}
 use Rattle.cell_path.specs.StandsFor.{steps_at}
 use Rattle.cell_path.specs.Trying.{IsBestOfWay}

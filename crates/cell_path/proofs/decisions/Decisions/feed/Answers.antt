@@ -1,4 +1,4 @@
-use Rattle.std.proofs.Common.{◌≡◌, ◌+◌, ◌%◌, [], ◌∷◌, ◌++◌, length, ap, subst, sym, ◌∙◌, arith}
+use Rattle.std.proofs.Common.{◌≡◌, ◌+◌, [], ◌∷◌, ◌++◌, length, ap, subst, sym, ◌∙◌, arith}
 use Rattle.cell_path.specs.Decided.{end_behind, AreDecided}
 use Rattle.cell_path.specs.Decisions.{DecisionsStandFor, DecisionsState}
 use Rattle.cell_path.specs.KeptMarks.{MarksStandFor}

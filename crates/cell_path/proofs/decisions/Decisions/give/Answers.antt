@@ -17,7 +17,7 @@ pub returns-clause-near : goal.returns-clause-near
 returns-clause-near c =
     subst (λ s. IsNear s (record {
       paths = c.self.inside.paths;
-  pending = c.self.inside.pending;
+      pending = c.self.inside.pending;
       count = c.self.inside.count;
       done = c.self.inside.done;
       waiting = c.pop.new.self;
@@ -25,7 +25,7 @@ returns-clause-near c =
     }) (record { placed = c.in_ok-placed.placed; jumps = c.jumps-jumps.result })) c.self.view_is
     (given_is_near (record {
       paths = c.self.inside.paths;
-  pending = c.self.inside.pending;
+      pending = c.self.inside.pending;
       count = c.self.inside.count;
       done = c.self.inside.done;
       waiting = c.self.inside.waiting;

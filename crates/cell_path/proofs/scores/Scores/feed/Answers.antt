@@ -1,12 +1,10 @@
-use Rattle.std.proofs.Common.{◌≡◌, ℕ, ◌/◌, ◌%◌, ◌<◌, ◌≤◌, List, [], ◌∷◌, length, arith, ap, refl, subst, sym, ◌∙◌}
-use Rattle.cell_path.specs.declared.cell.Sign.{Sign}
+use Rattle.std.proofs.Common.{◌≡◌, ℕ, ◌/◌, ◌%◌, ◌<◌, ◌≤◌, List, [], ◌∷◌, length, arith, ap, refl, subst, sym}
 use Rattle.cell_path.specs.declared.cell.Step.{Step}
 use Rattle.cell_path.specs.declared.mark.FourMarks.{FourMarks}
 use Rattle.cell_path.specs.declared.mark.StepMarks.{StepMarks}
 use Rattle.cell_path.specs.Four.{at_step}
 use Rattle.cell_path.specs.Marks.{sign_from}
 use Rattle.cell_path.specs.Scores.{AreSteps, StandsFor}
-use Rattle.cell_path.specs.StandsFor.{AreEnds, IsBestAt}
 use Rattle.cell_path.specs.Started.{marks_of, AreStartsOf}
 use Rattle.cell_path.proofs.Lowest.{at_each_step}
 use Rattle.cell_path.proofs.MarkedSteps.{four_more, levels_are, marked_step}

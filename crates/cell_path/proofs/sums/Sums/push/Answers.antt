@@ -1,4 +1,4 @@
-use Rattle.std.proofs.Common.{rules, ◌≡◌, ◌+◌, ◌%◌, ◌^◌, [], ◌∷◌, FitsSigned, to_z-of_z, arith, ap, ap₂, refl, subst}
+use Rattle.std.proofs.Common.{rules, ◌+◌, ◌%◌, ◌^◌, [], ◌∷◌, FitsSigned, to_z-of_z, arith, ap, ap₂, refl, subst}
 use Rattle.std.proofs.Common.{sym, ◌∙◌}
 use Rattle.std.specs.Int.{w32}
 use Rattle.cell_path.specs.Four.{at_step}
