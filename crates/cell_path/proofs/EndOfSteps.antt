@@ -1,5 +1,6 @@
 -- A cell that began before the latest step is a step longer now, and the better of its two bits ends best.
-use Rattle.std.proofs.Common.{◌≡◌, ℕ, zero, suc, ◌+◌, ◌-◌, ◌*◌, ◌^◌, ◌<◌, ◌≤◌, ◌==◌, min, Bool, cond, ℤ, pos, ◌+ℤ◌, ◌-ℤ◌, ◌≤ℤ◌, ◌<ℤ◌, ◌⊎◌, inl}
+use Rattle.std.proofs.Common.{◌≡◌, ℕ, zero, suc, ◌+◌, ◌-◌, ◌*◌, ◌^◌, ◌<◌, ◌≤◌, ◌==◌, min, Bool, cond, ℤ, pos, ◌+ℤ◌}
+use Rattle.std.proofs.Common.{◌-ℤ◌, ◌≤ℤ◌, ◌<ℤ◌, ◌⊎◌, inl}
 use Rattle.std.proofs.Common.{inr, List, [], ◌∷◌, length, drop, ap, ap₂, subst, sym, ◌∙◌, arith}
 use Rattle.std.proofs.lemmas.Int.{ints}
 use Rattle.std.proofs.lemmas.List.{length-drop}
@@ -112,9 +113,11 @@ bits_are_near : (S : List Step) (n place : ℕ) (sign : Sign) (l h : ℤ) (flat 
 bits_are_near S n place sign l h flat turned are few within low_is high_is =
     let z = signed-within (min n (length S) * 2 ^ 16) sign (sound_in Zero n S) (sound-within Zero n S are) in
     let o = signed-within (min n (length S) * 2 ^ 16) sign (sound_in One n S) (sound-within One n S are) in
-    let a = near_beginnings S n place (sign_before Zero sign) (sign_before One sign) l h flat turned are within low_is high_is
+    let a = near_beginnings S n place (sign_before Zero sign)
+    (sign_before One sign) l h flat turned are within low_is high_is
     in
-    let b = near_beginnings S n place (sign_before One sign) (sign_before Zero sign) h l turned flat are within high_is low_is
+    let b = near_beginnings S n place (sign_before One sign)
+    (sign_before Zero sign) h l turned flat are within high_is low_is
     in
     record {
       above = omega (arith, ints, z.above, z.below, o.above, o.below, a, b, few);
@@ -151,10 +154,13 @@ found_end steps rows n place sign step flat turned result within long are place_
     let y_is = turned_is turned_end.number turned_end.kept_is in
     let e = length-drop (3 - step) steps in
     let some : 0 < length S = omega (arith, e, long) in
-    let low_is : IsBeginning LENGTHS S (length_in LENGTHS place) place (sign_before Zero sign) flat_end.number flat_end.way =
+    let low_is : IsBeginning LENGTHS S (length_in LENGTHS place) place
+    (sign_before Zero sign) flat_end.number flat_end.way =
     subst (λ k. IsBeginning LENGTHS S k place (sign_before Zero sign) flat_end.number flat_end.way) n_is flat_end.is in
-    let high_is : IsBeginning LENGTHS S (length_in LENGTHS place) place (sign_before One sign) turned_end.number turned_end.way =
-    subst (λ k. IsBeginning LENGTHS S k place (sign_before One sign) turned_end.number turned_end.way) n_is turned_end.is in
+    let high_is : IsBeginning LENGTHS S (length_in LENGTHS place) place
+    (sign_before One sign) turned_end.number turned_end.way =
+    subst (λ k. IsBeginning LENGTHS S k place
+    (sign_before One sign) turned_end.number turned_end.way) n_is turned_end.is in
     let X : ℕ → ℤ = λ k. signed sign (sound_in Zero k S) +ℤ flat_end.number in
     let Y : ℕ → ℤ = λ k. signed sign (sound_in One k S) +ℤ turned_end.number in
     elim (below_or_above x y) [
@@ -163,7 +169,8 @@ found_end steps rows n place sign step flat turned result within long are place_
             number = x;
             bit = Zero;
             is = subst (λ k. IsEnd LENGTHS S place sign (X k) Zero) (sym n_is)
-                (zero_ends LENGTHS S place sign flat_end.number turned_end.number flat_end.way turned_end.way low_is high_is some place_in
+                (zero_ends LENGTHS S place sign flat_end.number turned_end.number flat_end.way turned_end.way
+                low_is high_is some place_in
                 (subst (λ k. Y k ≤ℤ X k) n_is below));
             kept = r.0;
             code = ap bit_from r.1;
@@ -173,7 +180,8 @@ found_end steps rows n place sign step flat turned result within long are place_
             number = y;
             bit = One;
             is = subst (λ k. IsEnd LENGTHS S place sign (Y k) One) (sym n_is)
-                (one_ends LENGTHS S place sign flat_end.number turned_end.number flat_end.way turned_end.way low_is high_is some place_in
+                (one_ends LENGTHS S place sign flat_end.number turned_end.number flat_end.way turned_end.way
+                low_is high_is some place_in
                 (subst (λ k. X k <ℤ Y k) n_is above));
             kept = r.0;
             code = ap bit_from r.1;

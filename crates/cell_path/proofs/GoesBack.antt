@@ -157,7 +157,8 @@ places-by marks new (suc ago) are comes near =
     (subst (λ (m : StepMarks). m.best_place < 45) (sym (mark_others marks new ago (omega arith)))
     (are.places ago (omega arith)))
 
-pub still_marks : (marks : MarksState) (new : StepMarks) → AreMarks marks → new.best_place < 45 → marks.count < 2 ^ 40 + 4
+pub still_marks : (marks : MarksState) (new : StepMarks) → AreMarks marks → new.best_place < 45
+    → marks.count < 2 ^ 40 + 4
     → AreMarks (pushed marks new)
 still_marks marks new are comes room = record {
   long = length-set marks.ring ((marks.count + 1) % 4_096) new ∙ are.long;

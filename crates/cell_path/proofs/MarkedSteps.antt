@@ -35,7 +35,8 @@ pub marked_step : (all : List Step) (step : ℕ) (rows : RowsState) (first marks
     → IsMarked (marks_of marks step) (steps_at step all)
 marked_step all step rows first marks ends best started ends_are best_is keeps place_is sign_is =
     let S = steps_at step all in
-    let p = keeps.places step ∙ place_is ∙ place_from (at_step best.codes step) best_is.place best_is.sign best_is.code in
+    let p = keeps.places step ∙ place_is ∙ place_from
+    (at_step best.codes step) best_is.place best_is.sign best_is.code in
     let s = keeps.signs step ∙ sign_is ∙ sign_of (at_step best.codes step) best_is.place best_is.sign best_is.code in
     record {
       ends = λ place sign within.

@@ -22,7 +22,8 @@ pub has_marks : {a b : Bit} {c d : Way} (marks : List ℕ) (place mark : ℕ) �
     → marked_bit mark Plus ≡ a → marked_bit mark Minus ≡ b → marked_way mark Plus ≡ c → marked_way mark Minus ≡ d
     → Says (get_or (set marks place mark) place 0) a b c d
 has_marks marks place mark long within p m pw mw =
-    let here : get_or (set marks place mark) place 0 ≡ mark = get_or-set_same marks place mark 0 (omega (arith, long)) in
+    let here : get_or (set marks place mark) place 0 ≡ mark =
+    get_or-set_same marks place mark 0 (omega (arith, long)) in
     record {
       plus = ap (λ x. marked_bit x Plus) here ∙ p;
       minus = ap (λ x. marked_bit x Minus) here ∙ m;

@@ -238,7 +238,10 @@ early_path steps place sign are some within short =
     let none = drop_all l steps short in
     let s = signed-within (share place steps * 2 ^ 16) sign (sound_in Zero l steps) (sound-within Zero l steps are) in
     let either : (b : Bool) → cond b (pos 0) EARLY ≤ℤ pos (2 ^ 28) = λ b.
-    elim b as (λ b. cond b (pos 0) EARLY ≤ℤ pos (2 ^ 28)) [ true ↦ omega (arith, ints) | false ↦ omega (arith, ints) ] in
+    elim b as (λ b. cond b (pos 0) EARLY ≤ℤ pos (2 ^ 28)) [
+      | true ↦ omega (arith, ints)
+      | false ↦ omega (arith, ints)
+    ] in
     let c = either (length steps == l) in
     (jump_is_path steps place sign [] some within (ap length none), omega (arith, ints, s.below, s.above, c, short))
 

@@ -1,5 +1,6 @@
 -- With the next four steps the sums and numbers of the steps so far are those of four steps more.
-use Rattle.std.proofs.Common.{◌≡◌, ◌≢◌, ◌⊎◌, inl, inr, ℕ, zero, suc, ◌+◌, ◌-◌, ◌%◌, ◌^◌, ◌<◌, ◌≤◌, ◌==◌, Bool, true, false, cond, ℤ}
+use Rattle.std.proofs.Common.{◌≡◌, ◌≢◌, ◌⊎◌, inl, inr, ℕ, zero, suc, ◌+◌, ◌-◌, ◌%◌, ◌^◌, ◌<◌, ◌≤◌, ◌==◌, Bool, true}
+use Rattle.std.proofs.Common.{false, cond, ℤ}
 use Rattle.std.proofs.Common.{pos, neg_ℤ, ◌+ℤ◌, ◌-ℤ◌, List, [], ◌∷◌, length, get_or, drop, refl, ap, subst, sym, ◌∙◌}
 use Rattle.std.proofs.Common.{arith, replicate, FitsSigned}
 use Rattle.std.specs.Int.{w32, cast_unsigned, int_wrap}
@@ -18,7 +19,8 @@ use Rattle.cell_path.specs.declared.lengths.TheConstants.{EARLY, LENGTHS}
 use Rattle.cell_path.specs.declared.mark.FourMarks.{FourMarks}
 use Rattle.cell_path.specs.Best.{rank_of_way}
 use Rattle.cell_path.specs.Four.{at_step, low}
-use Rattle.cell_path.specs.Kept.{number_ago, number_next, place_ago, ring_of, sum_ago, AreRows, IsNext, IsRing, RowsState, SumsState}
+use Rattle.cell_path.specs.Kept.{number_ago, number_next, place_ago, ring_of, sum_ago, AreRows, IsNext, IsRing}
+use Rattle.cell_path.specs.Kept.{RowsState, SumsState}
 use Rattle.cell_path.specs.Number.{score_before, IsBeginning, WinsBy}
 use Rattle.cell_path.specs.Path.{total, Follows, IsPath}
 use Rattle.cell_path.specs.Scores.{AreSteps, IsStep}
@@ -155,7 +157,8 @@ nothing zero = refl
 nothing (suc n) = refl
 
 pub no_sums_stand : (sums : SumsState) → ((ago : ℕ) → ago ≤ 99 → sum_ago sums ago ≡ 0) → SumsStandFor sums []
-no_sums_stand sums zeros ago near = zeros ago near ∙ sym none_is ∙ ap low (sym total-nil) ∙ ap (λ l. low (total l)) (sym (nothing ago))
+no_sums_stand sums zeros ago near = zeros ago near ∙ sym none_is ∙ ap low (sym total-nil)
+    ∙ ap (λ l. low (total l)) (sym (nothing ago))
 
 pub only_jump : (way : Way) (place : ℕ) (sign : Sign) → Follows way place sign [] → way ≡ Jump
 only_jump Same place sign is = is
@@ -184,7 +187,8 @@ empty_beginning ago place sign kept is = record {
     before = [];
     begins = record { follows = refl; is_path = ap length (nothing ago) };
     number_is = refl;
-    wins = λ other others begins. empty_wins ago place sign (score_before LENGTHS [] ago place Jump []) other others refl
+    wins = λ other others begins. empty_wins ago place sign
+        (score_before LENGTHS [] ago place Jump []) other others refl
         begins.follows begins.is_path;
   };
   kept_is = is;

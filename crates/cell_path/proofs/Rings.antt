@@ -1,5 +1,6 @@
 -- Four numbers in a row are read from a ring as they stand, since the first four stand behind it once more.
-use Rattle.std.proofs.Common.{◌≡◌, ◌⊎◌, inl, inr, ℕ, ◌+◌, ◌-◌, ◌%◌, ◌<◌, ◌≤◌, List, [], ◌∷◌, get_or, refl, ap, ◌∙◌, arith}
+use Rattle.std.proofs.Common.{◌≡◌, ◌⊎◌, inl, inr, ℕ, ◌+◌, ◌-◌, ◌%◌, ◌<◌, ◌≤◌, List, [], ◌∷◌, get_or, refl, ap, ◌∙◌}
+use Rattle.std.proofs.Common.{arith}
 use Rattle.cell_path.specs.Four.{at_step}
 use Rattle.cell_path.specs.Kept.{IsRing}
 use Rattle.cell_path.proofs.Lowest.{at_each_step}

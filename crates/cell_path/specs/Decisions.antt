@@ -9,7 +9,8 @@ use Rattle.cell_path.specs.Spaced.{AreSpaced}
 use Rattle.cell_path.specs.Pending.{StandsWith}
 use Rattle.cell_path.specs.Paths.{PathsState}
 
--- the paths, the steps that wait for others, how many steps there were, where the decided cells end, those that wait, and the last one given
+-- the paths, the steps that wait for others, how many steps there were, where the decided cells end, those that wait,
+-- and the last one given
 pub record DecisionsState : Type 0 where
   pub paths : PathsState
   pub pending : Pending

@@ -1,5 +1,6 @@
 //! The best paths through the sound so far, which can be followed back. Read next: `laws`.
-ghost use Rattle.std.specs.Prelude.{◌≡◌, ℕ, ◌+◌, ◌^◌, ◌<◌, ◌≤◌, ℤ, IfSome, None, List, [], ◌∷◌, ◌++◌, ◌-◌, drop, length};
+ghost use Rattle.std.specs.Prelude.{◌≡◌, ℕ, ◌+◌, ◌^◌, ◌<◌, ◌≤◌, ℤ, IfSome, None, List, [], ◌∷◌, ◌++◌, ◌-◌, drop};
+ghost use Rattle.std.specs.Prelude.{length};
 ghost use Rattle.cell_path.specs.declared.cell.Cell.{Cell};
 ghost use Rattle.cell_path.specs.declared.cell.Step.{Step};
 ghost use Rattle.cell_path.specs.declared.lengths.TheConstants.{LENGTHS};
@@ -108,7 +109,8 @@ impl Paths {
     pub fn back(&self, at: Point) -> Back
         requires place { at.place < 45 }
         requires ago { at.ago < 4_000 }
-        ensures back { (steps : List Step) (path : List Cell) → MarksStandFor self.now.marks steps → at.ago < length steps
+        ensures back { (steps : List Step) (path : List Cell) → MarksStandFor self.now.marks steps
+            → at.ago < length steps
             → IsBest LENGTHS (drop at.ago steps) at.place at.sign path → GoesBack steps path result }
         ensures cell { result.cell.place ≡ at.place }
         ensures point { IfSome result.before (λ before. (before.place < 45)

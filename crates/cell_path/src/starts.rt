@@ -3,7 +3,8 @@ ghost use Rattle.std.specs.Prelude.{◌≡◌, ◌≢◌, ℕ, ◌<◌, List};
 ghost use Rattle.cell_path.specs.declared.cell.Sign.{Sign};
 ghost use Rattle.cell_path.specs.declared.cell.Step.{Step};
 ghost use Rattle.cell_path.specs.Four.{at_step};
-ghost use Rattle.cell_path.specs.Started.{mark_at, AreStarted, AreStartsOf, HasMarks, IsStarted, KeepsBest, KeepsNumbers};
+ghost use Rattle.cell_path.specs.Started.{mark_at, AreStarted, AreStartsOf, HasMarks, IsStarted, KeepsBest};
+ghost use Rattle.cell_path.specs.Started.{KeepsNumbers};
 ghost use Rattle.cell_path.specs.Kept.{number_next};
 ghost use Rattle.cell_path.specs.StandsFor.{AreBits};
 

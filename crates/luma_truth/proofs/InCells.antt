@@ -114,7 +114,10 @@ one_least drawing row place less over bit is h set =
     let end = eighth place (8 * bit + 7) in
     let n = length_of place bit begin end is.inside.in_row refl refl in
     let long = is.long in
-    let far : begin + 32 ≤ end = elim n.1 [ inl e ↦ omega (arith, n.0, e, long) | inr e ↦ omega (arith, n.0, e, long) ] in
+    let far : begin + 32 ≤ end = elim n.1 [
+      | inl e ↦ omega (arith, n.0, e, long)
+      | inr e ↦ omega (arith, n.0, e, long)
+    ] in
     let w = core_of drawing row place less over bit begin end is h refl refl in
     let lit = bright_core drawing row bit begin (16 * ((begin + 15) / 16) - begin) ((begin + 15) / 16)
     (end / 16 - (begin + 15) / 16) (end / 16) (end % 16) end w set in
@@ -134,7 +137,10 @@ zero_most drawing row place less over bit is h set =
     let end = eighth place (8 * bit + 7) in
     let n = length_of place bit begin end is.inside.in_row refl refl in
     let long = is.long in
-    let far : begin + 32 ≤ end = elim n.1 [ inl e ↦ omega (arith, n.0, e, long) | inr e ↦ omega (arith, n.0, e, long) ] in
+    let far : begin + 32 ≤ end = elim n.1 [
+      | inl e ↦ omega (arith, n.0, e, long)
+      | inr e ↦ omega (arith, n.0, e, long)
+    ] in
     let w = core_of drawing row place less over bit begin end is h refl refl in
     let lit = dark_core drawing row bit begin (16 * ((begin + 15) / 16) - begin) ((begin + 15) / 16)
     (end / 16 - (begin + 15) / 16) (end / 16) (end % 16) end w set in
@@ -142,7 +148,8 @@ zero_most drawing row place less over bit is h set =
     let whole = subst (λ (m : ℕ). 10240 * light row end
     ≤ 10240 * light row begin + (10240 * drawing.dark + 5120 * drawing.noise) * m + 81920 * drawing.swing) parts lit in
     dark_most drawing.dark drawing.swing drawing.noise (darkest row) less over (core place) (end - begin)
-    (light row begin) (light row end) (get_or (cells_of row place) bit 0) n.1 is.split is.quiet whole (cell_is row place bit h)
+    (light row begin) (light row end) (get_or (cells_of row place) bit 0) n.1 is.split is.quiet whole
+    (cell_is row place bit h)
 
 -- the end of the core lies in the row
 within_row : (drawing : Drawing) (row : List ℕ) (place : Place) (less over bit : ℕ)
@@ -159,9 +166,11 @@ one_most drawing row place less over bit is h =
     let begin = eighth place (8 * bit + 1) in
     let end = eighth place (8 * bit + 7) in
     let n = length_of place bit begin end is.inside.in_row refl refl in
-    let lit = light_at_most drawing row begin (end - begin) end is.drawn n.0 (within_row drawing row place less over bit is h) in
+    let lit = light_at_most drawing row begin (end - begin) end is.drawn n.0
+    (within_row drawing row place less over bit is h) in
     bright_most drawing.dark drawing.swing drawing.noise (darkest row) less over (core place) (end - begin)
-    (light row begin) (light row end) (get_or (cells_of row place) bit 0) n.1 is.split is.quiet lit (cell_is row place bit h)
+    (light row begin) (light row end) (get_or (cells_of row place) bit 0) n.1 is.split is.quiet lit
+    (cell_is row place bit h)
 
 zero_least : (drawing : Drawing) (row : List ℕ) (place : Place) (less over bit : ℕ)
     → Reading drawing row place less over → bit < 90
@@ -171,7 +180,8 @@ zero_least drawing row place less over bit is h =
     let begin = eighth place (8 * bit + 1) in
     let end = eighth place (8 * bit + 7) in
     let n = length_of place bit begin end is.inside.in_row refl refl in
-    let lit = light_at_least drawing row begin (end - begin) end is.drawn n.0 (within_row drawing row place less over bit is h) in
+    let lit = light_at_least drawing row begin (end - begin) end is.drawn n.0
+    (within_row drawing row place less over bit is h) in
     dark_least drawing.dark drawing.noise (darkest row) less over (core place) (end - begin) (light row begin)
     (light row end) (get_or (cells_of row place) bit 0) n.1 is.split lit (cell_is row place bit h)
 

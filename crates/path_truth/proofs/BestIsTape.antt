@@ -142,4 +142,5 @@ tape_is_best some place tape [] steady keeps =
     absurd (nothing_kept place tape steady.zero (tape_path place tape [] steady.in_list steady.cells keeps))
 tape_is_best some place tape (step ∷ steps) steady keeps =
     let best = some step steps in
-    subst (IsBestOfAll LENGTHS (step ∷ steps)) (best_is_tape place tape best.0 (step ∷ steps) steady keeps best.1) best.1
+    subst (IsBestOfAll LENGTHS (step ∷ steps)) (best_is_tape place tape best.0
+    (step ∷ steps) steady keeps best.1) best.1

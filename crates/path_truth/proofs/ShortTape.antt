@@ -64,7 +64,8 @@ all_decided place count (cell ∷ before) steps within long go keeps =
     let more = all_decided place count before (drop n steps) within (omega (arith, rest)) go.1
     (subst (λ p. KeepsItsSides (length_in LENGTHS p) (drop n steps) before) is like.1) in
     decided_front count end cell before decided
-    ∙ ap (λ l. at end cell ∷ l) (subst (λ k. filter (is_decided 0 count 0) (placed k before) ≡ placed k before) rest more)
+    ∙ ap (λ l. at end cell ∷ l) (subst (λ k. filter (is_decided 0 count 0) (placed k before)
+    ≡ placed k before) rest more)
     ∙ sym (placed_front end cell before)
 
 pub short_tape : ((steps : List Step) (all : List Placed) → length steps < FIRST → AreDecided steps all → all ≡ [])

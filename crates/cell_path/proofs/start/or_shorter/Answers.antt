@@ -39,7 +39,8 @@ returns-clause-next c = λ best step steps are so_far.
     let way : IsBestOfWay LENGTHS S p s Shorter new =
     subst (λ k. IsBestOfWay LENGTHS S p s Shorter (end.number -ℤ pos (k * level_at S)))
     (sym (ap₂ ◌-◌ x.value y.value))
-    (shorter_best LENGTHS S p n s end.number end.bit (omega (arith, c.if-place-eq0.false)) (some_step steps step are.within are.long)
+    (shorter_best LENGTHS S p n s end.number end.bit (omega (arith, c.if-place-eq0.false))
+    (some_step steps step are.within are.long)
     end.is) in
     or_way steps p s c.args.start c.minus-number.result 1 step c.or.result Shorter new here.number here.bit
     are.are_steps here.is refl

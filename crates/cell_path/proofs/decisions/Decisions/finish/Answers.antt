@@ -24,7 +24,8 @@ returns-then-self-gt0-clause-stands c = λ steps given stand_now.
     let some : 0 < inside.count = c.if-self-gt0.true in
     let s = stand.stands in
     let marks : MarksStandFor c.finish.new.self.marks steps =
-    subst (MarksStandFor c.finish.new.self.marks) (sym s.steps_are) (c.finish.ensures.stands s.before s.waits s.paths) in
+    subst (MarksStandFor c.finish.new.self.marks) (sym s.steps_are)
+    (c.finish.ensures.stands s.before s.waits s.paths) in
     record {
       decided = rest_adds steps given c.decide.new.waiting inside.count inside.done decided stand.count done some
           (c.decide.ensures.decided steps marks (omega (arith, some, stand.count)));

@@ -18,11 +18,13 @@ many-preserved g c =
     let third_size = rw c.sizes_at-sizes.ensures at c.from-in-many-2.ensures in
     let fourth_size = rw c.sizes_at-sizes.ensures at c.from-in-many-3.ensures in
     let inside : place + 4 ≤ length xs = omega (arith, c.many-test.true, i.within, c.requires.within) in
-    let first = one_more start (lowered c.many.level) (lowered c.grown.result) xs at place (place + 1) c.from.result i.order
+    let first = one_more start (lowered c.many.level) (lowered c.grown.result) xs at place
+    (place + 1) c.from.result i.order
     (omega (arith, inside)) (omega arith) size i.so_far c.grown.ensures.value in
     let second = one_more start _ (lowered c.grown-in-many.result) xs at (place + 1) (place + 2) c.from-in-many.result
     (omega (arith, i.order)) (omega (arith, inside)) (omega arith) second_size first c.grown-in-many.ensures.value in
-    let third = one_more start _ (lowered c.grown-in-many-2.result) xs at (place + 2) (place + 3) c.from-in-many-2.result
+    let third = one_more start _ (lowered c.grown-in-many-2.result) xs at (place + 2)
+    (place + 3) c.from-in-many-2.result
     (omega (arith, i.order)) (omega (arith, inside)) (omega arith) third_size second c.grown-in-many-2.ensures.value in
     let fourth = one_more start _ (lowered c.grown-level.result) xs at (place + 3) (place + 4) c.from-in-many-3.result
     (omega (arith, i.order)) (omega (arith, inside)) (omega arith) fourth_size third c.grown-level.ensures.value in
