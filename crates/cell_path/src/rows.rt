@@ -32,7 +32,8 @@ impl Model for Rows {
 }
 
 /// The numbers before the first step: a cell that begins with the sound costs nothing, and one that begins before
-/// it does costs much.
+/// it does costs much. Out of line, as `Rows::new`: inlined into its callers, these rings take the compiler minutes.
+#[inline(never)]
 fn no_numbers() -> [u32; 132]
     ensures ring { IsRing result }
     ensures here { get_or result 127 0 ≡ low (pos 0) }
@@ -45,6 +46,7 @@ fn no_numbers() -> [u32; 132]
 
 impl Rows {
     /// Before the first step.
+    #[inline(never)]
     pub(crate) fn new() -> Rows
         ensures next { result.next ≡ 0 }
         ensures stands { RowsStandFor result [] }
