@@ -1,15 +1,14 @@
 -- The gate judges a cell by its eight neighbours on either side, and what is usual does not change with those that
 -- come.
-use Rattle.std.proofs.Common.{◌≡◌, ℕ, zero, suc, ◌+◌, ◌*◌, ◌/◌, ◌^◌, ◌≤◌, ◌<◌, min, max, Bool, true, false, ◌||◌}
+use Rattle.std.proofs.Common.{◌≡◌, ℕ, zero, suc, ◌*◌, ◌/◌, ◌^◌, ◌≤◌, ◌<◌, min, max, Bool, true, false, ◌||◌}
 use Rattle.std.proofs.Common.{◌==◌, cond, List, []}
 use Rattle.std.proofs.Common.{◌∷◌, ◌++◌, length, take, drop, Option, Some, None, refl, ap, ap₂, subst, sym, ◌∙◌, arith}
 use Rattle.std.specs.Prelude.{get_or, slice_get, IfSome}
-use Rattle.std.specs.List.{sum_by, All}
+use Rattle.std.specs.List.{All}
 use Rattle.std.proofs.lemmas.Bool.{false≢true, ne_eqb}
 use Rattle.std.proofs.lemmas.List.Elements.{All-cons, All-head, All-tail, All-take}
 use Rattle.std.proofs.lemmas.List.{append_assoc, length-drop, length-take, take_all, take-append-le}
-use Rattle.std.proofs.lemmas.List.Sums.{sum_by-cons, sum_by_more}
-use Rattle.std.proofs.lemmas.Option.{get_or_from_slice_get, none-some, slice_get_within}
+use Rattle.std.proofs.lemmas.Option.{none-some}
 use Rattle.path_front.specs.declared.fit.Fit.{Fit}
 use Rattle.path_front.specs.declared.fit.Range.{Range}
 use Rattle.path_front.specs.declared.fit.Usual.{Usual}
@@ -153,31 +152,6 @@ usual_of_eight usual (p ∷ judged) cell all =
     (fit_of (range_by (p ∷ a) (take 8 (take 8 all))) cell)))) (take_twice 7 judged)
     ∙ ap (λ c. cond cell.jumps usual (Some (usual_after usual (range_by (p ∷ take 7 judged) c)
     (fit_of (range_by (p ∷ take 7 judged) c) cell)))) (take_twice 8 all)
-
--- ---- the level of a cell with the next seven
-
--- eight follow, and the last of them is left out
-pub level_sum_without : (cell : Measured) (behind : List Measured) (last : Measured) → slice_get behind 7 ≡ Some last
-    → length behind ≤ 8
-    → sum_by level_of (take 8 (cell ∷ behind)) + level_of last ≡ level_of cell + sum_by level_of behind
-level_sum_without cell behind last is few =
-    let within = slice_get_within behind 7 last is in
-    let front = sum_by-cons level_of cell (take 7 behind) in
-    let more = sum_by_more level_of behind 7 last within in
-    let at = ap level_of (get_or_from_slice_get behind 7 last last is) in
-    let all = ap (sum_by level_of) (take_all 8 behind few) in
-    omega (arith, front, more, at, all)
-
--- seven follow at most
-pub level_sum_with : (cell : Measured) (behind : List Measured) → length behind ≤ 7
-    → sum_by level_of (take 8 (cell ∷ behind)) ≡ level_of cell + sum_by level_of behind
-level_sum_with cell behind few =
-    ap (λ l. sum_by level_of (cell ∷ l)) (take_all 7 behind few) ∙ sum_by-cons level_of cell behind
-
-pub none_from : (n : ℕ) (cells : List Measured) → slice_get cells n ≡ None → length cells ≤ n
-none_from n [] none = omega arith
-none_from zero (c ∷ cells) none = absurd (none-some c (sym none))
-none_from (suc n) (c ∷ cells) none = let e = none_from n cells none in omega (arith, e)
 
 -- ---- the next cell
 

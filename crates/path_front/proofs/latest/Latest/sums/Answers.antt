@@ -1,5 +1,5 @@
 use Rattle.std.proofs.Common.{rules, ◌≡◌, ◌+◌, ◌*◌, ◌^◌, ◌≤◌, ◌+ℤ◌, FitsSigned, to_z-of_z, ap, ap₂, sym, subst, ◌∙◌}
-use Rattle.std.proofs.Common.{arith}
+use Rattle.std.proofs.Common.{arith, refl}
 use Rattle.std.specs.Int.{w64}
 use Rattle.std.specs.Prelude.{unsigned_abs}
 use Rattle.std.proofs.lemmas.Int.{fits_signed_from_abs}
@@ -10,7 +10,7 @@ use Rattle.path_front.proofs.latest.Latest.sums.Goals as goal
 pub loop-place-init : goal.loop-place-init
 loop-place-init c = record {
   sum = λ sounds stand. sym no_steps;
-  squares = λ sounds stand. search rules;
+  squares = λ sounds stand. refl;
   size = omega arith;
   squares_size = omega arith;
 }
