@@ -261,7 +261,9 @@ impl Gate {
         };
         let before = self.before.as_slice();
         let behind = self.ahead.as_slice();
-        let weighed = weigh(self.least, self.long, self.usual, before, &cell, level, behind);
+        let weighed = weigh(
+            self.least, self.long, self.usual, before, &cell, level, behind,
+        );
         self.usual = weighed.usual;
         self.before.truncate(NEIGHBOURS - 1);
         self.before.insert(0, cell);
