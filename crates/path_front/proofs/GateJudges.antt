@@ -9,6 +9,7 @@ use Rattle.std.proofs.lemmas.Bool.{false≢true, ne_eqb}
 use Rattle.std.proofs.lemmas.List.Elements.{All-cons, All-head, All-tail, All-take}
 use Rattle.std.proofs.lemmas.List.{append_assoc, length-drop, length-take, take_all, take-append-le}
 use Rattle.std.proofs.lemmas.Option.{none-some}
+use Rattle.path_front.specs.declared.fit.Fit.{Fit}
 use Rattle.path_front.specs.declared.fit.Range.{Range}
 use Rattle.path_front.specs.declared.fit.Usual.{Usual}
 use Rattle.path_front.specs.declared.measured.Measured.{Measured}
@@ -39,75 +40,58 @@ refused_by least long usual previous before cell behind few few_behind =
     || does_not_fit usual (range_by near far) (fit_of (range_by near far) cell))
     (take_all 8 (previous ∷ before) few) (take_all 8 behind few_behind)
 
-or_left : (a b c : Bool) → a ≡ true → c ≡ a || b → true ≡ c
-or_left a b c holds is = sym (is ∙ ap (λ x. x || b) holds)
-
-or_right : (a b c d : Bool) → a ≡ false → c ≡ a || b → d ≡ b → d ≡ c
-or_right a b c d fails is same = same ∙ sym (is ∙ ap (λ x. x || b) fails)
-
-pub faint_is_refused : (least long : ℕ) (usual : Option Usual) (previous : Measured) (before : List Measured)
-    (cell : Measured) (behind : List Measured) (near ahead floor : ℕ) → slice_get before 0 ≡ Some previous
-    → length before ≤ 8 → length behind ≤ 8 → near ≡ mean_level before → ahead ≡ mean_level (take 8 (cell ∷ behind))
-    → floor ≡ max (max (min near ahead / 4) (long / 16)) (16 * least) → is_faint previous cell floor ≡ true
-    → true ≡ refuses least long usual before cell behind
-faint_is_refused least long usual previous [] cell behind near ahead floor first few few_behind near_is ahead_is
-    floor_is faint =
-    absurd (none-some previous first)
-faint_is_refused least long usual previous
-    (p ∷ before) cell behind near ahead floor first few few_behind near_is ahead_is floor_is faint =
-    let same : p ≡ previous = same_first p previous first in
-    let level : floor ≡ floor_by least long (p ∷ before) (take 8 (cell ∷ behind)) =
-    floor_is ∙ ap₂ (λ a b. max (max (min a b / 4) (long / 16)) (16 * least)) near_is ahead_is in
-    let is : is_faint p cell (floor_by least long (p ∷ before) (take 8 (cell ∷ behind))) ≡ true =
-    ap₂ (λ q f. is_faint q cell f) same (sym level) ∙ faint in
-    or_left (is_faint p cell (floor_by least long (p ∷ before) (take 8 (cell ∷ behind))))
-    (does_not_fit usual (range_by (p ∷ before) behind) (fit_of (range_by (p ∷ before) behind) cell))
-    (refuses least long usual (p ∷ before) cell behind) is
-    (refused_by least long usual p before cell behind few few_behind)
-
-pub fit_decides : (least long : ℕ) (usual : Option Usual) (previous : Measured) (before : List Measured)
-    (cell : Measured) (behind : List Measured) (near ahead floor : ℕ) (range : Range) (answer : Bool)
+-- by the levels, the range and the fit that were computed
+pub refused_is : (least long : ℕ) (usual : Option Usual) (previous : Measured) (before : List Measured)
+    (cell : Measured) (behind : List Measured) (near ahead floor : ℕ) (range : Range) (fit : Fit) (answer : Bool)
     → slice_get before 0 ≡ Some previous
     → length before ≤ 8 → length behind ≤ 8 → near ≡ mean_level before → ahead ≡ mean_level (take 8 (cell ∷ behind))
-    → floor ≡ max (max (min near ahead / 4) (long / 16)) (16 * least) → is_faint previous cell floor ≡ false
-    → range ≡ range_by before behind → answer ≡ does_not_fit usual range (fit_of range cell)
+    → floor ≡ max (max (min near ahead / 4) (long / 16)) (16 * least)
+    → range ≡ range_by before behind → fit ≡ fit_of range cell
+    → answer ≡ is_faint previous cell floor || does_not_fit usual range fit
     → answer ≡ refuses least long usual before cell behind
-fit_decides least long usual previous [] cell behind near ahead floor range answer first few few_behind near_is
-    ahead_is floor_is faint range_is answer_is =
+refused_is least long usual previous [] cell behind near ahead floor range fit answer first few few_behind near_is
+    ahead_is floor_is range_is fit_is answer_is =
     absurd (none-some previous first)
-fit_decides least long usual previous
-    (p ∷ before) cell behind near ahead floor range answer first few few_behind near_is ahead_is floor_is faint
-    range_is answer_is =
-    let same : p ≡ previous = same_first p previous first in
+refused_is least long usual previous
+    (p ∷ before) cell behind near ahead floor range fit answer first few few_behind near_is ahead_is floor_is range_is
+    fit_is answer_is =
+    let same : previous ≡ p = sym (same_first p previous first) in
     let level : floor ≡ floor_by least long (p ∷ before) (take 8 (cell ∷ behind)) =
     floor_is ∙ ap₂ (λ a b. max (max (min a b / 4) (long / 16)) (16 * least)) near_is ahead_is in
-    let is : is_faint p cell (floor_by least long (p ∷ before) (take 8 (cell ∷ behind))) ≡ false =
-    ap₂ (λ q f. is_faint q cell f) same (sym level) ∙ faint in
-    or_right (is_faint p cell (floor_by least long (p ∷ before) (take 8 (cell ∷ behind))))
-    (does_not_fit usual (range_by (p ∷ before) behind) (fit_of (range_by (p ∷ before) behind) cell))
-    (refuses least long usual (p ∷ before) cell behind) answer is
-    (refused_by least long usual p before cell behind few few_behind)
-    (answer_is ∙ ap (λ r. does_not_fit usual r (fit_of r cell)) range_is)
+    let faint : is_faint previous cell floor
+    ≡ is_faint p cell (floor_by least long (p ∷ before) (take 8 (cell ∷ behind))) =
+    ap₂ (λ q f. is_faint q cell f) same level in
+    let misfit : does_not_fit usual range fit
+    ≡ does_not_fit usual (range_by (p ∷ before) behind) (fit_of (range_by (p ∷ before) behind) cell) =
+    ap (does_not_fit usual range) fit_is ∙ ap (λ r. does_not_fit usual r (fit_of r cell)) range_is in
+    answer_is ∙ ap₂ (λ a b. a || b) faint misfit ∙ sym (refused_by least long usual p before cell behind few few_behind)
+
+-- the first cell is not refused, and leaves what is usual
+pub first_fits : (least long : ℕ) (usual : Option Usual) (before : List Measured) (cell : Measured)
+    (behind : List Measured) → slice_get before 0 ≡ None → false ≡ refuses least long usual before cell behind
+first_fits least long usual [] cell behind none = refl
+first_fits least long usual (p ∷ before) cell behind none = absurd (none-some p (sym none))
+
+pub first_leaves : (usual : Option Usual) (before : List Measured) (cell : Measured) (behind : List Measured)
+    → slice_get before 0 ≡ None → usual ≡ usual_by usual before cell behind
+first_leaves usual [] cell behind none = refl
+first_leaves usual (p ∷ before) cell behind none = absurd (none-some p (sym none))
 
 -- ---- what is usual
 
-pub some_cells : (cells : List Measured) (empty : Bool) → empty ≡ (length cells == 0) → empty ≡ false → 0 < length cells
-some_cells [] empty is some = absurd (false≢true (sym some ∙ is))
-some_cells (cell ∷ cells) empty is some = omega arith
-
-pub usual_is : (usual : Option Usual) (before : List Measured) (cell : Measured) (behind : List Measured)
-    (range : Range)
-    (next : Usual) → cell.jumps ≡ false → 0 < length before → length before ≤ 8 → length behind ≤ 8
-    → range ≡ range_by before behind → next ≡ usual_after usual range (fit_of range cell)
-    → Some next ≡ usual_by usual before cell behind
-usual_is usual [] cell behind range next stays some few few_behind range_is next_is = absurd (omega arith)
-usual_is usual (p ∷ before) cell behind range next stays some few few_behind range_is next_is =
+pub usual_is : (usual : Option Usual) (previous : Measured) (before : List Measured) (cell : Measured)
+    (behind : List Measured) (range : Range) (fit : Fit) (next : Option Usual) → slice_get before 0 ≡ Some previous
+    → length before ≤ 8 → length behind ≤ 8 → range ≡ range_by before behind → fit ≡ fit_of range cell
+    → next ≡ cond cell.jumps usual (Some (usual_after usual range fit)) → next ≡ usual_by usual before cell behind
+usual_is usual previous [] cell behind range fit next first few few_behind range_is fit_is next_is =
+    absurd (none-some previous first)
+usual_is usual previous (p ∷ before) cell behind range fit next first few few_behind range_is fit_is next_is =
     let near = take_all 8 (p ∷ before) few in
     let far = take_all 8 behind few_behind in
-    ap Some (next_is ∙ ap (λ r. usual_after usual r (fit_of r cell)) range_is
-    ∙ ap₂ (λ a b. usual_after usual (range_by a b) (fit_of (range_by a b) cell)) (sym near) (sym far))
-    ∙ sym (ap (λ b. cond b usual (Some (usual_after usual (range_by (take 8 (p ∷ before)) (take 8 behind)) (fit_of
-    (range_by (take 8 (p ∷ before)) (take 8 behind)) cell)))) stays)
+    next_is ∙ ap (λ f. cond cell.jumps usual (Some (usual_after usual range f))) fit_is
+    ∙ ap (λ r. cond cell.jumps usual (Some (usual_after usual r (fit_of r cell)))) range_is
+    ∙ ap₂ (λ a b. cond cell.jumps usual (Some (usual_after usual (range_by a b) (fit_of (range_by a b) cell))))
+    (sym near) (sym far)
 
 pub take_fewer : (n : ℕ) (cells : List Measured) → take n (take (suc n) cells) ≡ take n cells
 take_fewer zero [] = refl

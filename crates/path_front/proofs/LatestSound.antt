@@ -1,7 +1,7 @@
 -- The sound in the ring is that of the latest steps, and sums over parts of it are those of the sound.
 use Rattle.std.proofs.Common.{◌≡◌, ℕ, zero, suc, ◌+◌, ◌-◌, ◌*◌, ◌%◌, ◌^◌, ◌<◌, ◌≤◌, ℤ, pos, ◌+ℤ◌, List, [], ◌∷◌}
 use Rattle.std.proofs.Common.{◌++◌}
-use Rattle.std.proofs.Common.{get_or, replicate, take, drop, refl, ap, sym, ◌∙◌, arith}
+use Rattle.std.proofs.Common.{get_or, replicate, take, drop, refl, ap, sym, subst, ◌∙◌, arith}
 use Rattle.std.specs.Prelude.{unsigned_abs}
 use Rattle.std.proofs.lemmas.Int.{ints}
 use Rattle.std.proofs.lemmas.List.{get_or-drop, get_or-replicate}
@@ -10,7 +10,8 @@ use Rattle.std.proofs.lemmas.List.Elements.{All-replicate}
 use Rattle.std.proofs.lemmas.List.Sums.{sum_by-cons}
 use Rattle.path_front.proofs.GroupNext.{size_of_sum}
 use Rattle.path_front.specs.Grid.{total}
-use Rattle.path_front.specs.Latest.{part, sound_ago, squares_of, sum_of, AreLatest, LatestState, LatestStandFor}
+use Rattle.path_front.specs.declared.latest.PartSums.{PartSums}
+use Rattle.path_front.specs.Latest.{part, sound_ago, squares_of, sum_of, AreLatest, AreSums, LatestState, LatestStandFor}
 
 abbrev square : ℤ → ℕ
 square sound = unsigned_abs sound * unsigned_abs sound
@@ -81,3 +82,9 @@ pub total-append : (xs ys : List ℤ) → sum_of (xs ++ ys) ≡ sum_of xs +ℤ s
 unfolding total
 total-append [] ys = omega (arith, ints)
 total-append (x ∷ xs) ys = let e = total-append xs ys in omega (arith, ints, e)
+
+-- a part that is the same has the same sums
+pub same_part : (latest : LatestState) (sums : PartSums) (shorter_ago longer_ago n m : ℕ) → n ≡ m
+    → (n ≡ m → shorter_ago ≡ longer_ago) → AreSums latest shorter_ago n sums → AreSums latest longer_ago m sums
+same_part latest sums shorter_ago longer_ago n m same even are =
+    subst (λ k. AreSums latest longer_ago k sums) same (subst (λ a. AreSums latest a n sums) (even same) are)

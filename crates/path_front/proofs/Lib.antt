@@ -1,4 +1,5 @@
 pub mod CellsNext
+pub mod EightLevels
 pub mod FrontNext
 pub mod GateJudges
 pub mod GivenFirst

@@ -2,6 +2,7 @@
 use Rattle.std.specs.Prelude.{◌≡◌, ℕ, ◌+◌, ◌-◌, ◌*◌, ◌%◌, ◌^◌, ◌<◌, ◌≤◌, ℤ, pos, unsigned_abs}
 use Rattle.std.specs.Prelude.{List, length, get_or, take, drop}
 use Rattle.std.specs.List.{sum_by, All}
+use Rattle.path_front.specs.declared.latest.PartSums.{PartSums}
 use Rattle.path_front.specs.Grid.{total}
 
 -- this many steps up to the one so long ago
@@ -35,3 +36,10 @@ pub record AreLatest (latest : LatestState) : Type 0 where
 pub record LatestStandFor (latest : LatestState) (sounds : List ℤ) : Type 0 where
   pub count : latest.count ≡ length sounds
   pub kept : (ago : ℕ) → ago < 4_096 → sound_ago latest ago ≡ get_or sounds ago (pos 0)
+
+-- the sums of so many steps up to the one so long ago
+pub record AreSums (latest : LatestState) (ago many : ℕ) (sums : PartSums) : Type 0 where
+  pub sum : (sounds : List ℤ) → LatestStandFor latest sounds → sums.sum ≡ sum_of (part ago many sounds)
+  pub squares : (sounds : List ℤ) → LatestStandFor latest sounds → sums.squares ≡ squares_of (part ago many sounds)
+  pub size : unsigned_abs sums.sum ≤ many * 2 ^ 15
+  pub squares_size : sums.squares ≤ many * 2 ^ 30

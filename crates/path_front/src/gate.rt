@@ -1,16 +1,16 @@
 //! Which cells are code, and which are noise. Read next: `tile`.
-ghost use Rattle.std.specs.Prelude.{◌≡◌, ◌*◌, ◌^◌, ◌<◌, ◌≤◌, ◌/◌, min, max, IfSome, IfNone, OnSome, List, [], ◌∷◌};
-ghost use Rattle.std.specs.Prelude.{◌++◌};
-ghost use Rattle.std.specs.Prelude.{length, drop, take};
-ghost use Rattle.std.specs.List.{All};
-ghost use Rattle.path_front.specs.Fit.{IsRange, IsUsual};
-ghost use Rattle.path_front.specs.Gate.{floor_by, range_by, refuses, usual_by, GateStandsFor, Judges};
+ghost use Rattle.std.specs.Prelude.{◌≡◌, ◌*◌, ◌^◌, ◌<◌, ◌≤◌, ◌/◌, ◌||◌, cond, min, max, IfSome, IfNone, OnSome};
+ghost use Rattle.std.specs.Prelude.{Some, List, [], ◌∷◌, ◌++◌, length, drop, take};
+ghost use Rattle.std.specs.List.{sum_by, All};
+ghost use Rattle.path_front.specs.Fit.{usual_after, IsFit, IsRange, IsUsual};
+ghost use Rattle.path_front.specs.Gate.{does_not_fit, range_by, refuses, usual_by, GateStandsFor, Judges};
+ghost use Rattle.path_front.specs.Levels.{is_faint, level_of, mean_level};
 ghost use Rattle.path_front.specs.Measured.{IsMeasured};
 ghost use Rattle.path_front.specs.declared.gate.TheConstants.{NEIGHBOURS};
 ghost use Rattle.path_front.specs.declared.measured.Measured.{Measured};
 
-use crate::fit::{Range, Usual, fit_of, usual_after};
-use crate::levels::{is_faint, level, mean_level, mean_level_with, slowly};
+use crate::fit::{Fit, Range, Usual, fit_of, usual_after};
+use crate::levels::{is_faint, level, levels, mean_level, mean_level_with, slowly};
 use crate::measured::Measured;
 use arrayvec::ArrayVec;
 use std::marker::Model;
@@ -25,27 +25,24 @@ pub struct Judged {
     pub breaks: bool,
 }
 
-/// The mean levels of the neighbours.
-fn range(before: &[Measured], behind: &[Measured]) -> Range
-    requires some { 0 < length before.now }
-    requires few { length before.now ≤ 8 }
-    requires few_behind { length behind.now ≤ 8 }
-    requires before { All IsMeasured before.now }
-    requires behind { All IsMeasured behind.now }
-    ensures value { result ≡ range_by before.now behind.now }
+/// The mean levels of the neighbours: of those before a cell, and of those behind it where there are some.
+fn range(before: u64, behind: &[Measured], sum: u64) -> Range
+    requires before { before ≤ 2 ^ 21 }
+    requires sum { sum ≡ sum_by level_of behind.now }
+    requires most { sum ≤ length behind.now * 2 ^ 21 }
+    ensures value { (cells : List Measured) → before ≡ mean_level cells → result ≡ range_by cells behind.now }
     ensures range { IsRange result }
 {
-    let level = mean_level(before);
     if behind.is_empty() {
         return Range {
-            least: level,
-            most: level,
+            least: before,
+            most: before,
         };
     }
-    let other = mean_level(behind);
+    let other = mean_level(behind, sum);
     Range {
-        least: level.min(other),
-        most: level.max(other),
+        least: before.min(other),
+        most: before.max(other),
     }
 }
 
@@ -62,15 +59,63 @@ fn floor(least: u32, long: u64, before: u64, ahead: u64) -> u64
         .max(16 * u64::from(least))
 }
 
-/// Whether a cell is too faint, or does not fit.
+/// Whether a cell is too faint behind the previous one, or does not fit.
 fn is_refused(
+    previous: &Measured,
+    cell: &Measured,
+    floor: u64,
+    usual: Option<Usual>,
+    range: Range,
+    fit: Fit,
+) -> bool
+    requires previous { IsMeasured previous.now }
+    requires cell { IsMeasured cell.now }
+    requires floor { floor ≤ 2 ^ 21 }
+    requires usual { IfSome usual (λ usual. IsUsual usual) }
+    requires range { IsRange range }
+    ensures { result ≡ (is_faint previous.now cell.now floor || does_not_fit usual range fit) }
+{
+    if is_faint(previous, cell, floor) {
+        return true;
+    }
+    match usual {
+        Some(usual) => usual.refuses(range, fit),
+        None => false,
+    }
+}
+
+/// What is usual after a cell that fits so. One that jumps tells nothing.
+fn next_usual(usual: Option<Usual>, jumps: bool, range: Range, fit: Fit) -> Option<Usual>
+    requires usual { IfSome usual (λ usual. IsUsual usual) }
+    requires range { IsRange range }
+    requires fit { IsFit fit }
+    ensures value { result ≡ cond jumps usual (Some (usual_after usual range fit)) }
+    ensures size { IfSome result (λ usual. IsUsual usual) }
+{
+    if jumps {
+        return usual;
+    }
+    Some(usual_after(usual, range, fit))
+}
+
+/// Whether a cell is refused, and what is usual after it.
+#[derive(Clone, Copy)]
+struct Weighed {
+    refused: bool,
+    usual: Option<Usual>,
+}
+
+/// Weighs a cell of this level between its neighbours, by the long mean with it. Its levels and its fit
+/// are computed once.
+fn weigh(
     least: u32,
     long: u64,
     usual: Option<Usual>,
     before: &[Measured],
     cell: &Measured,
+    level: u64,
     behind: &[Measured],
-) -> bool
+) -> Weighed
     requires least { least ≤ 2 ^ 15 }
     requires long { long ≤ 2 ^ 21 }
     requires usual { IfSome usual (λ usual. IsUsual usual) }
@@ -78,49 +123,28 @@ fn is_refused(
     requires few_behind { length behind.now ≤ 8 }
     requires before { All IsMeasured before.now }
     requires cell { IsMeasured cell.now }
+    requires level { level ≡ level_of cell.now }
+    requires most { level ≤ 2 ^ 21 }
     requires behind { All IsMeasured behind.now }
-    ensures { result ≡ refuses least long usual before.now cell.now behind.now }
+    ensures refused { result.refused ≡ refuses least long usual before.now cell.now behind.now }
+    ensures usual { result.usual ≡ usual_by usual before.now cell.now behind.now }
+    ensures size { IfSome result.usual (λ usual. IsUsual usual) }
 {
     let Some(previous) = before.first() else {
-        return false;
+        return Weighed {
+            refused: false,
+            usual,
+        };
     };
-    let floor = floor(
-        least,
-        long,
-        mean_level(before),
-        mean_level_with(cell, behind),
-    );
-    if is_faint(previous, cell, floor) {
-        return true;
+    let sum = levels(behind);
+    let near = mean_level(before, levels(before));
+    let floor = floor(least, long, near, mean_level_with(level, behind, sum));
+    let range = range(near, behind, sum);
+    let fit = fit_of(range, cell);
+    Weighed {
+        refused: is_refused(previous, cell, floor, usual, range, fit),
+        usual: next_usual(usual, cell.jumps, range, fit),
     }
-    let range = range(before, behind);
-    match usual {
-        Some(usual) => usual.refuses(range, fit_of(range, cell)),
-        None => false,
-    }
-}
-
-/// What is usual after a cell.
-fn next_usual(
-    usual: Option<Usual>,
-    before: &[Measured],
-    cell: &Measured,
-    behind: &[Measured],
-) -> Option<Usual>
-    requires usual { IfSome usual (λ usual. IsUsual usual) }
-    requires few { length before.now ≤ 8 }
-    requires few_behind { length behind.now ≤ 8 }
-    requires before { All IsMeasured before.now }
-    requires cell { IsMeasured cell.now }
-    requires behind { All IsMeasured behind.now }
-    ensures value { result ≡ usual_by usual before.now cell.now behind.now }
-    ensures size { IfSome result (λ usual. IsUsual usual) }
-{
-    if cell.jumps || before.is_empty() {
-        return usual;
-    }
-    let range = range(before, behind);
-    Some(usual_after(usual, range, fit_of(range, cell)))
 }
 
 /// Cells on their way through the gate.
@@ -229,21 +253,23 @@ impl Gate {
             → Judges self.old.least self.old.ahead self.new judged more result }
     {
         let cell = self.ahead.remove(0);
+        let level = level(&cell);
         self.long = if self.before.is_empty() {
-            level(&cell)
+            level
         } else {
-            slowly(self.long, level(&cell))
+            slowly(self.long, level)
         };
         let before = self.before.as_slice();
         let behind = self.ahead.as_slice();
-        let refused = is_refused(self.least, self.long, self.usual, before, &cell, behind);
-        let usual = next_usual(self.usual, before, &cell, behind);
-        self.usual = usual;
+        let weighed = weigh(
+            self.least, self.long, self.usual, before, &cell, level, behind,
+        );
+        self.usual = weighed.usual;
         self.before.truncate(NEIGHBOURS - 1);
         self.before.insert(0, cell);
         Judged {
             cell,
-            breaks: cell.jumps || refused,
+            breaks: cell.jumps || weighed.refused,
         }
     }
 }

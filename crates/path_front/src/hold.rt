@@ -38,10 +38,12 @@ impl Loudness {
         ensures range { IsLoudness result }
     {
         let size = sample.unsigned_abs();
+        let rise = size.saturating_sub(self.peak).div_ceil(4);
+        let fall = self.peak.div_ceil(1_024);
         let peak = if self.peak < size {
-            self.peak + (size - self.peak).div_ceil(4)
+            self.peak + rise
         } else {
-            self.peak - self.peak.div_ceil(1_024)
+            self.peak - fall
         };
         Loudness {
             peak,
@@ -82,9 +84,11 @@ fn held_to(side: Option<Side>, by: u32, sample: i32) -> i32
     ensures value { result ≡ held_to side by sample }
     ensures size { unsigned_abs result ≤ 2 ^ 15 + 2 ^ 14 }
 {
+    let high = sample + by as i32;
+    let low = sample - by as i32;
     match side {
-        Some(Side::High) => sample + by as i32,
-        Some(Side::Low) => sample - by as i32,
+        Some(Side::High) => high,
+        Some(Side::Low) => low,
         None => sample,
     }
 }

@@ -1,11 +1,19 @@
 //! The sound of the latest steps. Read next: `measured`.
-ghost use Rattle.std.specs.Prelude.{◌≡◌, ◌+◌, ◌*◌, ◌^◌, ◌<◌, ◌≤◌, ℤ, unsigned_abs, List, [], ◌∷◌};
-ghost use Rattle.path_front.specs.Latest.{part, sound_ago, sum_of, squares_of, LatestStandFor};
+ghost use Rattle.std.specs.Prelude.{◌≡◌, ◌+◌, ◌^◌, ◌<◌, ◌≤◌, ℤ, unsigned_abs, List, [], ◌∷◌};
+ghost use Rattle.path_front.specs.Latest.{sound_ago, AreSums, LatestStandFor};
 
 use std::marker::Model;
 
 /// How many steps of the sound are kept: what is decided began at most some 2,200 steps ago.
 pub const KEPT: usize = 4_096;
+
+/// What the steps of a part have together.
+#[derive(Clone, Copy)]
+pub(crate) struct PartSums {
+    pub(crate) sum: i64,
+    /// The sum of the squares.
+    pub(crate) squares: u64,
+}
 
 /// The sound of the latest steps, in a ring.
 #[derive(Drop)]
@@ -64,33 +72,20 @@ impl Latest {
         i64::from(self.ring[(self.count as usize + KEPT - ago) % KEPT])
     }
 
-    /// The sum of `many` steps up to the one `ago` steps before the latest.
-    pub(crate) fn sum(&self, ago: usize, many: usize) -> i64
+    /// The sums of `many` steps up to the one `ago` steps before the latest.
+    pub(crate) fn sums(&self, ago: usize, many: usize) -> PartSums
         requires many { many ≤ 96 }
         requires within { ago + many ≤ 4_096 }
-        ensures value { (sounds : List ℤ) → LatestStandFor self.now sounds → result ≡ sum_of (part ago many sounds) }
-        ensures size { unsigned_abs result ≤ many * 2 ^ 15 }
+        ensures { AreSums self.now ago many result }
     {
         let mut sum = 0;
-        for place in 0..many {
-            sum += self.ago(ago + place);
-        }
-        sum
-    }
-
-    /// The sum of their squares.
-    pub(crate) fn squares(&self, ago: usize, many: usize) -> u64
-        requires many { many ≤ 96 }
-        requires within { ago + many ≤ 4_096 }
-        ensures value { (sounds : List ℤ) → LatestStandFor self.now sounds
-            → result ≡ squares_of (part ago many sounds) }
-        ensures size { result ≤ many * 2 ^ 30 }
-    {
         let mut squares = 0;
         for place in 0..many {
-            let size = self.ago(ago + place).unsigned_abs();
+            let sound = self.ago(ago + place);
+            let size = sound.unsigned_abs();
+            sum += sound;
             squares += size * size;
         }
-        squares
+        PartSums { sum, squares }
     }
 }

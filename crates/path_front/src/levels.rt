@@ -1,8 +1,9 @@
 //! The level of cells. Read next: `fit`.
-ghost use Rattle.std.specs.Prelude.{◌≡◌, ◌+◌, ◌+ℤ◌, ◌*◌, ◌^◌, ◌<◌, ◌≤◌, ℕ, unsigned_abs, List, ◌∷◌, length, take};
+ghost use Rattle.std.specs.Prelude.{◌≡◌, ◌+◌, ◌+ℤ◌, ◌*◌, ◌/◌, ◌^◌, ◌<◌, ◌≤◌, ℕ, unsigned_abs, ◌∷◌, length, take};
 ghost use Rattle.std.specs.List.{sum_by, All};
 ghost use Rattle.path_front.specs.Levels.{above, is_faint, level_of, mean_level, slowly};
 ghost use Rattle.path_front.specs.Measured.{IsMeasured};
+ghost use Rattle.path_front.specs.declared.measured.Measured.{Measured};
 
 use crate::measured::Measured;
 
@@ -41,7 +42,7 @@ pub(crate) fn level(cell: &Measured) -> u64
 }
 
 /// The sum of the levels of some cells.
-fn levels(cells: &[Measured]) -> u64
+pub(crate) fn levels(cells: &[Measured]) -> u64
     requires few { length cells.now ≤ 8 }
     requires measured { All IsMeasured cells.now }
     ensures value { result ≡ sum_by level_of cells.now }
@@ -54,25 +55,42 @@ fn levels(cells: &[Measured]) -> u64
     sum
 }
 
-/// The mean of the levels of some cells.
-pub(crate) fn mean_level(cells: &[Measured]) -> u64
+/// The mean of numbers with this sum. Mostly there are eight, which is no division, but a shift.
+fn mean_of(sum: u64, many: usize) -> u64
+    requires { 0 < many }
+    ensures { result ≡ sum / many }
+{
+    if many == 8 {
+        sum / 8
+    } else {
+        sum / many as u64
+    }
+}
+
+/// The mean of the levels of some cells, from their sum.
+pub(crate) fn mean_level(cells: &[Measured], sum: u64) -> u64
     requires some { 0 < length cells.now }
-    requires few { length cells.now ≤ 8 }
-    requires measured { All IsMeasured cells.now }
+    requires sum { sum ≡ sum_by level_of cells.now }
+    requires most { sum ≤ length cells.now * 2 ^ 21 }
     ensures value { result ≡ mean_level cells.now }
     ensures most { result ≤ 2 ^ 21 }
 {
-    levels(cells) / cells.len() as u64
+    mean_of(sum, cells.len())
 }
 
-/// The mean of the levels of a cell and the next seven.
-pub(crate) fn mean_level_with(cell: &Measured, behind: &[Measured]) -> u64
-    requires cell { IsMeasured cell.now }
+/// The mean of a level and those of the next seven cells, from the sum of all levels behind it.
+pub(crate) fn mean_level_with(first: u64, behind: &[Measured], sum: u64) -> u64
+    requires first { first ≤ 2 ^ 21 }
+    requires few { length behind.now ≤ 8 }
     requires measured { All IsMeasured behind.now }
-    ensures { result ≡ mean_level (take 8 (cell.now ∷ behind.now)) }
+    requires sum { sum ≡ sum_by level_of behind.now }
+    requires most { sum ≤ length behind.now * 2 ^ 21 }
+    ensures { (cell : Measured) → first ≡ level_of cell → result ≡ mean_level (take 8 (cell ∷ behind.now)) }
 {
-    let others = behind.len().min(7);
-    (level(cell) + levels(&behind[..others])) / (others as u64 + 1)
+    match behind.get(7) {
+        Some(last) => mean_of(first + sum - level(last), 8),
+        None => mean_of(first + sum, behind.len() + 1),
+    }
 }
 
 /// The latest value moves a slow mean by a 32nd of the difference.

@@ -1,10 +1,10 @@
 //! What is measured of a decided cell. Read next: `levels`.
-ghost use Rattle.std.specs.Prelude.{◌≡◌, ◌+◌, ◌*◌, ◌-◌, ◌^◌, ◌<◌, ◌≤◌, ℤ, unsigned_abs, List, [], ◌∷◌};
+ghost use Rattle.std.specs.Prelude.{◌≡◌, ◌+◌, ◌*◌, ◌/◌, ◌-◌, ◌^◌, ◌<◌, ◌≤◌, ℤ, unsigned_abs, List, [], ◌∷◌};
 ghost use Rattle.cell_path.specs.Path.{signed};
-ghost use Rattle.path_front.specs.Latest.{LatestStandFor};
+ghost use Rattle.path_front.specs.Latest.{AreSums, LatestStandFor};
 ghost use Rattle.path_front.specs.Measured.{first_sign, half_of, measured_of, IsHalf, IsMeasured};
 
-use crate::latest::Latest;
+use crate::latest::{Latest, PartSums};
 use cell_path::{Bit, Decided, Sign, length_at};
 
 /// A half of a cell. The middle step of an odd one counts half for each of its halves, so all is taken
@@ -68,6 +68,28 @@ fn signed(sign: Sign, number: i64) -> i64
     }
 }
 
+/// The sums of the longer part of a half. Where no step is in the middle, they are those of the shorter part.
+fn longer_sums(
+    latest: &Latest,
+    short: PartSums,
+    shorter_ago: usize,
+    longer_ago: usize,
+    length: usize,
+) -> PartSums
+    requires length { length ≤ 96 }
+    requires longer { longer_ago + length ≤ 4_096 }
+    requires even { length / 2 ≡ length - length / 2 → shorter_ago ≡ longer_ago }
+    requires short { AreSums latest.now shorter_ago (length / 2) short }
+    ensures { AreSums latest.now longer_ago (length - length / 2) result }
+{
+    let longer = length - length / 2;
+    if length / 2 == longer {
+        short
+    } else {
+        latest.sums(longer_ago, longer)
+    }
+}
+
 /// A half of a cell, from its shorter part and its longer one, which end `shorter_ago` and `longer_ago` steps ago.
 fn measure_half(
     latest: &Latest,
@@ -79,17 +101,16 @@ fn measure_half(
     requires length { length ≤ 96 }
     requires shorter { shorter_ago + length ≤ 4_096 }
     requires longer { longer_ago + length ≤ 4_096 }
+    requires even { length / 2 ≡ length - length / 2 → shorter_ago ≡ longer_ago }
     ensures value { (sounds : List ℤ) → LatestStandFor latest.now sounds
         → result ≡ half_of sign shorter_ago longer_ago length sounds }
     ensures size { IsHalf length result }
 {
-    let shorter = length / 2;
-    let longer = length - shorter;
-    let sum = latest.sum(shorter_ago, shorter) + latest.sum(longer_ago, longer);
-    let squares = latest.squares(shorter_ago, shorter) + latest.squares(longer_ago, longer);
+    let short = latest.sums(shorter_ago, length / 2);
+    let long = longer_sums(latest, short, shorter_ago, longer_ago, length);
     Half {
-        sum: signed(sign, sum),
-        squares,
+        sum: signed(sign, short.sum + long.sum),
+        squares: short.squares + long.squares,
     }
 }
 

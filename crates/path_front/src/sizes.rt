@@ -1,5 +1,5 @@
 //! The sizes of the latest sounds, and their mean. Read next: `clip`.
-ghost use Rattle.std.specs.Prelude.{◌≡◌, ℕ, ◌+◌, ◌*◌, ◌^◌, ◌<◌, ◌≤◌, min, List, [], ◌∷◌};
+ghost use Rattle.std.specs.Prelude.{◌≡◌, ℕ, ◌+◌, ◌*◌, ◌/◌, ◌^◌, ◌<◌, ◌≤◌, min, List, [], ◌∷◌};
 ghost use Rattle.path_front.specs.Sizes.{mean_size};
 ghost use Rattle.path_front.specs.KeptSizes.{SizesStandFor};
 
@@ -24,6 +24,18 @@ impl Model for Sizes {
     ghost view = { λ s. record { ring = s.ring; count = s.count; total = s.total } };
 
     ghost invariant = { λ s. AreSizes (record { ring = s.ring; count = s.count; total = s.total }) };
+}
+
+/// The mean of numbers with this sum. Mostly there are 512, which is no division, but a shift.
+fn mean_of(sum: u32, many: u32) -> u32
+    requires { 0 < many }
+    ensures { result ≡ sum / many }
+{
+    if many == MEANS as u32 {
+        sum / MEANS as u32
+    } else {
+        sum / many
+    }
 }
 
 impl Sizes {
@@ -59,7 +71,7 @@ impl Sizes {
         ensures value { (sizes : List ℕ) → SizesStandFor self.now sizes → result ≡ mean_size times sizes }
         ensures most { result ≤ times * 2 ^ 15 }
     {
-        times * self.total / self.many()
+        mean_of(times * self.total, self.many())
     }
 
     /// How many sounds the mean is of.

@@ -17,16 +17,18 @@ returns-clause-value c = λ sounds stand.
     let n = a.length / 2 in
     let short = part a.shorter_ago n sounds in
     let long = part a.longer_ago (a.length - n) sounds in
-    let p : FitsSigned w64 c.sum.result = search rules in
-    let q : FitsSigned w64 c.sum-2.result = search rules in
+    let x = c.sums-short.result.sum in
+    let y = c.longer_sums-long.result.sum in
+    let p : FitsSigned w64 x = search rules in
+    let q : FitsSigned w64 y = search rules in
     let r : FitsSigned w64 c.signed.result = search rules in
-    let within = size_of_sum c.sum.result c.sum-2.result (n * 2 ^ 15)
-    ((a.length - n) * 2 ^ 15) c.sum.ensures.size c.sum-2.ensures.size in
-    let f : FitsSigned w64 (c.sum.result +ℤ c.sum-2.result) =
-    fits_signed_from_abs w64 (c.sum.result +ℤ c.sum-2.result) (omega (arith, within, c.requires.length)) in
+    let within = size_of_sum x y (n * 2 ^ 15) ((a.length - n) * 2 ^ 15) c.sums-short.ensures.size
+    c.longer_sums-long.ensures.size in
+    let f : FitsSigned w64 (x +ℤ y) =
+    fits_signed_from_abs w64 (x +ℤ y) (omega (arith, within, c.requires.length)) in
     let value = rw (to_z-of_z p, to_z-of_z q, to_z-of_z f) at c.signed.ensures.value in
-    let sums = ap₂ ◌+ℤ◌ (c.sum.ensures.value sounds stand) (c.sum-2.ensures.value sounds stand)
+    let sums = ap₂ ◌+ℤ◌ (c.sums-short.ensures.sum sounds stand) (c.longer_sums-long.ensures.sum sounds stand)
     ∙ sym (total-append short long) in
-    let squares = ap₂ ◌+◌ (c.squares.ensures.value sounds stand) (c.squares-2.ensures.value sounds stand)
+    let squares = ap₂ ◌+◌ (c.sums-short.ensures.squares sounds stand) (c.longer_sums-long.ensures.squares sounds stand)
     ∙ sym (sum_by-append (λ sound. unsigned_abs sound * unsigned_abs sound) short long) in
     rw (to_z-of_z r) (ap₂ (λ s t. record { sum = s; squares = t }) (value ∙ ap (signed a.sign) sums) squares)

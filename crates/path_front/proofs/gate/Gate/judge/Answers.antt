@@ -30,9 +30,9 @@ before_is c = c.insert.ensures.items ∙ ap (λ l. c.remove-cell.result ∷ l) c
 
 small : (c : goal.Joined-cell) → c.if-is_empty.self ≤ 2 ^ 21
 small c = elim c.if-is_empty.branch [
-  | then-is_empty w ↦ subst (λ n. n ≤ 2 ^ 21) (sym w.self-is) w.level-self-inside.ensures.most
+  | then-is_empty w ↦ subst (λ n. n ≤ 2 ^ 21) (sym w.self-is) c.level-level.ensures.most
   | else-is_empty w ↦ subst (λ n. n ≤ 2 ^ 21) (sym w.self-is)
-      (w.slowly-self-inside.ensures.most (2 ^ 21) c.self.invariant.long w.level.ensures.most)
+      (w.slowly-self-inside.ensures.most (2 ^ 21) c.self.invariant.long c.level-level.ensures.most)
 ]
 
 pub invariant_of-self : goal.invariant_of-self
@@ -42,10 +42,10 @@ invariant_of-self c =
       before = b;
       ahead = c.remove-cell.new.self.items;
       long = c.if-is_empty.self;
-      usual = c.next_usual-usual.result;
+      usual = c.weigh-weighed.result.usual;
     })) (sym (before_is c))
     (still_gated (state_of c) c.remove-cell.result c.remove-cell.new.self.items c.if-is_empty.self
-    c.next_usual-usual.result c.self.invariant (front_is c) (small c) c.next_usual-usual.ensures.size)
+    c.weigh-weighed.result.usual c.self.invariant (front_is c) (small c) c.weigh-weighed.ensures.size)
 
 pub returns-clause-judges : goal.returns-clause-judges
 returns-clause-judges c = λ judged more near stand_now.
@@ -58,45 +58,45 @@ returns-clause-judges c = λ judged more near stand_now.
     ap (drop 1) (sym (ap (λ (s : GateState). s.ahead) c.self.view_is) ∙ front_is c) in
     let eight : take 8 (behind ++ more) ≡ behind = ap (λ l. take 8 (l ++ more)) (sym rest) ∙ near ∙ rest in
     let long : c.if-is_empty.self ≡ long_of (cell ∷ judged) = elim c.if-is_empty.branch [
-      | then-is_empty w ↦ w.self-is ∙ w.level-self-inside.ensures.value
+      | then-is_empty w ↦ w.self-is ∙ c.level-level.ensures.value
           ∙ long_at_first cell judged i.before.items stand.before
           (none_if (length i.before.items) c.is_empty.result c.is_empty.ensures w.if-is_empty.true)
       | else-is_empty w ↦ w.self-is ∙ w.slowly-self-inside.ensures.value
-          ∙ ap (slowly i.long) w.level.ensures.value ∙ long_behind cell judged i.before.items i.long stand.before
+          ∙ ap (slowly i.long) c.level-level.ensures.value ∙ long_behind cell judged i.before.items i.long stand.before
           (some_if (length i.before.items) c.is_empty.result c.is_empty.ensures w.if-is_empty.false) stand.long
     ] in
-    let refused : c.is_refused-refused.result ≡ refuses i.least c.if-is_empty.self i.usual i.before.items cell behind =
-    c.is_refused-refused.ensures
+    let refused : c.weigh-weighed.result.refused ≡ refuses i.least c.if-is_empty.self i.usual i.before.items cell behind =
+    c.weigh-weighed.ensures.refused
     ∙ ap₂ (λ b a. refuses i.least c.if-is_empty.self i.usual b cell a) c.as_slice-before.ensures.value
     c.as_slice-behind.ensures.value in
-    let usual : c.next_usual-usual.result ≡ usual_by i.usual i.before.items cell behind =
-    c.next_usual-usual.ensures.value
+    let usual : c.weigh-weighed.result.usual ≡ usual_by i.usual i.before.items cell behind =
+    c.weigh-weighed.ensures.usual
     ∙ ap₂ (λ b a. usual_by i.usual b cell a) c.as_slice-before.ensures.value c.as_slice-behind.ensures.value in
-    let breaks : c.if-cell.result ≡ cell.jumps || c.is_refused-refused.result = elim c.if-cell.branch [
-      | then-cell w ↦ or_first cell.jumps c.is_refused-refused.result c.if-cell.result w.if-cell.true (w.result-is
+    let breaks : c.if-cell.result ≡ cell.jumps || c.weigh-weighed.result.refused = elim c.if-cell.branch [
+      | then-cell w ↦ or_first cell.jumps c.weigh-weighed.result.refused c.if-cell.result w.if-cell.true (w.result-is
           ∙ w.if-cell.true)
-      | else-cell w ↦ or_second cell.jumps c.is_refused-refused.result c.if-cell.result w.if-cell.false w.result-is
+      | else-cell w ↦ or_second cell.jumps c.weigh-weighed.result.refused c.if-cell.result w.if-cell.false w.result-is
     ] in
-    let judged_now = judges (state_of c) cell behind c.if-is_empty.self c.next_usual-usual.result
-    c.is_refused-refused.result judged more (front_is c) eight stand long refused usual in
+    let judged_now = judges (state_of c) cell behind c.if-is_empty.self c.weigh-weighed.result.usual
+    c.weigh-weighed.result.refused judged more (front_is c) eight stand long refused usual in
     subst (λ s. Judges s.least s.ahead (record {
       least = i.least;
       before = c.insert.new.self.items;
       ahead = behind;
       long = c.if-is_empty.self;
-      usual = c.next_usual-usual.result;
+      usual = c.weigh-weighed.result.usual;
     }) judged more (record { cell = cell; breaks = c.if-cell.result })) c.self.view_is
     (subst (λ (b : List Measured). Judges i.least i.ahead.items (record {
       least = i.least;
       before = b;
       ahead = behind;
       long = c.if-is_empty.self;
-      usual = c.next_usual-usual.result;
+      usual = c.weigh-weighed.result.usual;
     }) judged more (record { cell = cell; breaks = c.if-cell.result })) (sym (before_is c))
     (subst (λ (b : Bool). Judges i.least i.ahead.items (record {
       least = i.least;
       before = cell ∷ take 7 i.before.items;
       ahead = behind;
       long = c.if-is_empty.self;
-      usual = c.next_usual-usual.result;
+      usual = c.weigh-weighed.result.usual;
     }) judged more (record { cell = cell; breaks = b })) (sym breaks) judged_now))
