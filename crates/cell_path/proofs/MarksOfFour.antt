@@ -1,63 +1,56 @@
--- The mark that is put in for a length is the one that is found.
-use Rattle.std.proofs.Common.{◌≡◌, ℕ, zero, suc, ◌<◌, List, length, get_or, ap, ◌∙◌, arith}
+-- The marks of four steps: those of a length are the ones that are found, and each step has those of all lengths.
+use Rattle.std.proofs.Common.{◌≡◌, ◌≢◌, ◌⊎◌, inl, inr, ℕ, ◌+◌, ◌%◌, ◌<◌, List, [], ◌∷◌, length, get_or, refl, arith}
+use Rattle.std.proofs.Common.{subst, ◌∙◌}
 use Rattle.std.specs.Prelude.{set}
 use Rattle.std.proofs.lemmas.List.{get_or-set_same}
-use Rattle.cell_path.specs.declared.cell.Bit.{Bit}
-use Rattle.cell_path.specs.declared.cell.Sign.TheVariants.{Plus, Minus}
-use Rattle.cell_path.specs.declared.cell.Way.{Way}
 use Rattle.cell_path.specs.declared.four.Four.{Four}
 use Rattle.cell_path.specs.declared.mark.FourMarks.{FourMarks}
 use Rattle.cell_path.specs.Four.{at_step}
-use Rattle.cell_path.specs.Marks.{bit_from, marked_bit, marked_way, way_from}
-use Rattle.cell_path.specs.Started.{mark_at, HasMarks}
+use Rattle.cell_path.specs.Started.{mark_at, mark_of_step, HasMarks, KeepsBest}
+use Rattle.cell_path.proofs.Lowest.{at_each_step}
 
--- what a mark says
-pub record Says (mark : ℕ) (plus_bit minus_bit : Bit) (plus_start minus_start : Way) : Type 0 where
-  pub plus : marked_bit mark Plus ≡ plus_bit
-  pub minus : marked_bit mark Minus ≡ minus_bit
-  pub plus_way : marked_way mark Plus ≡ plus_start
-  pub minus_way : marked_way mark Minus ≡ minus_start
+pub all_have : (w x y z : ℕ) (plus minus plus_start minus_start : Four)
+    → HasMarks w plus minus plus_start minus_start 0 → HasMarks x plus minus plus_start minus_start 1
+    → HasMarks y plus minus plus_start minus_start 2 → HasMarks z plus minus plus_start minus_start 3
+    → (step : ℕ) → step < 4 → HasMarks (at_step (w ∷ x ∷ y ∷ z ∷ []) step) plus minus plus_start minus_start step
+all_have w x y z plus minus plus_start minus_start =
+    at_each_step (λ s. HasMarks (at_step (w ∷ x ∷ y ∷ z ∷ []) s) plus minus plus_start minus_start s)
 
-pub has_marks : {a b : Bit} {c d : Way} (marks : List ℕ) (place mark : ℕ) → length marks ≡ 45 → place < 45
-    → marked_bit mark Plus ≡ a → marked_bit mark Minus ≡ b → marked_way mark Plus ≡ c → marked_way mark Minus ≡ d
-    → Says (get_or (set marks place mark) place 0) a b c d
-has_marks marks place mark long within p m pw mw =
-    let here : get_or (set marks place mark) place 0 ≡ mark =
-    get_or-set_same marks place mark 0 (omega (arith, long)) in
-    record {
-      plus = ap (λ x. marked_bit x Plus) here ∙ p;
-      minus = ap (λ x. marked_bit x Minus) here ∙ m;
-      plus_way = ap (λ x. marked_way x Plus) here ∙ pw;
-      minus_way = ap (λ x. marked_way x Minus) here ∙ mw;
-    }
+-- the mark that is put in is found
+pub is_put : (marks : List ℕ) (place mark : ℕ) → length marks ≡ 45 → place < 45 → get_or (set marks place mark) place 0 ≡ mark
+is_put marks place mark long within = get_or-set_same marks place mark 0 (omega (arith, long))
 
--- at one of four steps
-abbrev pub SaysAt : FourMarks → ℕ → Four → Four → Four → Four → ℕ → Type 0
-SaysAt marks place plus minus plus_start minus_start step =
-    Says (mark_at marks step place) (bit_from (at_step plus.codes step)) (bit_from (at_step minus.codes step))
-    (way_from (at_step plus_start.codes step)) (way_from (at_step minus_start.codes step))
+-- the marks of the first lengths have been put in, and the ends of the best paths are as they were
+pub record SpreadSoFar (lengths : List (List ℕ)) (first now : FourMarks) (most : ℕ) : Type 0 where
+  pub marks : (step place : ℕ) → step < 4 → place < most
+      → mark_of_step now step place ≡ mark_at lengths step place % 256
+  pub best : KeepsBest first now
 
-has_by : (marks : FourMarks) (place : ℕ) (plus minus plus_start minus_start : Four) (step : ℕ)
-    → SaysAt marks place plus minus plus_start minus_start step
-    → HasMarks marks place plus minus plus_start minus_start step
-has_by marks place plus minus plus_start minus_start step says = record {
-  plus = says.plus;
-  minus = says.minus;
-  plus_way = says.plus_way;
-  minus_way = says.minus_way;
+pub none_spread : (lengths : List (List ℕ)) (marks : FourMarks) → SpreadSoFar lengths marks marks 0
+none_spread lengths marks = record {
+  marks = λ step place few none. absurd (omega arith);
+  best = record { places = λ step. refl; signs = λ step. refl };
 }
 
-pub all_have : (marks : FourMarks) (place : ℕ) (plus minus plus_start minus_start : Four)
-    → SaysAt marks place plus minus plus_start minus_start 0 → SaysAt marks place plus minus plus_start minus_start 1
-    → SaysAt marks place plus minus plus_start minus_start 2 → SaysAt marks place plus minus plus_start minus_start 3
-    → (step : ℕ) → step < 4 → HasMarks marks place plus minus plus_start minus_start step
-all_have marks place plus minus plus_start minus_start a b c d zero within =
-    has_by marks place plus minus plus_start minus_start 0 a
-all_have marks place plus minus plus_start minus_start a b c d (suc zero) within =
-    has_by marks place plus minus plus_start minus_start 1 b
-all_have marks place plus minus plus_start minus_start a b c d (suc (suc zero)) within =
-    has_by marks place plus minus plus_start minus_start 2 c
-all_have marks place plus minus plus_start minus_start a b c d (suc (suc (suc zero))) within =
-    has_by marks place plus minus plus_start minus_start 3 d
-all_have marks place plus minus plus_start minus_start a b c d (suc (suc (suc (suc step)))) within =
-    absurd (omega arith)
+best_along : (a b c : FourMarks) → KeepsBest a b → KeepsBest b c → KeepsBest a c
+best_along a b c one two = record {
+  places = λ step. two.places step ∙ one.places step;
+  signs = λ step. two.signs step ∙ one.signs step;
+}
+
+-- a length more
+pub one_more_spread : (lengths : List (List ℕ)) (first old new : FourMarks) (n : ℕ) → SpreadSoFar lengths first old n
+    → ((step : ℕ) → step < 4 → mark_of_step new step n ≡ mark_at lengths step n % 256)
+    → ((step other : ℕ) → other ≢ n → mark_of_step new step other ≡ mark_of_step old step other)
+    → KeepsBest old new → SpreadSoFar lengths first new (n + 1)
+one_more_spread lengths first old new n so_far here others best = record {
+  marks = λ step place few within.
+      let cases : (place < n) ⊎ (n ≡ place) = grind arith in
+      elim cases [
+        | inl less ↦
+            let apart : place ≢ n = λ e. omega arith in
+            others step place apart ∙ so_far.marks step place few less
+        | inr same ↦ subst (λ k. mark_of_step new step k ≡ mark_at lengths step k % 256) same (here step few)
+      ];
+  best = best_along first old new so_far.best best;
+}

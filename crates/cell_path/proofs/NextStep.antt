@@ -16,7 +16,6 @@ use Rattle.cell_path.specs.declared.cell.Way.{Way}
 use Rattle.cell_path.specs.declared.cell.Way.TheVariants.{Same, Shorter, Longer, Jump}
 use Rattle.cell_path.specs.declared.ends.Ends.{Ends}
 use Rattle.cell_path.specs.declared.lengths.TheConstants.{EARLY, LENGTHS}
-use Rattle.cell_path.specs.declared.mark.FourMarks.{FourMarks}
 use Rattle.cell_path.specs.Best.{rank_of_way}
 use Rattle.cell_path.specs.Four.{at_step, low}
 use Rattle.cell_path.specs.Kept.{number_ago, number_next, place_ago, ring_of, sum_ago, AreRows, IsNext, IsRing}
@@ -101,7 +100,7 @@ sums_fed old new a b c d steps numbers next new_next p q r s here others are sta
     ∙ sums_by old new a b c d steps numbers next new_next one two three four here others stand ago near
 
 -- the numbers of the latest four steps, and those of the steps before
-pub rows_fed : (old put new : RowsState) (marks : FourMarks) (ends : Ends) (steps before : List Step)
+pub rows_fed : (old put new : RowsState) (marks : List (List ℕ)) (ends : Ends) (steps before : List Step)
     → before ≡ drop 4 steps → 4 ≤ length steps → RowsStandFor old before
     → ((ago other : ℕ) (sign : Sign) → ago ≤ 96 → other < 45
     → number_ago put ago other sign ≡ number_ago old ago other sign)

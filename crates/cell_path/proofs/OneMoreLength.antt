@@ -6,13 +6,12 @@ use Rattle.cell_path.specs.declared.cell.Sign.TheVariants.{Plus, Minus}
 use Rattle.cell_path.specs.declared.cell.Step.{Step}
 use Rattle.cell_path.specs.declared.ends.Ends.{Ends}
 use Rattle.cell_path.specs.declared.four.Four.{Four}
-use Rattle.cell_path.specs.declared.mark.FourMarks.{FourMarks}
 use Rattle.cell_path.specs.Four.{at_step}
 use Rattle.cell_path.specs.Kept.{number_next, RowsState, SumsState}
 use Rattle.cell_path.specs.Marks.{marked_bit, marked_way}
 use Rattle.cell_path.specs.Scores.{AreSteps}
 use Rattle.cell_path.specs.StandsFor.{end_at, IsEndAt, RowsStandFor, SumsStandFor}
-use Rattle.cell_path.specs.Started.{mark_at, AreStarted, AreStartsOf, IsStarted, KeepsBest, KeepsNumbers}
+use Rattle.cell_path.specs.Started.{mark_at, AreStarted, AreStartsOf, IsStarted, KeepsNumbers}
 
 -- a fact of the first n lengths and signs, of each one more
 pub one_more_length : (P : ℕ → Sign → Type 0) (n : ℕ) → ((place : ℕ) (sign : Sign) → place < n → P place sign)
@@ -47,16 +46,15 @@ one_more_end sums rows n old new plus minus so_far p m others a b =
     (subst (AreEndsOf sums rows n Plus) (sym p) a) (subst (AreEndsOf sums rows n Minus) (sym m) b)
 
 -- the starts so far, and what stays as it was
-pub record StartsSoFar (old new : RowsState) (old_marks new_marks : FourMarks) (ends : Ends) (best_end : Four)
+pub record StartsSoFar (old new : RowsState) (marks : List (List ℕ)) (ends : Ends) (best_end : Four)
     (levels : List ℕ) (most : ℕ) : Type 0 where
   pub started : (step : ℕ) (steps : List Step) → AreStartsOf ends best_end levels steps step
-      → AreStarted most steps new new_marks ends step
+      → AreStarted most steps new marks ends step
   pub keeps : KeepsNumbers old new
-  pub best : KeepsBest old_marks new_marks
 
 -- what has been started stays so, if its number and its mark do
-still_started : (steps : List Step) (old new : RowsState) (old_marks new_marks : FourMarks) (ends : Ends) (place : ℕ)
-    (sign : Sign) (step : ℕ) → number_next new step place sign ≡ number_next old step place sign
+still_started : (steps : List Step) (old new : RowsState) (old_marks new_marks : List (List ℕ)) (ends : Ends)
+    (place : ℕ) (sign : Sign) (step : ℕ) → number_next new step place sign ≡ number_next old step place sign
     → mark_at new_marks step place ≡ mark_at old_marks step place
     → IsStarted steps old old_marks ends place sign step → IsStarted steps new new_marks ends place sign step
 still_started steps old new old_marks new_marks ends place sign step same mark is = record {
@@ -75,24 +73,18 @@ keeps_along a b c one two = record {
       within;
 }
 
-best_along : (a b c : FourMarks) → KeepsBest a b → KeepsBest b c → KeepsBest a c
-best_along a b c one two = record {
-  places = λ step. two.places step ∙ one.places step;
-  signs = λ step. two.signs step ∙ one.signs step;
-}
-
 -- a length more of starts
-pub one_more_start : (first old new : RowsState) (first_marks old_marks new_marks : FourMarks) (ends : Ends)
-    (best : Four) (levels : List ℕ) (n : ℕ)
-    → StartsSoFar first old first_marks old_marks ends best levels n
+pub one_more_start : (first old new : RowsState) (old_marks new_marks : List (List ℕ)) (ends : Ends) (best : Four)
+    (levels : List ℕ) (n : ℕ)
+    → StartsSoFar first old old_marks ends best levels n
     → ((sign : Sign) (step : ℕ) (steps : List Step) → AreStartsOf ends best levels steps step
     → IsStarted steps new new_marks ends n sign step)
     → ((step other : ℕ) (sign : Sign) → other ≢ n
     → number_next new step other sign ≡ number_next old step other sign)
     → ((step other : ℕ) → other ≢ n → mark_at new_marks step other ≡ mark_at old_marks step other)
-    → KeepsNumbers old new → KeepsBest old_marks new_marks
-    → StartsSoFar first new first_marks new_marks ends best levels (n + 1)
-one_more_start first old new first_marks old_marks new_marks ends best levels n so_far comes others marks keeps bests =
+    → KeepsNumbers old new
+    → StartsSoFar first new new_marks ends best levels (n + 1)
+one_more_start first old new old_marks new_marks ends best levels n so_far comes others marks keeps =
     record {
       started = λ step steps are.
           one_more_length (λ place sign. IsStarted steps new new_marks ends place sign step) n
@@ -101,14 +93,12 @@ one_more_start first old new first_marks old_marks new_marks ends best levels n 
           (marks step place apart) (so_far.started step steps are place sign within))
           (comes Plus step steps are) (comes Minus step steps are);
       keeps = keeps_along first old new so_far.keeps keeps;
-      best = best_along first_marks old_marks new_marks so_far.best bests;
     }
 
 -- before the first length
-pub no_starts : (rows : RowsState) (marks : FourMarks) (ends : Ends) (best : Four) (levels : List ℕ)
-    → StartsSoFar rows rows marks marks ends best levels 0
+pub no_starts : (rows : RowsState) (marks : List (List ℕ)) (ends : Ends) (best : Four) (levels : List ℕ)
+    → StartsSoFar rows rows marks ends best levels 0
 no_starts rows marks ends best levels = record {
   started = λ step steps are place sign none. absurd (omega arith);
   keeps = record { next = refl; numbers = λ ago other sign near within. refl };
-  best = record { places = λ step. refl; signs = λ step. refl };
 }

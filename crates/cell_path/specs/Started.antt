@@ -1,5 +1,5 @@
 -- The best ways to begin behind the latest four steps have been put in.
-use Rattle.std.specs.Prelude.{◌≡◌, ℕ, zero, suc, ◌^◌, ◌<◌, ◌≤◌, ℤ, pos, ◌+ℤ◌, ◌≤ℤ◌, List, length, get_or}
+use Rattle.std.specs.Prelude.{◌≡◌, ℕ, zero, suc, ◌^◌, ◌<◌, ◌≤◌, ℤ, pos, ◌+ℤ◌, ◌≤ℤ◌, List, [], length, get_or}
 use Rattle.cell_path.specs.declared.cell.Bit.{Bit}
 use Rattle.cell_path.specs.declared.cell.Sign.{Sign}
 use Rattle.cell_path.specs.declared.cell.Sign.TheVariants.{Plus, Minus}
@@ -27,16 +27,19 @@ marks_of marks (suc (suc zero)) = marks.third
 marks_of marks (suc (suc (suc n))) = marks.fourth
 
 -- that of a length
-abbrev pub mark_at : FourMarks → ℕ → ℕ → ℕ
-mark_at marks step place = get_or (marks_of marks step).marks place 0
+abbrev pub mark_of_step : FourMarks → ℕ → ℕ → ℕ
+mark_of_step marks step place = get_or (marks_of marks step).marks place 0
 
--- the mark of a length has the bits of its ends and the ways of its beginnings
-pub record HasMarks (marks : FourMarks) (place : ℕ) (plus_end minus_end plus_start minus_start : Four) (step : ℕ)
-    : Type 0 where
-  pub plus : marked_bit (mark_at marks step place) Plus ≡ bit_from (at_step plus_end.codes step)
-  pub minus : marked_bit (mark_at marks step place) Minus ≡ bit_from (at_step minus_end.codes step)
-  pub plus_way : marked_way (mark_at marks step place) Plus ≡ way_from (at_step plus_start.codes step)
-  pub minus_way : marked_way (mark_at marks step place) Minus ≡ way_from (at_step minus_start.codes step)
+-- the same where the marks of four steps stand together, length by length
+abbrev pub mark_at : List (List ℕ) → ℕ → ℕ → ℕ
+mark_at marks step place = at_step (get_or marks place []) step
+
+-- a mark has the bits of these ends and the ways of these beginnings, at one of four steps
+pub record HasMarks (mark : ℕ) (plus_end minus_end plus_start minus_start : Four) (step : ℕ) : Type 0 where
+  pub plus : marked_bit mark Plus ≡ bit_from (at_step plus_end.codes step)
+  pub minus : marked_bit mark Minus ≡ bit_from (at_step minus_end.codes step)
+  pub plus_way : marked_way mark Plus ≡ way_from (at_step plus_start.codes step)
+  pub minus_way : marked_way mark Minus ≡ way_from (at_step minus_start.codes step)
 
 -- the ends of the best paths of all are marked as they were
 pub record KeepsBest (old new : FourMarks) : Type 0 where
@@ -70,7 +73,7 @@ pub record IsStartSoFar (steps : List Step) (most place : ℕ) (sign : Sign) (so
       → (end ≤ℤ (number +ℤ pos (2 ^ 29))) × (number ≤ℤ (end +ℤ pos (2 ^ 29)))
 
 -- the number of the best beginning has been put in, and the mark has its way, and the bit of the end
-pub record IsStarted (steps : List Step) (rows : RowsState) (marks : FourMarks) (ends : Ends) (place : ℕ)
+pub record IsStarted (steps : List Step) (rows : RowsState) (marks : List (List ℕ)) (ends : Ends) (place : ℕ)
     (sign : Sign) (step : ℕ) : Type 0 where
   pub number : ℤ
   pub way : Way
@@ -80,6 +83,6 @@ pub record IsStarted (steps : List Step) (rows : RowsState) (marks : FourMarks) 
   pub bit : marked_bit (mark_at marks step place) sign ≡ bit_from (at_step (end_at ends place sign).codes step)
 
 -- the first `most` lengths have been started
-abbrev pub AreStarted : ℕ → List Step → RowsState → FourMarks → Ends → ℕ → Type 0
+abbrev pub AreStarted : ℕ → List Step → RowsState → List (List ℕ) → Ends → ℕ → Type 0
 AreStarted most steps rows marks ends step = (place : ℕ) (sign : Sign) → place < most
     → IsStarted steps rows marks ends place sign step

@@ -11,6 +11,8 @@ use crate::four::Four;
 use crate::lengths::PLACES;
 
 /// The first of the greatest at each step. Its code is twice the place of its length, and one more for minus.
+// Out of line, since the compiler keeps codes in one register if four of them are written in a row.
+#[inline(never)]
 pub(crate) fn best_of_all(ends: &Ends) -> Four
     ensures best { (step : ℕ) (steps : List Step) → step < 4 → 4 ≤ length steps → AreSteps steps
         → AreEnds 45 ends.now steps step → IsBestAt steps result step }

@@ -57,6 +57,7 @@ mod point;
 mod ring;
 mod rows;
 mod scores;
+mod spread;
 mod start;
 mod starts;
 mod sums;

@@ -41,7 +41,7 @@ pub(crate) fn no_marks_yet(best: u32) -> StepMarks
 
 /// The mark of a length: the codes of its two latest bits, and of its two ways.
 #[inline(always)]
-pub(crate) fn mark_of(plus: u32, minus: u32, plus_way: u32, minus_way: u32) -> u8
+pub(crate) fn mark_of(plus: u32, minus: u32, plus_way: u32, minus_way: u32) -> u32
     requires plus { plus < 2 }
     requires minus { minus < 2 }
     requires plus_way { plus_way < 4 }
@@ -51,7 +51,7 @@ pub(crate) fn mark_of(plus: u32, minus: u32, plus_way: u32, minus_way: u32) -> u
     ensures plus_way { marked_way result Sign.Plus ≡ way_from plus_way }
     ensures minus_way { marked_way result Sign.Minus ≡ way_from minus_way }
 {
-    (plus + 2 * minus + 4 * plus_way + 16 * minus_way) as u8
+    plus + 2 * minus + 4 * plus_way + 16 * minus_way
 }
 
 /// The latest bit that a mark has for a sign.

@@ -9,8 +9,10 @@ ghost use Rattle.cell_path.specs.Started.{marks_of};
 use crate::best::best_of_all;
 use crate::cell::Step;
 use crate::ends::best_ends;
-use crate::mark::{FourMarks, no_marks_yet};
+use crate::lengths::PLACES;
+use crate::mark::FourMarks;
 use crate::rows::Rows;
+use crate::spread::spread;
 use crate::starts::best_starts;
 use crate::sums::Sums;
 use std::marker::Model;
@@ -56,15 +58,10 @@ impl Scores {
         self.sums.push(a, b, c, d);
         let ends = best_ends(&self.sums, &self.rows);
         let best = best_of_all(&ends);
-        let mut marks = FourMarks {
-            first: no_marks_yet(best.codes[0]),
-            second: no_marks_yet(best.codes[1]),
-            third: no_marks_yet(best.codes[2]),
-            fourth: no_marks_yet(best.codes[3]),
-        };
         let levels = [a.level, b.level, c.level, d.level];
+        let mut marks = [[0; 4]; PLACES];
         best_starts(&mut self.rows, &mut marks, &ends, best, levels);
         self.rows.turn();
-        marks
+        spread(&marks, best.codes)
     }
 }

@@ -1,41 +1,10 @@
-use Rattle.std.proofs.Common.{◌≡◌, ℕ, ◌/◌, ◌%◌, ◌<◌, ◌≤◌, List, [], ◌∷◌, length, arith, ap, refl, subst, sym}
+use Rattle.std.proofs.Common.{ℕ, ◌<◌, ◌≤◌, List, [], ◌∷◌, length, arith, refl, subst, sym}
 use Rattle.cell_path.specs.declared.cell.Step.{Step}
-use Rattle.cell_path.specs.declared.mark.FourMarks.{FourMarks}
-use Rattle.cell_path.specs.declared.mark.StepMarks.{StepMarks}
-use Rattle.cell_path.specs.Four.{at_step}
-use Rattle.cell_path.specs.Marks.{sign_from}
 use Rattle.cell_path.specs.Scores.{AreSteps, StandsFor}
-use Rattle.cell_path.specs.Started.{marks_of, AreStartsOf}
-use Rattle.cell_path.proofs.Lowest.{at_each_step}
+use Rattle.cell_path.specs.Started.{AreStartsOf}
 use Rattle.cell_path.proofs.MarkedSteps.{four_more, levels_are, marked_step}
 use Rattle.cell_path.proofs.NextStep.{rows_fed}
 use Rattle.cell_path.proofs.scores.Scores.feed.Goals as goal
-
--- the marks before a length has been marked
-abbrev first : goal.After-turn → FourMarks
-first c = record {
-  first = c.no_marks_yet.result;
-  second = c.no_marks_yet-2.result;
-  third = c.no_marks_yet-3.result;
-  fourth = c.no_marks_yet-4.result;
-}
-
-place_first : (c : goal.After-turn) (step : ℕ) → step < 4
-    → (marks_of (first c) step).best_place ≡ at_step c.best_of_all-best.result.codes step / 2
-place_first c = at_each_step (λ s. (marks_of (first c) s).best_place ≡ at_step c.best_of_all-best.result.codes s / 2)
-    (ap (λ (m : StepMarks). m.best_place) c.no_marks_yet.ensures)
-    (ap (λ (m : StepMarks). m.best_place) c.no_marks_yet-2.ensures)
-    (ap (λ (m : StepMarks). m.best_place) c.no_marks_yet-3.ensures)
-    (ap (λ (m : StepMarks). m.best_place) c.no_marks_yet-4.ensures)
-
-sign_first : (c : goal.After-turn) (step : ℕ) → step < 4
-    → (marks_of (first c) step).best_sign ≡ sign_from (at_step c.best_of_all-best.result.codes step % 2)
-sign_first c = at_each_step (λ s. (marks_of (first c) s).best_sign
-    ≡ sign_from (at_step c.best_of_all-best.result.codes s % 2))
-    (ap (λ (m : StepMarks). m.best_sign) c.no_marks_yet.ensures)
-    (ap (λ (m : StepMarks). m.best_sign) c.no_marks_yet-2.ensures)
-    (ap (λ (m : StepMarks). m.best_sign) c.no_marks_yet-3.ensures)
-    (ap (λ (m : StepMarks). m.best_sign) c.no_marks_yet-4.ensures)
 
 -- what is known at each of the four steps
 starts_of : (c : goal.After-turn) (steps : List Step) → AreSteps (c.args.d ∷ c.args.c ∷ c.args.b ∷ c.args.a ∷ [])
@@ -78,13 +47,13 @@ returns-clause-marked c = λ step steps within four stand_now.
     subst (λ s. StandsFor s steps) (sym c.self.view_is) stand_now in
     let all = c.args.d ∷ c.args.c ∷ c.args.b ∷ c.args.a ∷ steps in
     let known = starts_of c steps four stand step within in
-    marked_step all step c.best_starts.new.rows (first c) c.best_starts.new.marks c.best_ends-ends.result
+    let spread = c.spread.ensures in
+    marked_step all step c.best_starts.new.rows c.best_starts.new.marks c.spread.result c.best_ends-ends.result
     c.best_of_all-best.result (c.best_starts.ensures.started step all known) known.are_ends known.is_best
-    c.best_starts.ensures.best (place_first c step within) (sign_first c step within)
+    (λ place few. spread.marks step place within few) (spread.places step within) (spread.signs step within)
 
 pub returns-clause-places : goal.returns-clause-places
 returns-clause-places c = λ step within.
-    let e = c.best_starts.ensures.best.places step in
-    let f = place_first c step within in
+    let f = c.spread.ensures.places step within in
     let g = c.best_of_all-best.ensures.codes step within in
-    omega (arith, e, f, g)
+    omega (arith, f, g)
