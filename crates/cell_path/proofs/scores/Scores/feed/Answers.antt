@@ -36,8 +36,8 @@ returns-clause-stands c = λ steps four stand_now.
       are = four_more c.args.a c.args.b c.args.c c.args.d steps four stand.are;
       sums = c.push.ensures.stands steps four stand.sums;
       rows = rows_fed c.self.inside.rows c.best_starts.new.rows c.turn.new.self c.best_starts.new.marks
-          c.best_ends-ends.result all steps refl (omega arith) stand.rows c.best_starts.ensures.keeps.numbers
-          (λ step within. c.best_starts.ensures.started step all (starts_of c steps four stand step within))
+          c.best_ends-ends.result all steps refl (omega arith) stand.rows c.best_starts.ensures.started.keeps.numbers
+          (λ step within. c.best_starts.ensures.started.started step all (starts_of c steps four stand step within))
           c.turn.ensures.latest c.turn.ensures.others;
     }
 
@@ -49,7 +49,7 @@ returns-clause-marked c = λ step steps within four stand_now.
     let known = starts_of c steps four stand step within in
     let spread = c.spread.ensures in
     marked_step all step c.best_starts.new.rows c.best_starts.new.marks c.spread.result c.best_ends-ends.result
-    c.best_of_all-best.result (c.best_starts.ensures.started step all known) known.are_ends known.is_best
+    c.best_of_all-best.result (c.best_starts.ensures.started.started step all known) known.are_ends known.is_best
     (λ place few. spread.marks step place within few) (spread.places step within) (spread.signs step within)
 
 pub returns-clause-places : goal.returns-clause-places
