@@ -1,6 +1,6 @@
 -- The best ways to begin behind the latest four steps have been put in.
-use Rattle.std.specs.Prelude.{◌≡◌, ℕ, zero, suc, ◌+◌, ◌-◌, ◌*◌, ◌^◌, ◌<◌, ◌≤◌, ℤ, pos, ◌+ℤ◌, ◌≤ℤ◌, List, [], length}
-use Rattle.std.specs.Prelude.{get_or}
+use Rattle.std.specs.Prelude.{◌≡◌, ℕ, zero, suc, ◌+◌, ◌-◌, ◌*◌, ◌%◌, ◌^◌, ◌<◌, ◌≤◌, ℤ, pos, ◌+ℤ◌, ◌≤ℤ◌, List, []}
+use Rattle.std.specs.Prelude.{length, get_or}
 use Rattle.cell_path.specs.declared.cell.Bit.{Bit}
 use Rattle.cell_path.specs.declared.cell.Sign.{Sign}
 use Rattle.cell_path.specs.declared.cell.Sign.TheVariants.{Plus, Minus}
@@ -48,6 +48,12 @@ pub record HasMarks (mark : ℕ) (plus_end minus_end plus_start minus_start : Fo
 pub record KeepsBest (old new : FourMarks) : Type 0 where
   pub places : (step : ℕ) → (marks_of new step).best_place ≡ (marks_of old step).best_place
   pub signs : (step : ℕ) → (marks_of new step).best_sign ≡ (marks_of old step).best_sign
+
+-- each step has the marks of the first `most` lengths
+pub record AreSpread (most : ℕ) (lengths : List (List ℕ)) (old new : FourMarks) : Type 0 where
+  pub marks : (step place : ℕ) → step < 4 → place < most
+      → mark_of_step new step place ≡ mark_at lengths step place % 256
+  pub best : KeepsBest old new
 
 -- the numbers of the steps so far are as they were
 pub record KeepsNumbers (old new : RowsState) : Type 0 where
