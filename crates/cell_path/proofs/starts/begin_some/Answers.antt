@@ -29,6 +29,8 @@ loop-place-preserved c =
 
 pub returns-clause-started : goal.returns-clause-started
 returns-clause-started c = λ first so_far.
-    let here : c.loop-place.place ≡ c.args.to = omega (arith, c.loop-place-test.false, c.loop-place.auto.place-end) in
+    let r = c.loop-place.invariant.reached in
+    let here : c.loop-place.place ≡ c.args.to =
+    omega (arith, c.loop-place-test.false, c.loop-place.auto.place-end, c.requires.order, r) in
     subst (StartsSoFar first c.loop-place.rows c.loop-place.marks c.args.ends.now c.args.best c.args.levels) here
     (c.loop-place.invariant.started first so_far)

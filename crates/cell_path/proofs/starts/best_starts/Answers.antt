@@ -6,11 +6,11 @@ use Rattle.cell_path.proofs.starts.best_starts.Goals as goal
 pub begin_some-requires-clause-even : goal.begin_some-requires-clause-even
 begin_some-requires-clause-even c = is_even 1 1 20 refl
 
-pub begin_some-2-requires-clause-even : goal.begin_some-2-requires-clause-even
-begin_some-2-requires-clause-even c = is_even 2 21 32 refl
+pub begin_some-requires-2-clause-even : goal.begin_some-requires-2-clause-even
+begin_some-requires-2-clause-even c = is_even 2 21 32 refl
 
-pub begin_some-3-requires-clause-even : goal.begin_some-3-requires-clause-even
-begin_some-3-requires-clause-even c = is_even 4 33 44 refl
+pub begin_some-requires-3-clause-even : goal.begin_some-requires-3-clause-even
+begin_some-requires-3-clause-even c = is_even 4 33 44 refl
 
 pub returns-clause-started : goal.returns-clause-started
 returns-clause-started c =
