@@ -1,6 +1,6 @@
 -- Where lengths rise by the same, so do the costs of jumps, and to change the length costs the same everywhere.
-use Rattle.std.proofs.Common.{◌≡◌, ℕ, ◌+◌, ◌-◌, ◌*◌, ◌<◌, ◌≤◌, ℤ, pos, ◌+ℤ◌, List, ap, subst, sym, ◌∙◌, mul-add, add-mul}
-use Rattle.std.proofs.Common.{arith}
+use Rattle.std.proofs.Common.{◌≡◌, ℕ, ◌+◌, ◌-◌, ◌*◌, ◌<◌, ◌≤◌, ℤ, pos, ◌+ℤ◌, List, ap, subst, sym, ◌∙◌, mul-add}
+use Rattle.std.proofs.Common.{add-mul, arith}
 use Rattle.std.proofs.lemmas.Int.{ints}
 use Rattle.cell_path.specs.declared.ends.Ends.{Ends}
 use Rattle.cell_path.specs.declared.four.Four.{Four}

@@ -71,7 +71,8 @@ even-at rise from (suc n) place all within =
       | inr same ↦
           let one = a.0 in
           let two = b.0 in
-          let here : length_in LENGTHS (from + n) ≡ length_in LENGTHS (from + n - 1) + rise = grind (arith, nat_tests) in
+          let here : length_in LENGTHS (from + n) ≡ length_in LENGTHS (from + n - 1) + rise =
+          grind (arith, nat_tests) in
           subst (λ k. length_in LENGTHS (from + k) ≡ length_in LENGTHS (from + k - 1) + rise) same here
     ]
 

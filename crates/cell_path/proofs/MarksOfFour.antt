@@ -17,7 +17,8 @@ all_have w x y z plus minus plus_start minus_start =
     at_each_step (λ s. HasMarks (at_step (w ∷ x ∷ y ∷ z ∷ []) s) plus minus plus_start minus_start s)
 
 -- the mark that is put in is found
-pub is_put : (marks : List ℕ) (place mark : ℕ) → length marks ≡ 45 → place < 45 → get_or (set marks place mark) place 0 ≡ mark
+pub is_put : (marks : List ℕ) (place mark : ℕ) → length marks ≡ 45 → place < 45
+    → get_or (set marks place mark) place 0 ≡ mark
 is_put marks place mark long within = get_or-set_same marks place mark 0 (omega (arith, long))
 
 pub none_spread : (lengths : List (List ℕ)) (marks : FourMarks) → AreSpread 0 lengths marks marks

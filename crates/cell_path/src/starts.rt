@@ -68,7 +68,7 @@ fn begin(
     keep(marks, place, four);
 }
 
-/// Puts in those of some lengths in a row, each of which is by the same above the one before, as is the one behind them.
+/// Puts in those of some lengths in a row, each of which is by the same above the one before, as is the next one.
 fn begin_some(
     rows: &mut Rows,
     marks: &mut [[u32; 4]; PLACES],
