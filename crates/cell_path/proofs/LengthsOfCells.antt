@@ -51,7 +51,7 @@ lengths_rise place next is within =
     subst (λ n. length_in LENGTHS place ≤ length_in LENGTHS n) e (rise-at LENGTHS place refl (omega arith))
 
 -- so many lengths from a place on are each by the same above the one before
-abbrev evenly : ℕ → ℕ → ℕ → Bool
+abbrev pub evenly : ℕ → ℕ → ℕ → Bool
 evenly rise from zero = true
 evenly rise from (suc n) =
     nat_le (length_in LENGTHS (from + n)) (length_in LENGTHS (from + n - 1) + rise)
