@@ -26,7 +26,7 @@ pub struct Costs {
 
 /// Those of a length that is so much above the next below, and so much below the next above.
 #[inline(always)]
-pub(crate) fn costs(levels: [u32; 4], below: usize, length: usize, above: usize) -> Costs
+pub(crate) fn costs_of(levels: [u32; 4], below: usize, length: usize, above: usize) -> Costs
     requires below { below ≤ 96 }
     requires length { length ≤ 96 }
     requires above { above ≤ 96 }
@@ -90,13 +90,7 @@ fn or_jump(start: Four, best: Four, cost: [u32; 4], place: usize) -> Four
 /// The best ways to begin a cell of one length behind each of the latest four steps, if the cell before has to
 /// end with this sign. The codes are those of ways.
 #[inline(always)]
-pub(crate) fn best_start(
-    ends: &Ends,
-    best: Four,
-    costs: Costs,
-    place: usize,
-    sign: Sign,
-) -> Four
+pub(crate) fn best_start(ends: &Ends, best: Four, costs: Costs, place: usize, sign: Sign) -> Four
     requires { place < 45 }
     ensures starts { (levels : List ℕ) (step : ℕ) (steps : List Step) → AreCosts levels place costs
         → AreStartsOf ends.now best levels steps step → IsStartAt steps place sign result step }

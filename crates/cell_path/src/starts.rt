@@ -12,7 +12,7 @@ use crate::four::{Four, plus, times};
 use crate::lengths::{JUMP, PLACES, length_at};
 use crate::mark::mark_of;
 use crate::rows::Rows;
-use crate::start::{Costs, best_start, costs};
+use crate::start::{Costs, best_start, costs_of};
 
 /// The marks of a length.
 #[inline(always)]
@@ -92,13 +92,14 @@ fn begin_some(
     let more = times(levels, (JUMP * rise) as u32);
     let mut jump = times(levels, (JUMP * length_at(from - 1)) as u32);
     for place in from..to {
-        jump = plus(jump, more);
+        let next = plus(jump, more);
         let costs = Costs {
             shorter: by,
             longer: by,
-            jump,
+            jump: next,
         };
         begin(rows, marks, ends, best, costs, place);
+        jump = next;
     }
 }
 
@@ -115,11 +116,11 @@ pub(crate) fn best_starts(
     requires bits { AreBits ends.now }
     ensures started { StartsSoFar rows.old rows.new marks.new ends.now best levels 45 }
 {
-    begin(rows, marks, ends, best, costs(levels, 0, 4, 1), 0);
+    begin(rows, marks, ends, best, costs_of(levels, 0, 4, 1), 0);
     begin_some(rows, marks, ends, best, levels, 1, 20, 1);
-    begin(rows, marks, ends, best, costs(levels, 1, 24, 2), 20);
+    begin(rows, marks, ends, best, costs_of(levels, 1, 24, 2), 20);
     begin_some(rows, marks, ends, best, levels, 21, 32, 2);
-    begin(rows, marks, ends, best, costs(levels, 2, 48, 4), 32);
+    begin(rows, marks, ends, best, costs_of(levels, 2, 48, 4), 32);
     begin_some(rows, marks, ends, best, levels, 33, 44, 4);
-    begin(rows, marks, ends, best, costs(levels, 4, 96, 0), 44);
+    begin(rows, marks, ends, best, costs_of(levels, 4, 96, 0), 44);
 }

@@ -12,7 +12,10 @@ loop-place-preserved c =
     one_more_spread c.args.lengths.now c.args.marks.now c.loop-place.marks c.put.new.marks c.loop-place.place
     c.loop-place.invariant p.here p.others p.best
 
-pub returns-clause-all : goal.returns-clause-all
-returns-clause-all c =
+pub returns : goal.returns
+returns c =
     let all : c.loop-place.place ≡ 45 = omega (arith, c.loop-place-test.false, c.loop-place.auto.place-end) in
-    subst (λ n. AreSpread n c.args.lengths.now c.args.marks.now c.loop-place.marks) all c.loop-place.invariant
+    record {
+      all = subst (λ n. AreSpread n c.args.lengths.now c.args.marks.now c.loop-place.marks) all
+          c.loop-place.invariant;
+    }

@@ -18,19 +18,21 @@ loop-place-preserved c =
     let l = c.loop-place.invariant in
     let p = c.loop-place.place in
     let costs = even_costs c.args.levels c.args.rise c.args.from c.args.to p c.times-by.result c.times-more.result
-    c.loop-place.jump c.plus-jump.result c.requires.even l.reached c.loop-place-test.true c.times-by.ensures
-    c.times-more.ensures l.jump c.plus-jump.ensures in
+    c.loop-place.jump c.plus-next.result c.requires.even l.reached c.loop-place-test.true c.times-by.ensures
+    c.times-more.ensures l.jump c.plus-next.ensures in
     let back : p + 1 - 1 ≡ p = omega arith in
     record {
       reached = let r = l.reached in omega (arith, r);
-      jump = subst (λ k. AreTimes c.args.levels (JUMP * length_in LENGTHS k) c.plus-jump.result) (sym back) costs.jump;
+      jump = subst (λ k. AreTimes c.args.levels (JUMP * length_in LENGTHS k) c.plus-next.result) (sym back) costs.jump;
       started = λ first so_far. c.begin.ensures.started first c.args.levels costs (l.started first so_far);
     }
 
-pub returns-clause-started : goal.returns-clause-started
-returns-clause-started c = λ first so_far.
-    let r = c.loop-place.invariant.reached in
-    let here : c.loop-place.place ≡ c.args.to =
-    omega (arith, c.loop-place-test.false, c.loop-place.auto.place-end, c.requires.order, r) in
-    subst (StartsSoFar first c.loop-place.rows c.loop-place.marks c.args.ends.now c.args.best c.args.levels) here
-    (c.loop-place.invariant.started first so_far)
+pub returns : goal.returns
+returns c = record {
+  started = λ first so_far.
+      let r = c.loop-place.invariant.reached in
+      let here : c.loop-place.place ≡ c.args.to =
+      omega (arith, c.loop-place-test.false, c.loop-place.auto.place-end, c.requires.order, r) in
+      subst (StartsSoFar first c.loop-place.rows c.loop-place.marks c.args.ends.now c.args.best c.args.levels) here
+      (c.loop-place.invariant.started first so_far);
+}

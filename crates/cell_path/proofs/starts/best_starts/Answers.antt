@@ -12,14 +12,14 @@ begin_some-requires-2-clause-even c = is_even 2 21 32 refl
 pub begin_some-requires-3-clause-even : goal.begin_some-requires-3-clause-even
 begin_some-requires-3-clause-even c = is_even 4 33 44 refl
 
-pub returns-clause-started : goal.returns-clause-started
-returns-clause-started c =
+pub returns : goal.returns
+returns c =
     let rows = c.args.rows.now in
     let levels = c.args.levels in
-    let w = c.costs.ensures in
-    let x = c.costs-2.ensures in
-    let y = c.costs-3.ensures in
-    let z = c.costs-4.ensures in
+    let w = c.costs_of.ensures in
+    let x = c.costs_of-2.ensures in
+    let y = c.costs_of-3.ensures in
+    let z = c.costs_of-4.ensures in
     let first = c.begin.ensures.started rows levels (record {
       shorter = λ some. absurd (omega (arith, some));
       longer = λ less. w.longer;
@@ -35,8 +35,10 @@ returns-clause-started c =
       longer = λ less. y.longer;
       jump = y.jump;
     }) (c.begin_some-2.ensures.started rows second) in
-    c.begin-4.ensures.started rows levels (record {
-      shorter = λ some. z.shorter;
-      longer = λ less. absurd (omega (arith, less));
-      jump = z.jump;
-    }) (c.begin_some-3.ensures.started rows third)
+    record {
+      started = c.begin-4.ensures.started rows levels (record {
+        shorter = λ some. z.shorter;
+        longer = λ less. absurd (omega (arith, less));
+        jump = z.jump;
+      }) (c.begin_some-3.ensures.started rows third);
+    }

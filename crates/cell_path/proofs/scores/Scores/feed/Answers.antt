@@ -7,7 +7,7 @@ use Rattle.cell_path.proofs.NextStep.{rows_fed}
 use Rattle.cell_path.proofs.scores.Scores.feed.Goals as goal
 
 -- what is known at each of the four steps
-starts_of : (c : goal.After-turn) (steps : List Step) → AreSteps (c.args.d ∷ c.args.c ∷ c.args.b ∷ c.args.a ∷ [])
+starts_of : (c : goal.After-spread) (steps : List Step) → AreSteps (c.args.d ∷ c.args.c ∷ c.args.b ∷ c.args.a ∷ [])
     → StandsFor (record { sums = c.self.inside.sums; rows = c.self.inside.rows }) steps → (step : ℕ) → step < 4
     → AreStartsOf c.best_ends.new.ends c.best_of_all-best.result
     (c.args.a.level ∷ c.args.b.level ∷ c.args.c.level ∷ c.args.d.level ∷ [])
