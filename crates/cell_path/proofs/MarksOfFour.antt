@@ -6,7 +6,7 @@ use Rattle.std.proofs.lemmas.List.{get_or-set_same}
 use Rattle.cell_path.specs.declared.four.Four.{Four}
 use Rattle.cell_path.specs.declared.mark.FourMarks.{FourMarks}
 use Rattle.cell_path.specs.Four.{at_step}
-use Rattle.cell_path.specs.Started.{mark_at, mark_of_step, HasMarks, KeepsBest}
+use Rattle.cell_path.specs.Started.{mark_at, mark_of_step, AreSpread, HasMarks, KeepsBest}
 use Rattle.cell_path.proofs.Lowest.{at_each_step}
 
 pub all_have : (w x y z : ℕ) (plus minus plus_start minus_start : Four)
@@ -17,16 +17,11 @@ all_have w x y z plus minus plus_start minus_start =
     at_each_step (λ s. HasMarks (at_step (w ∷ x ∷ y ∷ z ∷ []) s) plus minus plus_start minus_start s)
 
 -- the mark that is put in is found
-pub is_put : (marks : List ℕ) (place mark : ℕ) → length marks ≡ 45 → place < 45 → get_or (set marks place mark) place 0 ≡ mark
+pub is_put : (marks : List ℕ) (place mark : ℕ) → length marks ≡ 45 → place < 45
+    → get_or (set marks place mark) place 0 ≡ mark
 is_put marks place mark long within = get_or-set_same marks place mark 0 (omega (arith, long))
 
--- the marks of the first lengths have been put in, and the ends of the best paths are as they were
-pub record SpreadSoFar (lengths : List (List ℕ)) (first now : FourMarks) (most : ℕ) : Type 0 where
-  pub marks : (step place : ℕ) → step < 4 → place < most
-      → mark_of_step now step place ≡ mark_at lengths step place % 256
-  pub best : KeepsBest first now
-
-pub none_spread : (lengths : List (List ℕ)) (marks : FourMarks) → SpreadSoFar lengths marks marks 0
+pub none_spread : (lengths : List (List ℕ)) (marks : FourMarks) → AreSpread 0 lengths marks marks
 none_spread lengths marks = record {
   marks = λ step place few none. absurd (omega arith);
   best = record { places = λ step. refl; signs = λ step. refl };
@@ -39,10 +34,10 @@ best_along a b c one two = record {
 }
 
 -- a length more
-pub one_more_spread : (lengths : List (List ℕ)) (first old new : FourMarks) (n : ℕ) → SpreadSoFar lengths first old n
+pub one_more_spread : (lengths : List (List ℕ)) (first old new : FourMarks) (n : ℕ) → AreSpread n lengths first old
     → ((step : ℕ) → step < 4 → mark_of_step new step n ≡ mark_at lengths step n % 256)
     → ((step other : ℕ) → other ≢ n → mark_of_step new step other ≡ mark_of_step old step other)
-    → KeepsBest old new → SpreadSoFar lengths first new (n + 1)
+    → KeepsBest old new → AreSpread (n + 1) lengths first new
 one_more_spread lengths first old new n so_far here others best = record {
   marks = λ step place few within.
       let cases : (place < n) ⊎ (n ≡ place) = grind arith in

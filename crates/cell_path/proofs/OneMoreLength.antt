@@ -11,7 +11,7 @@ use Rattle.cell_path.specs.Kept.{number_next, RowsState, SumsState}
 use Rattle.cell_path.specs.Marks.{marked_bit, marked_way}
 use Rattle.cell_path.specs.Scores.{AreSteps}
 use Rattle.cell_path.specs.StandsFor.{end_at, IsEndAt, RowsStandFor, SumsStandFor}
-use Rattle.cell_path.specs.Started.{mark_at, AreStarted, AreStartsOf, IsStarted, KeepsNumbers}
+use Rattle.cell_path.specs.Started.{mark_at, AreStartsOf, IsStarted, KeepsNumbers, StartsSoFar}
 
 -- a fact of the first n lengths and signs, of each one more
 pub one_more_length : (P : ℕ → Sign → Type 0) (n : ℕ) → ((place : ℕ) (sign : Sign) → place < n → P place sign)
@@ -44,13 +44,6 @@ one_more_end sums rows n old new plus minus so_far p m others a b =
     (λ place sign within. let apart : place ≢ n = λ e. omega arith in
     subst (AreEndsOf sums rows place sign) (sym (others place sign apart)) (so_far place sign within))
     (subst (AreEndsOf sums rows n Plus) (sym p) a) (subst (AreEndsOf sums rows n Minus) (sym m) b)
-
--- the starts so far, and what stays as it was
-pub record StartsSoFar (old new : RowsState) (marks : List (List ℕ)) (ends : Ends) (best_end : Four)
-    (levels : List ℕ) (most : ℕ) : Type 0 where
-  pub started : (step : ℕ) (steps : List Step) → AreStartsOf ends best_end levels steps step
-      → AreStarted most steps new marks ends step
-  pub keeps : KeepsNumbers old new
 
 -- what has been started stays so, if its number and its mark do
 still_started : (steps : List Step) (old new : RowsState) (old_marks new_marks : List (List ℕ)) (ends : Ends)

@@ -1,5 +1,6 @@
 -- The best ways to begin behind the latest four steps have been put in.
-use Rattle.std.specs.Prelude.{◌≡◌, ℕ, zero, suc, ◌^◌, ◌<◌, ◌≤◌, ℤ, pos, ◌+ℤ◌, ◌≤ℤ◌, List, [], length, get_or}
+use Rattle.std.specs.Prelude.{◌≡◌, ℕ, zero, suc, ◌+◌, ◌-◌, ◌*◌, ◌%◌, ◌^◌, ◌<◌, ◌≤◌, ℤ, pos, ◌+ℤ◌, ◌≤ℤ◌, List, []}
+use Rattle.std.specs.Prelude.{length, get_or}
 use Rattle.cell_path.specs.declared.cell.Bit.{Bit}
 use Rattle.cell_path.specs.declared.cell.Sign.{Sign}
 use Rattle.cell_path.specs.declared.cell.Sign.TheVariants.{Plus, Minus}
@@ -7,11 +8,13 @@ use Rattle.cell_path.specs.declared.cell.Step.{Step}
 use Rattle.cell_path.specs.declared.cell.Way.{Way}
 use Rattle.cell_path.specs.declared.ends.Ends.{Ends}
 use Rattle.cell_path.specs.declared.four.Four.{Four}
-use Rattle.cell_path.specs.declared.lengths.TheConstants.{LENGTHS}
+use Rattle.cell_path.specs.declared.lengths.TheConstants.{JUMP, LENGTHS}
 use Rattle.cell_path.specs.declared.mark.FourMarks.{FourMarks}
 use Rattle.cell_path.specs.declared.mark.StepMarks.{StepMarks}
+use Rattle.cell_path.specs.declared.start.Costs.{Costs}
 use Rattle.cell_path.specs.Four.{at_step, low}
 use Rattle.cell_path.specs.Kept.{number_ago, number_next, RowsState}
+use Rattle.cell_path.specs.Lengths.{length_in}
 use Rattle.cell_path.specs.Marks.{bit_from, marked_bit, marked_way, way_from}
 use Rattle.cell_path.specs.Number.{IsBeginning, IsEnd}
 use Rattle.cell_path.specs.Path.{level_at}
@@ -46,11 +49,28 @@ pub record KeepsBest (old new : FourMarks) : Type 0 where
   pub places : (step : ℕ) → (marks_of new step).best_place ≡ (marks_of old step).best_place
   pub signs : (step : ℕ) → (marks_of new step).best_sign ≡ (marks_of old step).best_sign
 
+-- each step has the marks of the first `most` lengths
+pub record AreSpread (most : ℕ) (lengths : List (List ℕ)) (old new : FourMarks) : Type 0 where
+  pub marks : (step place : ℕ) → step < 4 → place < most
+      → mark_of_step new step place ≡ mark_at lengths step place % 256
+  pub best : KeepsBest old new
+
 -- the numbers of the steps so far are as they were
 pub record KeepsNumbers (old new : RowsState) : Type 0 where
   pub next : new.next ≡ old.next
   pub numbers : (ago other : ℕ) (sign : Sign) → ago ≤ 96 → other < 45
       → number_ago new ago other sign ≡ number_ago old ago other sign
+
+-- at each of four steps the product is so many times the number
+abbrev pub AreTimes : List ℕ → ℕ → List ℕ → Type 0
+AreTimes numbers by products = (step n : ℕ) → step < 4 → at_step numbers step ≡ low (pos n)
+    → at_step products step ≡ low (pos (by * n))
+
+-- with these mean sizes it costs so much to begin a cell of a length, by the way
+pub record AreCosts (levels : List ℕ) (place : ℕ) (costs : Costs) : Type 0 where
+  pub shorter : 0 < place → AreTimes levels (length_in LENGTHS place - length_in LENGTHS (place - 1)) costs.shorter
+  pub longer : place < 44 → AreTimes levels (length_in LENGTHS (place + 1) - length_in LENGTHS place) costs.longer
+  pub jump : AreTimes levels (JUMP * length_in LENGTHS place) costs.jump
 
 -- what the best beginnings behind one of the latest four steps are made of
 pub record AreStartsOf (ends : Ends) (best : Four) (levels : List ℕ) (steps : List Step) (step : ℕ) : Type 0 where
@@ -86,3 +106,10 @@ pub record IsStarted (steps : List Step) (rows : RowsState) (marks : List (List 
 abbrev pub AreStarted : ℕ → List Step → RowsState → List (List ℕ) → Ends → ℕ → Type 0
 AreStarted most steps rows marks ends step = (place : ℕ) (sign : Sign) → place < most
     → IsStarted steps rows marks ends place sign step
+
+-- the same from one state of the rows to another, in which the numbers of the steps so far are as they were
+pub record StartsSoFar (old new : RowsState) (marks : List (List ℕ)) (ends : Ends) (best_end : Four)
+    (levels : List ℕ) (most : ℕ) : Type 0 where
+  pub started : (step : ℕ) (steps : List Step) → AreStartsOf ends best_end levels steps step
+      → AreStarted most steps new marks ends step
+  pub keeps : KeepsNumbers old new

@@ -47,22 +47,27 @@ impl Ends {
     }
 }
 
-/// The best paths that end with each of the latest four steps. The sums have those steps already, and the
-/// rows do not.
-pub(crate) fn best_ends(sums: &Sums, rows: &Rows) -> Ends
-    ensures ends { (step : ℕ) (steps : List Step) → step < 4 → 4 ≤ length steps → AreSteps steps
-        → SumsStandFor sums.now steps → RowsStandFor rows.now (drop 4 steps) → AreEnds 45 result steps step }
-    ensures codes { AreBits result }
-{
+/// Room for them.
+#[inline(always)]
+pub(crate) fn no_ends() -> Ends {
     let none = Four::first([0; 4]);
-    let mut ends = Ends {
+    Ends {
         plus: [none; PLACES],
         minus: [none; PLACES],
-    };
+    }
+}
+
+/// Puts in the best paths that end with each of the latest four steps. The sums have those steps already, and the
+/// rows do not.
+// In place, since to answer with so many numbers is to copy them twice.
+pub(crate) fn best_ends(ends: &mut Ends, sums: &Sums, rows: &Rows)
+    ensures ends { (step : ℕ) (steps : List Step) → step < 4 → 4 ≤ length steps → AreSteps steps
+        → SumsStandFor sums.now steps → RowsStandFor rows.now (drop 4 steps) → AreEnds 45 ends.new steps step }
+    ensures codes { AreBits ends.new }
+{
     for place in 0..PLACES {
         let plus = best_end(sums, rows, place, Sign::Plus);
         let minus = best_end(sums, rows, place, Sign::Minus);
         ends.put(place, plus, minus);
     }
-    ends
 }

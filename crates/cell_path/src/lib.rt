@@ -76,4 +76,5 @@ pub use pending::Pending;
 pub use placed::{Decided, Placed};
 pub use point::{Back, Point};
 pub use scores::Scores;
+pub use start::Costs;
 pub use waiting::ROOM;

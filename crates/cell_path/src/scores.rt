@@ -8,7 +8,7 @@ ghost use Rattle.cell_path.specs.Started.{marks_of};
 
 use crate::best::best_of_all;
 use crate::cell::Step;
-use crate::ends::best_ends;
+use crate::ends::{best_ends, no_ends};
 use crate::lengths::PLACES;
 use crate::mark::FourMarks;
 use crate::rows::Rows;
@@ -56,7 +56,8 @@ impl Scores {
         ensures places { (step : ℕ) → step < 4 → (marks_of result step).best_place < 45 }
     {
         self.sums.push(a, b, c, d);
-        let ends = best_ends(&self.sums, &self.rows);
+        let mut ends = no_ends();
+        best_ends(&mut ends, &self.sums, &self.rows);
         let best = best_of_all(&ends);
         let levels = [a.level, b.level, c.level, d.level];
         let mut marks = [[0; 4]; PLACES];

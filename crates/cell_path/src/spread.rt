@@ -2,7 +2,7 @@
 ghost use Rattle.std.specs.Prelude.{◌≡◌, ◌≢◌, ℕ, ◌/◌, ◌%◌, ◌<◌};
 ghost use Rattle.cell_path.specs.Four.{at_step};
 ghost use Rattle.cell_path.specs.Marks.{sign_from};
-ghost use Rattle.cell_path.specs.Started.{mark_at, mark_of_step, marks_of, KeepsBest};
+ghost use Rattle.cell_path.specs.Started.{mark_at, mark_of_step, marks_of, AreSpread, KeepsBest};
 
 use crate::lengths::PLACES;
 use crate::mark::{FourMarks, no_marks_yet};
@@ -16,10 +16,20 @@ fn put(marks: &mut FourMarks, place: usize, four: [u32; 4])
         → mark_of_step marks.new step other ≡ mark_of_step marks.old step other }
     ensures best { KeepsBest marks.old marks.new }
 {
-    marks.first.marks[place] = four[0] as u8;
-    marks.second.marks[place] = four[1] as u8;
-    marks.third.marks[place] = four[2] as u8;
-    marks.fourth.marks[place] = four[3] as u8;
+    marks.first.marks[place] = (four[0] % 256) as u8;
+    marks.second.marks[place] = (four[1] % 256) as u8;
+    marks.third.marks[place] = (four[2] % 256) as u8;
+    marks.fourth.marks[place] = (four[3] % 256) as u8;
+}
+
+/// Puts those of all lengths in.
+#[inline(always)]
+fn fill(marks: &mut FourMarks, lengths: &[[u32; 4]; PLACES])
+    ensures all { AreSpread 45 lengths.now marks.old marks.new }
+{
+    for place in 0..PLACES {
+        put(marks, place, lengths[place]);
+    }
 }
 
 /// The marks of each step, with the codes of the ends of the best paths of all.
@@ -37,8 +47,6 @@ pub(crate) fn spread(lengths: &[[u32; 4]; PLACES], best: [u32; 4]) -> FourMarks
         third: no_marks_yet(best[2]),
         fourth: no_marks_yet(best[3]),
     };
-    for place in 0..PLACES {
-        put(&mut marks, place, lengths[place]);
-    }
+    fill(&mut marks, lengths);
     marks
 }

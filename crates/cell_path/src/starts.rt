@@ -1,19 +1,18 @@
 //! The best ways to begin behind the latest four steps. Read next: `spread`.
-ghost use Rattle.std.specs.Prelude.{◌≡◌, ◌≢◌, ℕ, ◌<◌, List};
-ghost use Rattle.cell_path.specs.declared.cell.Sign.{Sign};
-ghost use Rattle.cell_path.specs.declared.cell.Step.{Step};
+ghost use Rattle.std.specs.Prelude.{◌≡◌, ◌≢◌, ℕ, ◌+◌, ◌<◌, ◌≤◌, List};
 ghost use Rattle.cell_path.specs.Four.{at_step};
-ghost use Rattle.cell_path.specs.Started.{mark_at, AreStarted, AreStartsOf, HasMarks, IsStarted, KeepsNumbers};
-ghost use Rattle.cell_path.specs.Kept.{number_next};
+ghost use Rattle.cell_path.specs.Kept.{RowsState};
+ghost use Rattle.cell_path.specs.Lengths.{IsEven};
+ghost use Rattle.cell_path.specs.Started.{mark_at, AreCosts, HasMarks, StartsSoFar};
 ghost use Rattle.cell_path.specs.StandsFor.{AreBits};
 
 use crate::cell::Sign;
 use crate::ends::Ends;
-use crate::four::Four;
-use crate::lengths::PLACES;
+use crate::four::{Four, plus, times};
+use crate::lengths::{JUMP, PLACES, length_at};
 use crate::mark::mark_of;
 use crate::rows::Rows;
-use crate::start::best_start;
+use crate::start::{Costs, best_start, costs_of};
 
 /// The marks of a length.
 #[inline(always)]
@@ -53,28 +52,60 @@ fn begin(
     marks: &mut [[u32; 4]; PLACES],
     ends: &Ends,
     best: Four,
-    levels: [u32; 4],
+    costs: Costs,
     place: usize,
 )
     requires place { place < 45 }
     requires bits { AreBits ends.now }
-    ensures started { (sign : Sign) (step : ℕ) (steps : List Step) → AreStartsOf ends.now best levels steps step
-        → IsStarted steps rows.new marks.new ends.now place sign step }
-    ensures others { (step other : ℕ) (sign : Sign) → other ≢ place
-        → number_next rows.new step other sign ≡ number_next rows.old step other sign }
-    ensures other_marks { (step other : ℕ) → other ≢ place
-        → mark_at marks.new step other ≡ mark_at marks.old step other }
-    ensures keeps { KeepsNumbers rows.old rows.new }
+    ensures started { (first : RowsState) (levels : List ℕ) → AreCosts levels place costs
+        → StartsSoFar first rows.old marks.old ends.now best levels place
+        → StartsSoFar first rows.new marks.new ends.now best levels (place + 1) }
 {
-    let plus = best_start(ends, best, levels, place, Sign::Plus);
-    let minus = best_start(ends, best, levels, place, Sign::Minus);
+    let plus = best_start(ends, best, costs, place, Sign::Plus);
+    let minus = best_start(ends, best, costs, place, Sign::Minus);
     rows.put(place, plus.numbers, minus.numbers);
     let four = mark(ends.plus[place], ends.minus[place], plus, minus);
     keep(marks, place, four);
 }
 
+/// Puts in those of some lengths in a row, each of which is by the same above the one before, as is the next one.
+fn begin_some(
+    rows: &mut Rows,
+    marks: &mut [[u32; 4]; PLACES],
+    ends: &Ends,
+    best: Four,
+    levels: [u32; 4],
+    from: usize,
+    to: usize,
+    rise: usize,
+)
+    requires from { 0 < from }
+    requires order { from ≤ to }
+    requires to { to < 45 }
+    requires few { rise ≤ 4 }
+    requires even { IsEven rise from to }
+    requires bits { AreBits ends.now }
+    ensures started { (first : RowsState) → StartsSoFar first rows.old marks.old ends.now best levels from
+        → StartsSoFar first rows.new marks.new ends.now best levels to }
+{
+    let by = times(levels, rise as u32);
+    let more = times(levels, (JUMP * rise) as u32);
+    let mut jump = times(levels, (JUMP * length_at(from - 1)) as u32);
+    for place in from..to {
+        let next = plus(jump, more);
+        let costs = Costs {
+            shorter: by,
+            longer: by,
+            jump: next,
+        };
+        begin(rows, marks, ends, best, costs, place);
+        jump = next;
+    }
+}
+
 /// Puts in the best ways to begin behind each of the latest four steps, with the best paths of all and the mean
 /// sizes there.
+// Lengths that rise by the same are taken together, so that no cost has to be multiplied for each.
 pub(crate) fn best_starts(
     rows: &mut Rows,
     marks: &mut [[u32; 4]; PLACES],
@@ -83,14 +114,13 @@ pub(crate) fn best_starts(
     levels: [u32; 4],
 )
     requires bits { AreBits ends.now }
-    ensures started { (step : ℕ) (steps : List Step) → AreStartsOf ends.now best levels steps step
-        → AreStarted 45 steps rows.new marks.new ends.now step }
-    ensures keeps { KeepsNumbers rows.old rows.new }
+    ensures started { StartsSoFar rows.old rows.new marks.new ends.now best levels 45 }
 {
-    // The shortest and the longest stand apart, so that no length between them is asked whether it has both neighbours.
-    begin(rows, marks, ends, best, levels, 0);
-    for place in 1..PLACES - 1 {
-        begin(rows, marks, ends, best, levels, place);
-    }
-    begin(rows, marks, ends, best, levels, PLACES - 1);
+    begin(rows, marks, ends, best, costs_of(levels, 0, 4, 1), 0);
+    begin_some(rows, marks, ends, best, levels, 1, 20, 1);
+    begin(rows, marks, ends, best, costs_of(levels, 1, 24, 2), 20);
+    begin_some(rows, marks, ends, best, levels, 21, 32, 2);
+    begin(rows, marks, ends, best, costs_of(levels, 2, 48, 4), 32);
+    begin_some(rows, marks, ends, best, levels, 33, 44, 4);
+    begin(rows, marks, ends, best, costs_of(levels, 4, 96, 0), 44);
 }

@@ -1,47 +1,35 @@
-use Rattle.std.proofs.Common.{◌-◌, ◌*◌, ◌≤◌, ◌-ℤ◌, pos, arith, ap, ap₂, refl, subst, sym, ◌∙◌}
+use Rattle.std.proofs.Common.{◌-◌, ◌*◌, ◌≤◌, ◌-ℤ◌, pos, arith, ap, refl, ◌∙◌}
 use Rattle.cell_path.specs.declared.cell.Way.TheVariants.{Shorter}
 use Rattle.cell_path.specs.declared.four.Four.{Four}
 use Rattle.cell_path.specs.declared.lengths.TheConstants.{LENGTHS}
 use Rattle.cell_path.specs.Four.{at_step}
+use Rattle.cell_path.specs.Lengths.{length_in}
 use Rattle.cell_path.specs.Path.{level_at}
 use Rattle.cell_path.specs.StandsFor.{steps_at}
-use Rattle.cell_path.specs.Trying.{IsBestOfWay}
 use Rattle.cell_path.proofs.BestBeginning.{shorter_best}
-use Rattle.cell_path.proofs.LengthsOfCells.{lengths_rise}
+use Rattle.cell_path.proofs.LengthsOfCells.{length_bounds}
 use Rattle.cell_path.proofs.NearScores.{steps_before}
 use Rattle.cell_path.proofs.StartOfCells.{behind, level_kept, or_way, some_step}
 use Rattle.cell_path.proofs.start.or_shorter.Goals as goal
 
-pub overflow_sub-cost : goal.overflow_sub-cost
-overflow_sub-cost c =
-    let x = c.length_at.ensures in
-    let y = c.length_at-2.ensures in
-    let rises = lengths_rise (c.args.place - 1) c.args.place (omega (arith, c.if-place-eq0.false)) c.requires.place in
-    omega (arith, x.value, y.value, rises)
-
 pub returns-clause-next : goal.returns-clause-next
-returns-clause-next c = λ best step steps are so_far.
+returns-clause-next c = λ best levels step steps are cost_is so_far.
     let S = steps_at step steps in
     let p = c.args.place in
     let n = p - 1 in
     let s = c.args.sign in
     let end = are.are_ends n s (omega (arith, c.requires.place)) in
     let here = are.are_ends p s c.requires.place in
-    let x = c.length_at.ensures in
-    let y = c.length_at-2.ensures in
-    let t = c.length_at.result - c.length_at-2.result in
-    let few : t ≤ 288 = omega (arith, x.most) in
-    let fee = c.times.ensures step (level_at S) are.within
-    (level_kept c.args.levels steps step are.are_steps are.level) in
+    let t = length_in LENGTHS p - length_in LENGTHS n in
+    let most = (length_bounds p c.requires.place).1 in
+    let few : t ≤ 288 = omega (arith, most) in
+    let fee = cost_is (omega (arith, c.if-place-eq0.false)) step (level_at S) are.within
+    (level_kept levels steps step are.are_steps are.level) in
     let new = end.number -ℤ pos (t * level_at S) in
     let is = c.minus-number.ensures step end.number (pos (t * level_at S)) are.within
     (ap (λ (f : Four). at_step f.numbers step) c.at.ensures ∙ end.kept) fee in
-    let way : IsBestOfWay LENGTHS S p s Shorter new =
-    subst (λ k. IsBestOfWay LENGTHS S p s Shorter (end.number -ℤ pos (k * level_at S)))
-    (sym (ap₂ ◌-◌ x.value y.value))
-    (shorter_best LENGTHS S p n s end.number end.bit (omega (arith, c.if-place-eq0.false))
-    (some_step steps step are.within are.long)
-    end.is) in
+    let way = shorter_best LENGTHS S p n s end.number end.bit (omega (arith, c.if-place-eq0.false))
+    (some_step steps step are.within are.long) end.is in
     or_way steps p s c.args.start c.minus-number.result 1 step c.or.result Shorter new here.number here.bit
     are.are_steps here.is refl
     (behind S n s end.number end.bit t end.is (steps_before (3 - step) steps are.are_steps) few) is way

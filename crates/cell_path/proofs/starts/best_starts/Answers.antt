@@ -1,36 +1,44 @@
-use Rattle.std.proofs.Common.{◌≡◌, arith, subst}
-use Rattle.cell_path.proofs.OneMoreLength.{no_starts, one_more_start, StartsSoFar}
+use Rattle.std.proofs.Common.{arith, refl}
+use Rattle.cell_path.proofs.LengthsOfCells.{is_even}
+use Rattle.cell_path.proofs.OneMoreLength.{no_starts}
 use Rattle.cell_path.proofs.starts.best_starts.Goals as goal
 
-pub loop-place-init : goal.loop-place-init
-loop-place-init c =
-    let b = c.begin.ensures in
-    one_more_start c.args.rows.now c.args.rows.now c.begin.new.rows c.args.marks.now c.begin.new.marks
-    c.args.ends.now c.args.best c.args.levels 0
-    (no_starts c.args.rows.now c.args.marks.now c.args.ends.now c.args.best c.args.levels)
-    b.started b.others b.other_marks b.keeps
+pub begin_some-requires-clause-even : goal.begin_some-requires-clause-even
+begin_some-requires-clause-even c = is_even 1 1 20 refl
 
-pub loop-place-preserved : goal.loop-place-preserved
-loop-place-preserved c =
-    let b = c.begin-in-loop-place.ensures in
-    one_more_start c.args.rows.now c.loop-place.rows c.begin-in-loop-place.new.rows c.loop-place.marks
-    c.begin-in-loop-place.new.marks c.args.ends.now c.args.best c.args.levels c.loop-place.place c.loop-place.invariant
-    b.started b.others b.other_marks b.keeps
+pub begin_some-requires-2-clause-even : goal.begin_some-requires-2-clause-even
+begin_some-requires-2-clause-even c = is_even 2 21 32 refl
 
--- with the longest length they are all
-all : (c : goal.After-begin-2) → StartsSoFar c.args.rows.now c.begin-2.new.rows c.begin-2.new.marks
-    c.args.ends.now c.args.best c.args.levels 45
-all c =
-    let b = c.begin-2.ensures in
-    let here : c.loop-place.place ≡ 44 = omega (arith, c.loop-place-test.false, c.loop-place.auto.place-end) in
-    one_more_start c.args.rows.now c.loop-place.rows c.begin-2.new.rows c.loop-place.marks
-    c.begin-2.new.marks c.args.ends.now c.args.best c.args.levels 44
-    (subst (StartsSoFar c.args.rows.now c.loop-place.rows c.loop-place.marks c.args.ends.now
-    c.args.best c.args.levels) here c.loop-place.invariant)
-    b.started b.others b.other_marks b.keeps
+pub begin_some-requires-3-clause-even : goal.begin_some-requires-3-clause-even
+begin_some-requires-3-clause-even c = is_even 4 33 44 refl
 
-pub returns-clause-started : goal.returns-clause-started
-returns-clause-started c = (all c).started
-
-pub returns-clause-keeps : goal.returns-clause-keeps
-returns-clause-keeps c = (all c).keeps
+pub returns : goal.returns
+returns c =
+    let rows = c.args.rows.now in
+    let levels = c.args.levels in
+    let w = c.costs_of.ensures in
+    let x = c.costs_of-2.ensures in
+    let y = c.costs_of-3.ensures in
+    let z = c.costs_of-4.ensures in
+    let first = c.begin.ensures.started rows levels (record {
+      shorter = λ some. absurd (omega (arith, some));
+      longer = λ less. w.longer;
+      jump = w.jump;
+    }) (no_starts rows c.args.marks.now c.args.ends.now c.args.best levels) in
+    let second = c.begin-2.ensures.started rows levels (record {
+      shorter = λ some. x.shorter;
+      longer = λ less. x.longer;
+      jump = x.jump;
+    }) (c.begin_some.ensures.started rows first) in
+    let third = c.begin-3.ensures.started rows levels (record {
+      shorter = λ some. y.shorter;
+      longer = λ less. y.longer;
+      jump = y.jump;
+    }) (c.begin_some-2.ensures.started rows second) in
+    record {
+      started = c.begin-4.ensures.started rows levels (record {
+        shorter = λ some. z.shorter;
+        longer = λ less. absurd (omega (arith, less));
+        jump = z.jump;
+      }) (c.begin_some-3.ensures.started rows third);
+    }

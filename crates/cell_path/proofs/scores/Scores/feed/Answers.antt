@@ -7,16 +7,16 @@ use Rattle.cell_path.proofs.NextStep.{rows_fed}
 use Rattle.cell_path.proofs.scores.Scores.feed.Goals as goal
 
 -- what is known at each of the four steps
-starts_of : (c : goal.After-turn) (steps : List Step) → AreSteps (c.args.d ∷ c.args.c ∷ c.args.b ∷ c.args.a ∷ [])
+starts_of : (c : goal.After-spread) (steps : List Step) → AreSteps (c.args.d ∷ c.args.c ∷ c.args.b ∷ c.args.a ∷ [])
     → StandsFor (record { sums = c.self.inside.sums; rows = c.self.inside.rows }) steps → (step : ℕ) → step < 4
-    → AreStartsOf c.best_ends-ends.result c.best_of_all-best.result
+    → AreStartsOf c.best_ends.new.ends c.best_of_all-best.result
     (c.args.a.level ∷ c.args.b.level ∷ c.args.c.level ∷ c.args.d.level ∷ [])
     (c.args.d ∷ c.args.c ∷ c.args.b ∷ c.args.a ∷ steps) step
 starts_of c steps four stand step within =
     let all = c.args.d ∷ c.args.c ∷ c.args.b ∷ c.args.a ∷ steps in
     let long : 4 ≤ length all = omega arith in
     let are = four_more c.args.a c.args.b c.args.c c.args.d steps four stand.are in
-    let ends = c.best_ends-ends.ensures.ends step all within long are (c.push.ensures.stands steps four stand.sums)
+    let ends = c.best_ends.ensures.ends step all within long are (c.push.ensures.stands steps four stand.sums)
     stand.rows in
     record {
       within = within;
@@ -36,8 +36,8 @@ returns-clause-stands c = λ steps four stand_now.
       are = four_more c.args.a c.args.b c.args.c c.args.d steps four stand.are;
       sums = c.push.ensures.stands steps four stand.sums;
       rows = rows_fed c.self.inside.rows c.best_starts.new.rows c.turn.new.self c.best_starts.new.marks
-          c.best_ends-ends.result all steps refl (omega arith) stand.rows c.best_starts.ensures.keeps.numbers
-          (λ step within. c.best_starts.ensures.started step all (starts_of c steps four stand step within))
+          c.best_ends.new.ends all steps refl (omega arith) stand.rows c.best_starts.ensures.started.keeps.numbers
+          (λ step within. c.best_starts.ensures.started.started step all (starts_of c steps four stand step within))
           c.turn.ensures.latest c.turn.ensures.others;
     }
 
@@ -48,8 +48,8 @@ returns-clause-marked c = λ step steps within four stand_now.
     let all = c.args.d ∷ c.args.c ∷ c.args.b ∷ c.args.a ∷ steps in
     let known = starts_of c steps four stand step within in
     let spread = c.spread.ensures in
-    marked_step all step c.best_starts.new.rows c.best_starts.new.marks c.spread.result c.best_ends-ends.result
-    c.best_of_all-best.result (c.best_starts.ensures.started step all known) known.are_ends known.is_best
+    marked_step all step c.best_starts.new.rows c.best_starts.new.marks c.spread.result c.best_ends.new.ends
+    c.best_of_all-best.result (c.best_starts.ensures.started.started step all known) known.are_ends known.is_best
     (λ place few. spread.marks step place within few) (spread.places step within) (spread.signs step within)
 
 pub returns-clause-places : goal.returns-clause-places
