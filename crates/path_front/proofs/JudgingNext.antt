@@ -150,7 +150,8 @@ judges_next phase cells now gate next cell answer opened gives rest same least f
           record {
             given = more.0 ∷ stand.given;
             cells = more.2;
-            gate = for_next phase (λ m. GateStandsFor gate judged m) (λ m. GateStandsFor next (answer.cell ∷ judged) m) cell
+            gate = for_next phase (λ m. GateStandsFor gate judged m) (λ m. GateStandsFor next
+                (answer.cell ∷ judged) m) cell
                 opened (λ m s. (judges judged m s).stands) stand.gate;
             least = least ∙ stand.least ∙ sym same.least;
             order = order_judged judged (gate.ahead ++ cell ∷ []) next.ahead

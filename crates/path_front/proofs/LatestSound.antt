@@ -11,7 +11,8 @@ use Rattle.std.proofs.lemmas.List.Sums.{sum_by-cons}
 use Rattle.path_front.proofs.GroupNext.{size_of_sum}
 use Rattle.path_front.specs.Grid.{total}
 use Rattle.path_front.specs.declared.latest.PartSums.{PartSums}
-use Rattle.path_front.specs.Latest.{part, sound_ago, squares_of, sum_of, AreLatest, AreSums, LatestState, LatestStandFor}
+use Rattle.path_front.specs.Latest.{part, sound_ago, squares_of, sum_of, AreLatest, AreSums, LatestState}
+use Rattle.path_front.specs.Latest.{LatestStandFor}
 
 abbrev square : ℤ → ℕ
 square sound = unsigned_abs sound * unsigned_abs sound

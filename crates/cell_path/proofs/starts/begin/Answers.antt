@@ -17,7 +17,8 @@ pub returns : goal.returns
 returns c = record {
   started = λ first levels costs so_far.
       let put = c.put.ensures in
-      let comes : (sign : Sign) (step : ℕ) (steps : List Step) → AreStartsOf c.args.ends.now c.args.best levels steps step
+      let comes : (sign : Sign) (step : ℕ) (steps : List Step)
+      → AreStartsOf c.args.ends.now c.args.best levels steps step
       → IsStarted steps c.put.new.self c.keep.new.marks c.args.ends.now c.args.place sign step =
       λ sign step steps are.
       let within = are.within in

@@ -65,7 +65,8 @@ returns-clause-judges c = λ judged more near stand_now.
           ∙ ap (slowly i.long) c.level-level.ensures.value ∙ long_behind cell judged i.before.items i.long stand.before
           (some_if (length i.before.items) c.is_empty.result c.is_empty.ensures w.if-is_empty.false) stand.long
     ] in
-    let refused : c.weigh-weighed.result.refused ≡ refuses i.least c.if-is_empty.self i.usual i.before.items cell behind =
+    let refused : c.weigh-weighed.result.refused ≡ refuses i.least c.if-is_empty.self i.usual i.before.items
+    cell behind =
     c.weigh-weighed.ensures.refused
     ∙ ap₂ (λ b a. refuses i.least c.if-is_empty.self i.usual b cell a) c.as_slice-before.ensures.value
     c.as_slice-behind.ensures.value in
