@@ -31,25 +31,6 @@ in_range-at (n ∷ more) (suc place) all within =
 pub length_bounds : (place : ℕ) → place < 45 → (4 ≤ length_in LENGTHS place) × (length_in LENGTHS place ≤ 96)
 length_bounds place within = in_range-at LENGTHS place refl within
 
--- each length is below the next
-abbrev rise : List ℕ → Bool
-rise [] = true
-rise (n ∷ []) = true
-rise (m ∷ n ∷ more) = nat_le m n && rise (n ∷ more)
-
-rise-at : (lengths : List ℕ) (place : ℕ) → rise lengths ≡ true → place + 1 < length lengths
-    → get_or lengths place 0 ≤ get_or lengths (suc place) 0
-rise-at [] place all within = absurd (omega arith)
-rise-at (n ∷ []) place all within = absurd (omega arith)
-rise-at (m ∷ n ∷ more) zero all within = let a = (both (nat_le m n) (rise (n ∷ more)) all).0 in grind (arith, nat_tests)
-rise-at (m ∷ n ∷ more) (suc place) all within =
-    rise-at (n ∷ more) place (both (nat_le m n) (rise (n ∷ more)) all).1 (omega arith)
-
-pub lengths_rise : (place next : ℕ) → place + 1 ≡ next → next < 45 → length_in LENGTHS place ≤ length_in LENGTHS next
-lengths_rise place next is within =
-    let e : suc place ≡ next = omega arith in
-    subst (λ n. length_in LENGTHS place ≤ length_in LENGTHS n) e (rise-at LENGTHS place refl (omega arith))
-
 -- so many lengths from a place on are each by the same above the one before
 abbrev pub evenly : ℕ → ℕ → ℕ → Bool
 evenly rise from zero = true

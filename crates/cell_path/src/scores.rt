@@ -8,7 +8,7 @@ ghost use Rattle.cell_path.specs.Started.{marks_of};
 
 use crate::best::best_of_all;
 use crate::cell::Step;
-use crate::ends::{best_ends, no_ends};
+use crate::ends::{Ends, best_ends, no_ends};
 use crate::lengths::PLACES;
 use crate::mark::FourMarks;
 use crate::rows::Rows;
@@ -22,6 +22,8 @@ use std::marker::Model;
 pub struct Scores {
     sums: Sums,
     rows: Rows,
+    /// Room for the ends of the latest four steps, which is cleared once and not for each.
+    ends: Ends,
 }
 
 impl Model for Scores {
@@ -43,6 +45,7 @@ impl Scores {
         Scores {
             sums: Sums::new(),
             rows: Rows::new(),
+            ends: no_ends(),
         }
     }
 
@@ -56,12 +59,11 @@ impl Scores {
         ensures places { (step : ℕ) → step < 4 → (marks_of result step).best_place < 45 }
     {
         self.sums.push(a, b, c, d);
-        let mut ends = no_ends();
-        best_ends(&mut ends, &self.sums, &self.rows);
-        let best = best_of_all(&ends);
+        best_ends(&mut self.ends, &self.sums, &self.rows);
+        let best = best_of_all(&self.ends);
         let levels = [a.level, b.level, c.level, d.level];
         let mut marks = [[0; 4]; PLACES];
-        best_starts(&mut self.rows, &mut marks, &ends, best, levels);
+        best_starts(&mut self.rows, &mut marks, &self.ends, best, levels);
         self.rows.turn();
         spread(&marks, best.codes)
     }
