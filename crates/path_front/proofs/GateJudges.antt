@@ -66,17 +66,6 @@ refused_is least long usual previous
     ap (does_not_fit usual range) fit_is ∙ ap (λ r. does_not_fit usual r (fit_of r cell)) range_is in
     answer_is ∙ ap₂ (λ a b. a || b) faint misfit ∙ sym (refused_by least long usual p before cell behind few few_behind)
 
--- the first cell is not refused, and leaves what is usual
-pub first_fits : (least long : ℕ) (usual : Option Usual) (before : List Measured) (cell : Measured)
-    (behind : List Measured) → slice_get before 0 ≡ None → false ≡ refuses least long usual before cell behind
-first_fits least long usual [] cell behind none = refl
-first_fits least long usual (p ∷ before) cell behind none = absurd (none-some p (sym none))
-
-pub first_leaves : (usual : Option Usual) (before : List Measured) (cell : Measured) (behind : List Measured)
-    → slice_get before 0 ≡ None → usual ≡ usual_by usual before cell behind
-first_leaves usual [] cell behind none = refl
-first_leaves usual (p ∷ before) cell behind none = absurd (none-some p (sym none))
-
 -- ---- what is usual
 
 pub usual_is : (usual : Option Usual) (previous : Measured) (before : List Measured) (cell : Measured)

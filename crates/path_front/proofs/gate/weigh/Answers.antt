@@ -1,5 +1,5 @@
 use Rattle.std.proofs.Common.{sym}
-use Rattle.path_front.proofs.GateJudges.{first_fits, first_leaves, refused_is, usual_is}
+use Rattle.path_front.proofs.GateJudges.{refused_is, usual_is}
 use Rattle.path_front.proofs.gate.weigh.Goals as goal
 
 pub returns-clause-refused : goal.returns-clause-refused
