@@ -36,7 +36,8 @@ impl Model for CodeChase {
       bound = c.bound;
     } };
 
-    ghost invariant = { λ c. (c.place.chase.count ≡ c.count) × (c.bound ≤ 1_000) × (c.place.position < day_of c.place.chase.count) };
+    ghost invariant = { λ c. (c.place.chase.count ≡ c.count) × (c.bound ≤ 1_000)
+        × (c.place.position < day_of c.place.chase.count) };
 }
 
 impl CodeChase {

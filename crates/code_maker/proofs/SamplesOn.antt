@@ -68,7 +68,8 @@ pub went_on : (old new : MadeSound) (n : ℕ) (ticks : List ℕ) (samples : List
 went_on old new n ticks samples is left h =
     subst (λ (s : MadeSound). StandsFor s ticks (samples ++ replicate n (level_on old.up old.level))) (sym is) (record {
       up = h.up;
-      all = append_assoc samples (replicate n (level_on old.up old.level)) (replicate new.rest (level_on old.up old.level))
+      all = append_assoc samples (replicate n (level_on old.up old.level))
+          (replicate new.rest (level_on old.up old.level))
           ∙ ap (λ (l : List ℤ). samples ++ l) (replicate_on n new.rest (level_on old.up old.level))
           ∙ ap (λ (k : ℕ). samples ++ replicate k (level_on old.up old.level)) left ∙ h.all;
     })

@@ -12,7 +12,8 @@ abbrev pub level_on : Bool → ℕ → ℤ
 level_on true level = pos level
 level_on false level = neg_ℤ (pos level)
 
--- the samples of intervals, of which the first lies above zero or below, and then they change: as many as each has ticks
+-- the samples of intervals, of which the first lies above zero or below, and then they change: as many as each has
+-- ticks
 abbrev pub samples_of : ℕ → Bool → List ℕ → List ℤ
 samples_of level up [] = []
 samples_of level up (x ∷ more) = replicate x (level_on up level) ++ samples_of level (not up) more
@@ -22,8 +23,8 @@ abbrev pub is_up_behind : Bool → List ℕ → Bool
 is_up_behind up [] = up
 is_up_behind up (x ∷ more) = is_up_behind (not up) more
 
--- it was given these intervals, and has written these samples: those of the intervals, but for the ones of the last that
--- are still to be written
+-- it was given these intervals, and has written these samples: those of the intervals, but for the ones of the last
+-- that are still to be written
 pub record StandsFor (s : MadeSound) (ticks : List ℕ) (samples : List ℤ) : Type 0 where
   pub up : s.up ≡ is_up_behind false ticks
   pub all : samples ++ replicate s.rest (level_on s.up s.level) ≡ samples_of s.level true ticks

@@ -1,5 +1,6 @@
 //! Intervals to the samples of a sound.
-ghost use Rattle.std.specs.Prelude.{◌≡◌, ◌+◌, ◌-◌, ◌≤◌, ◌<◌, ◌++◌, ℕ, ℤ, List, [], ◌∷◌, length, take, drop, replicate, not};
+ghost use Rattle.std.specs.Prelude.{◌≡◌, ◌+◌, ◌-◌, ◌≤◌, ◌<◌, ◌++◌, ℕ, ℤ};
+ghost use Rattle.std.specs.Prelude.{List, [], ◌∷◌, length, take, drop, replicate, not};
 ghost use Rattle.code_maker.specs.Sound.{level_on, MadeSound, StandsFor};
 
 use std::marker::Model;

@@ -54,7 +54,8 @@ impl<R: Hearing, T: FrameSink> FlightTo<R, T> {
         ensures sink { self.new.sink ≡ self.old.sink }
         ensures next { HearsOn (R.hearer self.old.reader) x (R.hearer self.new.reader) }
         ensures later { Hearer.until (R.hearer self.old.reader) ≤ Hearer.until (R.hearer self.new.reader) }
-        ensures may { IfSome result (λ brought. R.may self.new.reader brought (Hearer.until (R.hearer self.old.reader))) }
+        ensures may { IfSome result
+            (λ brought. R.may self.new.reader brought (Hearer.until (R.hearer self.old.reader))) }
         ensures stands { IfSome result (λ brought. (intervals : List ℕ) (events own : List Event)
             → Hearer.stands (R.hearer self.old.reader) intervals events → R.tells self.new.reader brought own
             → Hearer.stands (R.hearer self.new.reader) (intervals ++ x ∷ []) (events ++ own)) }

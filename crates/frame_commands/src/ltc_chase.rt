@@ -85,7 +85,13 @@ impl Model for StepLines {
 
     ghost Value = { Stepping };
 
-    ghost view = { λ s. record { chase = s.chase; count = s.count; steps = s.steps; losses = s.losses; is_spent = s.is_spent } };
+    ghost view = { λ s. record {
+      chase = s.chase;
+      count = s.count;
+      steps = s.steps;
+      losses = s.losses;
+      is_spent = s.is_spent;
+    } };
 
     ghost invariant = { λ s. IsStepping (record {
       chase = s.chase;

@@ -117,7 +117,8 @@ impl SpanLines {
         ensures all { OnOk result
             (Appends (K.written out.old) (K.written out.new) (ended_lines self.now.tick_rate self.now.system span)) }
         ensures front { OnErr result
-            (AppendsFront (K.written out.old) (K.written out.new) (ended_lines self.now.tick_rate self.now.system span)) }
+            (AppendsFront (K.written out.old) (K.written out.new)
+            (ended_lines self.now.tick_rate self.now.system span)) }
         ensures why { IfErr result (λ stop. stop ≡ Stop.WriteFault) }
         ensures cause { HasOutCause (K.faults out.old) (K.faults out.new) result }
     {

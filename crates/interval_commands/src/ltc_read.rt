@@ -224,7 +224,8 @@ impl Behind for Report {
 
     ghost is_settled = { λ _. ⊤ };
 
-    ghost stands_well = { λ r profile header intervals written settled stands. stands_well r profile header intervals written stands };
+    ghost stands_well = { λ r profile header intervals written settled stands.
+        stands_well r profile header intervals written stands };
 
     fn begin<K: Sink>(
         profile: Profile,

@@ -422,7 +422,8 @@ impl<B: Behind> Engine for Along<B> {
 
     ghost is_going = { λ s. IsGoing B.fits s.decoder s.behind s.intervals };
 
-    ghost stands = { λ s bytes written. StandsWithin B.printing B.stands s.decoder s.behind s.intervals s.choice bytes written };
+    ghost stands = { λ s bytes written.
+        StandsWithin B.printing B.stands s.decoder s.behind s.intervals s.choice bytes written };
 
     ghost is_settled = { λ s. IsSettled B.is_settled s.behind };
 
@@ -430,7 +431,8 @@ impl<B: Behind> Engine for Along<B> {
 
     ghost stands_well = { λ s bytes written settled stands. (
       record { is = good_too Intervals _ stands.stands.good; unspent = stands.unspent },
-      printed_well B.printing B.stands B.is_settled B.stands_well s.behind s.choice _ written settled stands.stands.printed,
+      printed_well B.printing B.stands B.is_settled B.stands_well s.behind s.choice _ written settled
+          stands.stands.printed,
     ) };
 
     fn take<K: Sink>(&mut self, bytes: &[u8], out: &mut K) -> Result<usize, Stop> {

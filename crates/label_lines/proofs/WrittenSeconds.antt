@@ -119,7 +119,8 @@ seconds_are_read m fits =
     let three = three_digits (m % 1000 / 100) (m % 100 / 10) (m % 100 % 10) (omega arith) (omega arith) (omega arith) in
     let value = written_value (m / 1000) small in
     let few = length-decimal-le 5 (m / 1000) (omega arith) (omega arith) small in
-    subst (λ (l : List ℕ). (is_number l ≡ false) × (is_seconds l ≡ true) × (milliseconds_in l ≡ m)) (sym (their_text m)) (
+    subst (λ (l : List ℕ). (is_number l ≡ false) × (is_seconds l ≡ true) × (milliseconds_in l ≡ m))
+    (sym (their_text m)) (
       point_is_no_digit (decimal (m / 1000)) ((48 + m % 1000 / 100) ∷ (48 + m % 100 / 10) ∷ (48 + m % 100 % 10) ∷ []),
       are_seconds (decimal (m / 1000)) (48 + m % 1000 / 100) (48 + m % 100 / 10) (48 + m % 100 % 10)
           (decimal_nonempty (m / 1000) small) few (written_digits (m / 1000) small) three.0,

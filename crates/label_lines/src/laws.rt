@@ -34,7 +34,8 @@ pub fn forms_of_a_line()
     ensures label { LABEL_FORM.now ≡ codes "00:00:00:00" }
     ensures drop_frame { DROP_FORM.now ≡ codes "00:00:00;00" }
     ensures others { map (λ form. form.now) FORMS
-        ≡ codes "0000000" ∷ codes "0.000" ∷ codes "00.000" ∷ codes "000.000" ∷ codes "0000.000" ∷ codes "00000.000" ∷ [] }
+        ≡ codes "0000000" ∷ codes "0.000" ∷ codes "00.000" ∷ codes "000.000" ∷ codes "0000.000"
+        ∷ codes "00000.000" ∷ [] }
 {}
 
 /// Columns by hand: hours, frames and a label that is dropped; the separator of the other way of counting; a label, a

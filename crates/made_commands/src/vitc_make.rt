@@ -83,7 +83,8 @@ impl Model for UnmadeLines {
 
     ghost view = { λ t. record { header = t.header; label = t.label; frames = t.frames; length = t.length } };
 
-    ghost invariant = { λ t. IsLining (record { header = t.header; label = t.label; frames = t.frames; length = t.length }) };
+    ghost invariant = { λ t.
+        IsLining (record { header = t.header; label = t.label; frames = t.frames; length = t.length }) };
 }
 
 impl UnmadeLines {

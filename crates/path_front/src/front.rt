@@ -12,7 +12,7 @@ use crate::tile::{Tiles, tiled};
 use std::marker::Model;
 use step_grid::{Grid, MAX_TICKS};
 
-/// A sound on its way into the intervals of its best path, in fixed memory: about 350 KiB.
+/// A sound on its way into the intervals of its best path, in fixed memory: about 290 KiB.
 #[derive(Drop)]
 pub struct Front {
     judging: Judging,

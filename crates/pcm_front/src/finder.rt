@@ -212,7 +212,8 @@ impl Finder {
         ensures order { at ≤ result }
         ensures within { result ≤ length (S.list samples.now) }
         ensures latest { self.new.latest ≡ self.old.latest }
-        ensures runs { RunsTo self.old self.new window.old window.new (slice_range (S.list samples.now) at result) None }
+        ensures runs { RunsTo self.old self.new window.old window.new
+            (slice_range (S.list samples.now) at result) None }
     {
         let from = Passed {
             end: at,

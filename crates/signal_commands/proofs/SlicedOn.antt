@@ -149,7 +149,8 @@ grown_part s next whole written bytes rest count brought old new slices grows f 
     let within : length (samples_of front) ≤ MAX_SAMPLES =
     omega (arith, length-samples next.samples front long, grows.within) in
     let behind : bytes ++ rest ≡ taken ++ (drop count bytes ++ rest) =
-    ap (λ (l : List ℕ). l ++ rest) (sym (take-append-drop count bytes)) ∙ append_assoc taken (drop count bytes) rest in (
+    ap (λ (l : List ℕ). l ++ rest) (sym (take-append-drop count bytes))
+    ∙ append_assoc taken (drop count bytes) rest in (
       f.0,
       f.2,
       (

@@ -26,10 +26,6 @@ brings_on a b c s t xs ys first second = λ front given h.
     rw (← append_assoc front s t) rw (← append_assoc given xs ys)
     (second (front ++ s) (given ++ xs) (first front given h))
 
--- no step
-pub brings_nothing : (a : SoundState) → Brings a a [] []
-brings_nothing a = λ front given h. rw (append-nil front) rw (append-nil given) h
-
 -- an interval that waited was read
 pub reads_on : (old new : SoundState) (left : Intervals) (x : ℕ) (own : List Event)
     → option_to_list (Some x) ++ intervals_in left ≡ intervals_in old.waiting

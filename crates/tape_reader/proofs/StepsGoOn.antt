@@ -15,10 +15,6 @@ use Rattle.tape_reader.specs.declared.reader.TapeReader.{TapeReader}
 use Rattle.tape_reader.specs.declared.reader.TapeReader.TheVariants.{Plain}
 use Rattle.tape_reader.specs.Tape.{as_told, settings_of, AreTapeEvents, Brings, StandsFor}
 
--- no step
-pub brings_nothing : (a : TapeReader) → Brings a a [] []
-brings_nothing a = λ front told h. rw (append-nil front) rw (append-nil told) h
-
 -- one interval more, of those at a place
 pub brings_more : (a b c : TapeReader) (at x : ℕ) (s : List ℕ) (own : List FirmEvent) → Brings a b (take at s) []
     → Brings b c (x ∷ []) own → at < length s → slice_index s at ≡ x → Brings a c (take (at + 1) s) own

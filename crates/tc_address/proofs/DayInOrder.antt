@@ -63,7 +63,8 @@ leaf_by : (c : Count) (h m s f : ℕ) (b : Bool) → is_dropped_by c m s f ≡ b
     Runs c (place c h m s f) (cond (not b) (address c h m s f ∷ []) []) (place c h m s (f + 1))
 leaf_by c h m s f true e hh hm hs hf = place-dropped c h m s f e
 leaf_by c h m s f false e hh hm hs hf =
-    let l : IsLabel (address c h m s f) = record { hours = hh; minutes = hm; seconds = hs; frames = hf; counted = e } in (
+    let l : IsLabel (address c h m s f) =
+    record { hours = hh; minutes = hm; seconds = hs; frames = hf; counted = e } in (
       record { label = l; count = refl; number = refl; same = sym (label_with-place c h m s f l) },
       place-label c h m s f
           e,

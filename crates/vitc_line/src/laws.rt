@@ -96,8 +96,10 @@ pub fn each_word_has_its_line()
 pub fn lines_of_a_round_label()
     ensures zero_at_30 { Spells F30 (word_with C30 0 0 0 0 (flags false false false false false) 0 false)
         0x10100401004010040100401 }
-    ensures second_field_at_30 { Spells F30 (word_with C30 0 0 0 0 (flags false false false false false) 0 true) 0x10900401004010840100401 }
-    ensures second_field_at_25 { Spells F25 (word_with C25 0 0 0 0 (flags false false false false false) 0 true) 0x10908401004010040100401 }
+    ensures second_field_at_30 { Spells F30 (word_with C30 0 0 0 0 (flags false false false false false) 0 true)
+        0x10900401004010840100401 }
+    ensures second_field_at_25 { Spells F25 (word_with C25 0 0 0 0 (flags false false false false false) 0 true)
+        0x10908401004010040100401 }
 {
     fields_are_exact();
 }

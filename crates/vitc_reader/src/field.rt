@@ -91,9 +91,15 @@ impl Model for FieldReader {
 
     ghost view = { λ r. record { system = r.system; length = r.length; answer = r.answer } };
 
-    ghost invariant = { λ r. HasLines r.system × IsLineLength r.length × (r.factor ≡ factor_on r.length) × (r.factor ≤ 2 ^ 54) };
+    ghost invariant = { λ r. HasLines r.system × IsLineLength r.length × (r.factor ≡ factor_on r.length)
+        × (r.factor ≤ 2 ^ 54) };
 
-    ghost inverse = { λ v. record { system = v.system; length = v.length; factor = factor_on v.length; answer = v.answer } };
+    ghost inverse = { λ v. record {
+      system = v.system;
+      length = v.length;
+      factor = factor_on v.length;
+      answer = v.answer;
+    } };
 
     ghost inverse_ok = { λ r h. rw (← h.2) refl };
 }

@@ -72,7 +72,8 @@ pub fn a_decoder_tells_the_file()
 /// What bytes show of a sound file they show whatever follows: its format, a fault and the limit stay, and
 /// their samples come first.
 pub fn what_a_sound_file_shows_stays()
-    ensures { (asked : Asked) (bytes more : List ℕ) → GoesOn (reading_of asked bytes) (reading_of asked (bytes ++ more)) }
+    ensures { (asked : Asked) (bytes more : List ℕ)
+        → GoesOn (reading_of asked bytes) (reading_of asked (bytes ++ more)) }
 {}
 
 /// Whatever the bytes, no more samples are read than are asked for, and before a format there are none, and the
@@ -86,7 +87,8 @@ pub fn samples_are_few_and_behind_a_format()
 /// if it says no length and nothing follows the data; in RF64 and BW64 if the size is in `ds64`.
 pub fn a_file_is_read_as_it_was_written()
     ensures { (asked : Asked) (format : WaveFormat) (blocks : List (List Sample)) (bytes : List ℕ)
-        → IsMadeOf asked format blocks bytes → reading_of asked bytes ≡ read_whole format (track_of asked.track blocks) }
+        → IsMadeOf asked format blocks bytes
+        → reading_of asked bytes ≡ read_whole format (track_of asked.track blocks) }
 {}
 
 /// A format was judged before its data: its rate is from the least that is asked for to 6,250,000.
