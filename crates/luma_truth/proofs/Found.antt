@@ -1,7 +1,7 @@
--- A drawing on whole pixels is found: the search of whole pixels comes out a quarter of a pixel beside it, each move
--- keeps near it, and no earlier place is taken. There the cores lie in their cells, so the row says the word.
+-- A drawing on whole pixels is found where the search of whole pixels looks at it: the search comes out there, each move
+-- keeps near, and no earlier place is taken. There the cores lie in their cells, so the row says the word.
 use Rattle.std.proofs.Common.{◌≡◌, ℕ, ◌+◌, ◌-◌, ◌*◌, ◌/◌, ◌<◌, ◌≤◌, ◌⊎◌, inl, inr, true, List, length}
-use Rattle.std.proofs.Common.{◌∷◌, ◌++◌, ap, subst, sym, arith}
+use Rattle.std.proofs.Common.{◌∷◌, ◌++◌, max, ap, refl, subst, sym, arith}
 use Rattle.std.proofs.Math.Nat.{mul-le-mul_left}
 use Rattle.luma_field.specs.Parts.{whole_parts}
 use Rattle.luma_field.specs.Raster.{RasterSize}
@@ -14,204 +14,514 @@ use Rattle.luma_row.specs.Levels.{number_of, says_bits}
 use Rattle.luma_row.specs.Light.{fall, IsRow}
 use Rattle.luma_row.specs.Place.{apart, pair_fall, score}
 use Rattle.luma_row.specs.Row.{IsCode, LiesAt}
-use Rattle.luma_row.specs.Width.{grain}
+use Rattle.luma_row.specs.Width.{distance, grain, start}
 use Rattle.luma_truth.specs.Drawing.{Drawing, IsDrawn}
 use Rattle.luma_truth.specs.Inside.{core, HasMargin, LiesInside}
-use Rattle.luma_truth.specs.Whole.{IsOnWholePixels}
+use Rattle.luma_truth.specs.Whole.{IsLookedAt, IsOnWholePixels}
 use Rattle.luma_truth.proofs.CleanDrawing.{carries_its_word}
 use Rattle.luma_truth.proofs.FirstOfAll.{stands_first}
 use Rattle.luma_truth.proofs.LineOfAField.{has_its_line, OneCode}
-use Rattle.luma_truth.proofs.Kept.{refines_kept, IsKept}
-use Rattle.luma_truth.proofs.NearPairs.{at_pair, pair_is, IsClose}
+use Rattle.luma_truth.proofs.Kept.{refines_kept, IsKept, IsShort}
+use Rattle.luma_truth.proofs.NearPairs.{
+  at_pair, end_of_pair, nine, pair_is, pair_within, room_before, FallsEnough, HasRoom, IsClose,
+}
 use Rattle.luma_truth.proofs.NoLess.{none_before}
-use Rattle.luma_truth.proofs.OnPixels.{edge_at, end_of, is_lit, IsLit}
+use Rattle.luma_truth.proofs.OnPixels.{cell_of, edge_at, end_of, is_lit, IsLit}
 use Rattle.luma_truth.proofs.Rest.{rest_of}
-use Rattle.luma_truth.proofs.Searched.{finds_the_pixel, sum_from, sum_is_enough}
+use Rattle.luma_truth.proofs.Searched.{finds_the_pixel, sum_from, sum_is_enough, IsSought}
 
 -- ---- where the search of whole pixels comes out
 
-abbrev coarse_at : ℕ → Place
-coarse_at end = record { first = end + 4; last = end + 19204 }
-
--- a quarter of a pixel late, a fall lacks at most eight of its 240 sixteenths
-fall_beside : (word dark swing twos end : ℕ) (row : List ℕ) → IsLit word dark swing twos end row → (pair : ℕ) → pair < 9
-    → (before place behind : ℕ) → before + 236 ≡ end + 2400 * pair → place ≡ end + 2400 * pair + 4
-    → behind ≡ end + 2400 * pair + 244 → EVEN + 232 * swing ≤ fall row before place behind
+-- a little late, a fall lacks at most twice the swing of each sixteenth that it is late
+falls_late : (word dark swing cell end : ℕ) (row : List ℕ) → IsLit word dark swing cell end row → (pair : ℕ)
+    → pair < 9 → (before k o place behind : ℕ) → before + k ≡ end_of_pair cell end pair → k + o ≡ cell
+    → end_of_pair cell end pair + o ≡ place → place + cell ≡ behind → behind ≤ 16 * length row
+    → EVEN + swing * k ≤ fall row before place behind + swing * o
 unfolding fall
-fall_beside word dark swing twos end row is pair h before place behind a b c =
-    let end_is = is.within in
-    let true_end = end + 2400 * pair in
-    let one = is.bright (10 * pair) before 236 true_end (omega arith) (is.ones pair h) a (omega (arith, a))
+falls_late word dark swing cell end row is pair h before k o place behind a whole b c within =
+    let true_end = end_of_pair cell end pair in
+    let one = is.bright (10 * pair) before k true_end (omega (arith, h)) (is.ones pair h) a (omega (arith, a, whole))
     (omega arith) in
-    let two = is.least true_end 4 place (omega (arith, b)) (omega (arith, b, end_is)) in
-    let three = is.dim (10 * pair + 1) place 236 (true_end + 240) (omega arith) (is.zeros pair h) (omega (arith, b))
-    (omega (arith, b)) (omega arith) in
-    let four = is.most (true_end + 240) 4 behind (omega (arith, c)) (omega (arith, c, end_is)) in
+    let two = is.least true_end o place b (omega (arith, c, within)) in
+    let three = is.dim (10 * pair + 1) place k (true_end + cell) (omega (arith, h)) (is.zeros pair h)
+    (omega (arith, b, whole)) (omega (arith, b)) (omega arith) in
+    let four = is.most (true_end + cell) o behind (omega (arith, b, c)) within in
     omega (arith, one, two, three, four)
 
-pair_beside : (word dark swing twos end : ℕ) (row : List ℕ) → IsLit word dark swing twos end row → (pair : ℕ) → pair < 9
-    → EVEN + 232 * swing ≤ pair_fall row (coarse_at end) pair
-pair_beside word dark swing twos end row is pair h =
-    let end_is = is.end_is in
-    let wide : apart (coarse_at end) ≡ 19200 = omega arith in
-    let same = pair_is row (coarse_at end) pair (omega (arith, wide, end_is)) in
-    let m = ap (λ (n : ℕ). n * (80 * pair)) wide in
-    let at : at_pair (coarse_at end) pair ≡ 640 * (end + 4 + 2400 * pair) = omega (arith, m) in
-    let falls = fall_beside word dark swing twos end row is pair h
-    ((at_pair (coarse_at end) pair - 8 * apart (coarse_at end)) / 640) (at_pair (coarse_at end) pair / 640)
-    ((at_pair (coarse_at end) pair + 8 * apart (coarse_at end)) / 640) (omega (arith, at, wide, end_is))
-    (omega (arith, at)) (omega (arith, at, wide)) in
-    omega (arith, same, falls)
+-- and a little early
+falls_early : (word dark swing cell end : ℕ) (row : List ℕ) → IsLit word dark swing cell end row → (pair : ℕ)
+    → pair < 9 → (before k o place behind : ℕ) → before + cell ≡ place → k + o ≡ cell
+    → place + o ≡ end_of_pair cell end pair → place + cell ≡ behind → end_of_pair cell end pair + cell ≤ 16 * length row
+    → EVEN + swing * k ≤ fall row before place behind + swing * o
+unfolding fall
+falls_early word dark swing cell end row is pair h before k o place behind a whole b c within =
+    let true_end = end_of_pair cell end pair in
+    let one = is.least before o (before + o) refl (omega (arith, a, whole, b, within)) in
+    let two = is.bright (10 * pair) (before + o) k place (omega (arith, h)) (is.ones pair h) (omega (arith, a, whole))
+    (omega (arith, a, b)) (omega (arith, b)) in
+    let three = is.most place o true_end b (omega (arith, within)) in
+    let four = is.dim (10 * pair + 1) true_end k behind (omega (arith, h)) (is.zeros pair h) (omega (arith, b, c, whole))
+    (omega arith) (omega (arith, b, c)) in
+    omega (arith, one, two, three, four)
 
-coarse_kept : (word dark swing twos end : ℕ) (row : List ℕ) → IsLit word dark swing twos end row
-    → IsKept swing end row (coarse_at end)
-unfolding score
-coarse_kept word dark swing twos end row is =
-    let end_is = is.end_is in
-    let sum = sum_from 9 (EVEN + 232 * swing) (pair_fall row (coarse_at end))
-    (pair_beside word dark swing twos end row is) in
-    record {
-      close = record {
-        first_below = omega arith;
-        first_above = omega arith;
-        last_below = omega arith;
-        last_above = omega arith;
-      };
-      front = omega (arith, end_is);
-      falls = omega (arith, sum);
-    }
-
--- ---- the cores
-
-core_begins : (end first apart bit : ℕ) → bit < 90 → end ≤ first + 23 → first ≤ end + 23
-    → end + 19200 ≤ first + apart + 23 → first + apart ≤ end + 19200 + 23 → apart ≤ 80 * first
-    → 640 * end + 153600 * bit ≤ 640 * ((640 * first + apart * (8 * bit + 1) - 8 * apart) / 640) + 153600
-core_begins end first apart bit h fb fa lb la front =
-    let cases : (19200 ≤ apart) ⊎ (apart ≤ 19200) = grind arith in
+-- so many sixteenths from the true place, or less
+falls_beside : (word dark swing cell end near : ℕ) (row : List ℕ) (place : ℕ) → IsLit word dark swing cell end row
+    → near ≤ cell → cell ≤ place → (pair : ℕ) → pair < 9 → end_of_pair cell end pair ≤ place + near
+    → place ≤ end_of_pair cell end pair + near
+    → EVEN + swing * cell ≤ fall row (place - cell) place (place + cell) + 2 * (swing * near)
+falls_beside word dark swing cell end near row place is short some pair h below above =
+    let within = pair_within word dark swing cell end row is pair h in
+    let true_end = end_of_pair cell end pair in
+    let cases : (true_end ≤ place) ⊎ (place ≤ true_end) = grind arith in
     elim cases [
-      | inl wide ↦ let m = mul-le-mul_left bit wide in omega (arith, m)
-      | inr narrow ↦
-          let e = rest_of apart 19200 narrow in
-          let p = e.1 in
-          let few : bit ≤ 89 = omega arith in
-          let m = mul-le-mul_left e.0 few in
-          let all = ap (λ (n : ℕ). n * bit) p in
-          omega (arith, m, all, p)
+      | inl late ↦
+          let o = rest_of true_end place late in
+          let p = o.1 in
+          let k = rest_of o.0 cell (omega (arith, p, above, short)) in
+          let q = k.1 in
+          let falls = falls_late word dark swing cell end row is pair h (place - cell) k.0 o.0 place (place + cell)
+          (omega (arith, p, q, some)) (omega (arith, q)) (omega (arith, p)) refl (omega (arith, within, above, short)) in
+          let all = ap (λ (n : ℕ). swing * n) q in
+          let beside : o.0 ≤ near = omega (arith, p, above) in
+          let lost = mul-le-mul_left swing beside in
+          omega (arith, falls, all, lost)
+      | inr early ↦
+          let o = rest_of place true_end early in
+          let p = o.1 in
+          let k = rest_of o.0 cell (omega (arith, p, below, short)) in
+          let q = k.1 in
+          let falls = falls_early word dark swing cell end row is pair h (place - cell) k.0 o.0 place (place + cell)
+          (omega (arith, some)) (omega (arith, q)) (omega (arith, p)) refl (omega (arith, within)) in
+          let all = ap (λ (n : ℕ). swing * n) q in
+          let beside : o.0 ≤ near = omega (arith, p, below) in
+          let lost = mul-le-mul_left swing beside in
+          omega (arith, falls, all, lost)
     ]
 
-core_ends : (end first apart bit : ℕ) → bit < 90 → end ≤ first + 23 → first ≤ end + 23
-    → end + 19200 ≤ first + apart + 23 → first + apart ≤ end + 19200 + 23 → apart ≤ 80 * first
-    → 640 * ((640 * first + apart * (8 * bit + 7) - 8 * apart) / 640) ≤ 640 * end + 153600 * bit
-core_ends end first apart bit h fb fa lb la front =
-    let cases : (19200 ≤ apart) ⊎ (apart ≤ 19200) = grind arith in
-    elim cases [
-      | inr narrow ↦ let m = mul-le-mul_left bit narrow in omega (arith, m)
-      | inl wide ↦
-          let e = rest_of 19200 apart wide in
-          let p = e.1 in
-          let few : bit ≤ 89 = omega arith in
-          let m = mul-le-mul_left e.0 few in
-          let all = ap (λ (n : ℕ). n * bit) p in
-          omega (arith, m, all, p)
-    ]
+-- where the places before and behind are a sixteenth of a pixel off, the light of two sixteenths may be lacking
+falls_rounded : (word dark swing cell end : ℕ) (row : List ℕ) → IsLit word dark swing cell end row
+    → (before place behind : ℕ) → cell ≤ place → before ≤ place - cell + 1 → behind ≤ place + cell + 1
+    → place + cell + 1 ≤ 16 * length row
+    → fall row (place - cell) place (place + cell) ≤ fall row before place behind + 2 * (dark + swing)
+unfolding fall
+falls_rounded word dark swing cell end row is before place behind some a b within =
+    let n = rest_of before (place - cell + 1) a in
+    let m = rest_of behind (place + cell + 1) b in
+    let one = is.least before n.0 (place - cell + 1) n.1 (omega (arith, within)) in
+    let two = is.most (place - cell) 1 (place - cell + 1) refl (omega (arith, within)) in
+    let three = is.least behind m.0 (place + cell + 1) m.1 within in
+    let four = is.most (place + cell) 1 (place + cell + 1) refl within in
+    omega (arith, one, two, three, four)
 
-close_inside : (drawing : Drawing) (is : IsOnWholePixels drawing) (place : Place) → IsClose (end_of drawing is) 23 place
-    → apart place ≤ 80 * place.first → LiesInside drawing place
-close_inside drawing is place close front =
-    let begins = is.begins in
+-- a pair whose 1 is looked for near where it ends
+pair_beside : (word dark swing cell end near : ℕ) (row : List ℕ) (place : Place) → IsLit word dark swing cell end row
+    → 48 * (near + 1) ≤ cell → 128 ≤ cell → near ≤ 8 → apart place ≤ 80 * place.first → IsClose cell end near place
+    → (pair : ℕ) → pair < 9
+    → 640 * end_of_pair cell end pair ≤ at_pair place pair + 640 * near
+    → at_pair place pair ≤ 640 * end_of_pair cell end pair + 640 * near
+    → EVEN + swing * cell ≤ pair_fall row place pair + 2 * (swing * (near + 2))
+pair_beside word dark swing cell end near row place is room some half front close pair h below above =
     let fb = close.first_below in
     let fa = close.first_above in
     let lb = close.last_below in
     let la = close.last_above in
-    let whole : place.first + apart place ≡ place.last = omega (arith, fa, lb) in
+    let early = is.early in
+    let dim = is.few in
+    let within = pair_within word dark swing cell end row is pair h in
+    let same = pair_is row place pair front in
+    let middle = at_pair place pair / 640 in
+    let least : end_of_pair cell end pair ≤ middle + near = omega (arith, below) in
+    let most : middle ≤ end_of_pair cell end pair + near = omega (arith, above) in
+    let behind_first = room_before place.first (apart place) (80 * pair) front in
+    let enough : cell ≤ middle = omega (arith, behind_first, fa, lb, front) in
+    let falls = falls_beside word dark swing cell end near row middle is (omega (arith, room)) enough pair h least most in
+    let rounded = falls_rounded word dark swing cell end row is ((at_pair place pair - 8 * apart place) / 640) middle
+    ((at_pair place pair + 8 * apart place) / 640) enough (omega (arith, behind_first, fa, lb, half))
+    (omega (arith, fb, la, half)) (omega (arith, most, within, room)) in
+    omega (arith, same, falls, rounded, dim)
+
+-- where the distance is that of 80 cells, nothing is rounded
+pair_exact : (word dark swing cell end near : ℕ) (row : List ℕ) (place : Place) → IsLit word dark swing cell end row
+    → near ≤ cell → apart place ≡ 80 * cell → cell ≤ place.first → end ≤ place.first + near → place.first ≤ end + near
+    → (pair : ℕ) → pair < 9 → EVEN + swing * cell ≤ pair_fall row place pair + 2 * (swing * near)
+pair_exact word dark swing cell end near row place is short wide some below above pair h =
+    let first = place.first in
+    let same = pair_is row place pair (omega (arith, wide, some)) in
+    let m = ap (λ (n : ℕ). n * (80 * pair)) wide in
+    let at : at_pair place pair ≡ 640 * end_of_pair cell first pair = omega (arith, m) in
+    let before : (at_pair place pair - 8 * apart place) / 640 ≡ end_of_pair cell first pair - cell
+    = omega (arith, at, wide) in
+    let middle : at_pair place pair / 640 ≡ end_of_pair cell first pair = omega (arith, at) in
+    let behind : (at_pair place pair + 8 * apart place) / 640 ≡ end_of_pair cell first pair + cell
+    = omega (arith, at, wide) in
+    let falls = falls_beside word dark swing cell end near row (end_of_pair cell first pair) is short
+    (omega (arith, some)) pair h (omega (arith, below)) (omega (arith, above)) in
+    let there : fall row ((at_pair place pair - 8 * apart place) / 640) (at_pair place pair / 640)
+    ((at_pair place pair + 8 * apart place) / 640)
+    ≡ fall row (end_of_pair cell first pair - cell) (end_of_pair cell first pair) (end_of_pair cell first pair + cell)
+    = rw (before, middle, behind) refl in
+    omega (arith, same, falls, there)
+
+-- nine of them
+nine_enough : (swing cell near : ℕ) (row : List ℕ) (place : Place)
+    → ((pair : ℕ) → pair < 9 → EVEN + swing * cell ≤ pair_fall row place pair + 2 * (swing * near))
+    → FallsEnough swing cell near (score row place)
+unfolding score
+nine_enough swing cell near row place each =
+    let p0 = each 0 (omega arith) in
+    let p1 = each 1 (omega arith) in
+    let p2 = each 2 (omega arith) in
+    let p3 = each 3 (omega arith) in
+    let p4 = each 4 (omega arith) in
+    let p5 = each 5 (omega arith) in
+    let p6 = each 6 (omega arith) in
+    let p7 = each 7 (omega arith) in
+    let p8 = each 8 (omega arith) in
+    let sum = nine (pair_fall row place) in
+    omega (arith, sum, p0, p1, p2, p3, p4, p5, p6, p7, p8)
+
+closer : (cell end near far : ℕ) (place : Place) → near ≤ far → IsClose cell end near place → IsClose cell end far place
+closer cell end near far place le close =
+    let fb = close.first_below in
+    let fa = close.first_above in
+    let lb = close.last_below in
+    let la = close.last_above in
+    record {
+      first_below = omega (arith, fb, le);
+      first_above = omega (arith, fa, le);
+      last_below = omega (arith, lb, le);
+      last_above = omega (arith, la, le);
+    }
+
+-- each pair is as near as both ends are
+at_least : (cell end near first apart last pair : ℕ) → pair < 9 → first + apart ≡ last → end ≤ first + near
+    → end + 80 * cell ≤ last + near
+    → 640 * end_of_pair cell end pair ≤ 640 * first + apart * (80 * pair) + 640 * near
+at_least cell end near first apart last pair h whole fb lb =
+    let rest = rest_of pair 8 (omega (arith, h)) in
+    let e = rest.1 in
+    let a = mul-le-mul_left rest.0 fb in
+    let b = mul-le-mul_left pair lb in
+    let firsts = ap (λ (k : ℕ). k * first) e in
+    let ends = ap (λ (k : ℕ). k * end) e in
+    let nears = ap (λ (k : ℕ). k * near) e in
+    let all = ap (λ (k : ℕ). pair * k) whole in
+    omega (arith, a, b, firsts, ends, nears, all)
+
+at_most : (cell end near first apart last pair : ℕ) → pair < 9 → first + apart ≡ last → first ≤ end + near
+    → last ≤ end + 80 * cell + near
+    → 640 * first + apart * (80 * pair) ≤ 640 * end_of_pair cell end pair + 640 * near
+at_most cell end near first apart last pair h whole fa la =
+    let rest = rest_of pair 8 (omega (arith, h)) in
+    let e = rest.1 in
+    let a = mul-le-mul_left rest.0 fa in
+    let b = mul-le-mul_left pair la in
+    let firsts = ap (λ (k : ℕ). k * first) e in
+    let ends = ap (λ (k : ℕ). k * end) e in
+    let nears = ap (λ (k : ℕ). k * near) e in
+    let all = ap (λ (k : ℕ). pair * k) whole in
+    omega (arith, a, b, firsts, ends, nears, all)
+
+kept_exact : (word dark swing cell end near : ℕ) (row : List ℕ) (place : Place) → IsLit word dark swing cell end row
+    → near ≤ cell → apart place ≡ 80 * cell → apart place ≤ 80 * place.first → IsClose cell end near place
+    → IsKept swing cell end near row place
+kept_exact word dark swing cell end near row place is short wide front close = record {
+  close = closer cell end near (5 * near + 4) place (omega arith) close;
+  front = front;
+  falls = nine_enough swing cell near row place
+      (pair_exact word dark swing cell end near row place is short wide (omega (arith, wide, front)) close.first_below
+      close.first_above);
+}
+
+kept_rounded : (word dark swing cell end near : ℕ) (row : List ℕ) (place : Place) → IsLit word dark swing cell end row
+    → 48 * (near + 1) ≤ cell → 128 ≤ cell → near ≤ 8 → apart place ≤ 80 * place.first → IsClose cell end near place
+    → IsKept swing cell end (near + 2) row place
+kept_rounded word dark swing cell end near row place is room some half front close =
+    let fb = close.first_below in
+    let fa = close.first_above in
+    let lb = close.last_below in
+    let la = close.last_above in
+    record {
+      close = closer cell end near (5 * (near + 2) + 4) place (omega arith) close;
+      front = front;
+      falls = nine_enough swing cell (near + 2) row place (λ pair h.
+          pair_beside word dark swing cell end near row place is room some half front close pair h
+          (at_least cell end near place.first (apart place) place.last pair h (omega (arith, fa, lb, room)) fb lb)
+          (at_most cell end near place.first (apart place) place.last pair h (omega (arith, fa, lb, room)) fa la));
+    }
+
+-- ---- the cores
+
+core_begins : (cell end near first apart bit : ℕ) → bit < 90 → near ≤ 11 → 48 * (near + 1) ≤ cell
+    → end ≤ first + (5 * near + 4) → first ≤ end + (5 * near + 4) → end + 80 * cell ≤ first + apart + (5 * near + 4)
+    → first + apart ≤ end + 80 * cell + (5 * near + 4) → apart ≤ 80 * first
+    → 640 * end + 640 * (cell * bit) ≤ 640 * ((640 * first + apart * (8 * bit + 1) - 8 * apart) / 640) + 640 * cell
+core_begins cell end near first apart bit h few room fb fa lb la front =
+    let cases : (80 * cell ≤ apart) ⊎ (apart ≤ 80 * cell) = grind arith in
+    elim cases [
+      | inl wide ↦ let m = mul-le-mul_left bit wide in omega (arith, m, wide, few, room, fb, fa, lb, la, front)
+      | inr narrow ↦
+          let e = rest_of apart (80 * cell) narrow in
+          let p = e.1 in
+          let most : bit ≤ 89 = omega (arith, h) in
+          let m = mul-le-mul_left e.0 most in
+          let all = ap (λ (n : ℕ). n * bit) p in
+          omega (arith, m, all, p, few, room, fb, fa, lb, la, front)
+    ]
+
+core_ends : (cell end near first apart bit : ℕ) → bit < 90 → near ≤ 11 → 48 * (near + 1) ≤ cell
+    → end ≤ first + (5 * near + 4) → first ≤ end + (5 * near + 4) → end + 80 * cell ≤ first + apart + (5 * near + 4)
+    → first + apart ≤ end + 80 * cell + (5 * near + 4) → apart ≤ 80 * first
+    → 640 * ((640 * first + apart * (8 * bit + 7) - 8 * apart) / 640) ≤ 640 * end + 640 * (cell * bit)
+core_ends cell end near first apart bit h few room fb fa lb la front =
+    let cases : (80 * cell ≤ apart) ⊎ (apart ≤ 80 * cell) = grind arith in
+    elim cases [
+      | inr narrow ↦ let m = mul-le-mul_left bit narrow in omega (arith, m, narrow, few, room, fb, fa, lb, la, front)
+      | inl wide ↦
+          let e = rest_of (80 * cell) apart wide in
+          let p = e.1 in
+          let most : bit ≤ 89 = omega (arith, h) in
+          let m = mul-le-mul_left e.0 most in
+          let all = ap (λ (n : ℕ). n * bit) p in
+          omega (arith, m, all, p, few, room, fb, fa, lb, la, front)
+    ]
+
+close_inside : (drawing : Drawing) (is : IsOnWholePixels drawing) (near : ℕ) (place : Place)
+    → HasRoom (cell_of drawing is) near → IsClose (cell_of drawing is) (end_of drawing is) (5 * near + 4) place
+    → apart place ≤ 80 * place.first → LiesInside drawing place
+close_inside drawing is near place room close front =
+    let fb = close.first_below in
+    let fa = close.first_above in
+    let lb = close.last_below in
+    let la = close.last_above in
+    let few = room.few in
+    let r = room.room in
+    let whole : place.first + apart place ≡ place.last = omega (arith, fa, lb, r) in
     record {
       in_row = front;
       begins = λ bit h.
           let e = edge_at drawing bit is in
-          let c = core_begins (end_of drawing is) place.first (apart place) bit h fb fa (omega (arith, whole, lb))
-          (omega (arith, whole, la)) front in
-          omega (arith, e, c, begins);
+          let c = core_begins (cell_of drawing is) (end_of drawing is) near place.first (apart place) bit h few r fb fa
+          (omega (arith, whole, lb)) (omega (arith, whole, la)) front in
+          omega (arith, e, c);
       ends = λ bit h.
           let e = edge_at drawing (bit + 1) is in
-          let c = core_ends (end_of drawing is) place.first (apart place) bit h fb fa (omega (arith, whole, lb))
-          (omega (arith, whole, la)) front in
-          omega (arith, e, c, begins);
+          let c = core_ends (cell_of drawing is) (end_of drawing is) near place.first (apart place) bit h few r fb fa
+          (omega (arith, whole, lb)) (omega (arith, whole, la)) front in
+          omega (arith, e, c);
     }
 
-margin_at : (dark swing noise core : ℕ) → dark ≤ swing → noise ≡ 0 → 179 ≤ core
+margin_at : (dark swing noise core : ℕ) → dark ≤ swing → noise ≡ 0 → 36 ≤ core
     → 204 * (dark + noise * (core + 1)) + 2299 * swing ≤ 70 * (swing * core)
 margin_at dark swing noise core few none long =
     let m = mul-le-mul_left swing long in
     let n = ap (λ (k : ℕ). k * (core + 1)) none in
-    omega (arith, m, n)
+    omega (arith, m, n, few)
 
-close_has_margin : (drawing : Drawing) (is : IsOnWholePixels drawing) (place : Place)
-    → IsClose (end_of drawing is) 23 place → HasMargin drawing place
-close_has_margin drawing is place close =
+close_has_margin : (drawing : Drawing) (is : IsOnWholePixels drawing) (near : ℕ) (place : Place)
+    → HasRoom (cell_of drawing is) near → IsClose (cell_of drawing is) (end_of drawing is) (5 * near + 4) place
+    → HasMargin drawing place
+close_has_margin drawing is near place room close =
     let fa = close.first_above in
     let lb = close.last_below in
-    margin_at drawing.dark drawing.swing drawing.noise (core place) is.levels is.exact (omega (arith, fa, lb))
+    let wide = room.wide in
+    let r = room.room in
+    margin_at drawing.dark drawing.swing drawing.noise (core place) is.levels is.exact (omega (arith, fa, lb, wide, r))
 
 -- ---- the place of the word
 
+-- a place that is looked at
+abbrev sought_at : ℕ → ℕ → List ℕ → Place
+sought_at wide early row = record {
+  first = start (length row) early;
+  last = start (length row) early + distance (length row) wide;
+}
+
 -- where the word of a row lies, near the true place
-pub record LiesNear (swing end : ℕ) (row : List ℕ) : Type 0 where
+pub record LiesNear (swing cell end near : ℕ) (row : List ℕ) : Type 0 where
   pub place : Place
   pub lies : LiesAt row place
-  pub kept : IsKept swing end row place
+  pub kept : IsKept swing cell end near row place
 
-lies_near : (word dark swing twos end : ℕ) (row : List ℕ) → IsLit word dark swing twos end row → LiesNear swing end row
-lies_near word dark swing twos end row is =
-    let long = is.long in
-    let few : 2 * grain (length row) ≤ 64 = omega (arith, long) in
-    let found = refines_kept word dark swing twos end row (2 * grain (length row)) 8 (coarse_at end) is few
-    (coarse_kept word dark swing twos end row is) in
-    let first = none_before row found.0 (stands_first word dark swing twos end row found.0 is found.2) in
+lies_near : (word dark swing cell end near wide early : ℕ) (row : List ℕ) → IsLit word dark swing cell end row
+    → HasRoom cell near → IsSought cell end wide early row → IsKept swing cell end near row (sought_at wide early row)
+    → LiesNear swing cell end near row
+lies_near word dark swing cell end near wide early row is room sought kept =
+    let narrow = sought.narrow in
+    let r = room.room in
+    let short : IsShort cell near (2 * grain (length row)) = omega (arith, narrow, r) in
+    let coarse = sought_at wide early row in
+    let found = refines_kept word dark swing cell end near row (2 * grain (length row)) 8 coarse is room.wide short kept
+    in
+    let none = none_before row found.0 (stands_first word dark swing cell end near row found.0 is room found.2) in
     record {
       place = found.0;
       lies = record {
-        coarse = coarse_at end;
-        sum = best_at row 15;
-        is_coarse = finds_the_pixel word dark swing twos end row is;
-        falls = sum_is_enough word dark swing twos end row is;
+        coarse = coarse;
+        sum = best_at row wide;
+        is_coarse = finds_the_pixel word dark swing cell end wide early row is sought;
+        falls = sum_is_enough word dark swing cell end wide early row is sought;
         deepest = found.0;
         fine = found.1;
-        earliest_is = sym first;
+        earliest_is = sym none;
       };
       kept = found.2;
     }
 
-is_row : (row : List ℕ) → length row ≡ 1440 → IsRow row
-is_row row long = (omega (arith, long), omega (arith, long))
+-- ---- where a drawing on whole pixels is looked at
 
-pub is_found : (drawing : Drawing) (row : List ℕ) → length row ≡ 1440 → IsDrawn drawing row → IsOnWholePixels drawing
+is_sought : (drawing : Drawing) (row : List ℕ) → IsDrawn drawing row → (is : IsOnWholePixels drawing)
+    → (sought : IsLookedAt drawing (length row))
+    → IsSought (cell_of drawing is) (end_of drawing is) sought.wide sought.early row
+is_sought drawing row drawn is sought =
+    let cells = is.cells in
+    let narrow = sought.cells in
+    let wide = drawn.of_row.wide in
+    record {
+      large = sought.large;
+      narrow = omega (arith, cells, narrow);
+      broad = omega (arith, cells, wide);
+      one_distance = sought.one_distance;
+      one_start = sought.one_start;
+      pixels = λ pair h.
+          let pixel = sought.pixels pair h in
+          let there = edge_at drawing (10 * pair + 1) is in
+          omega (arith, pixel, there);
+    }
+
+-- how far both ends are from the true ones at most, in sixteenths of a pixel
+abbrev beside : ℕ → ℕ → ℕ
+beside a b = (a - b) + (b - a)
+
+abbrev beside_ends : ℕ → ℕ → Place → ℕ
+beside_ends cell end place = max (beside place.first end) (beside place.last (end + 80 * cell))
+
+is_close : (cell end : ℕ) (place : Place) → IsClose cell end (beside_ends cell end place) place
+is_close cell end place = record {
+  first_below = omega arith;
+  first_above = omega arith;
+  last_below = omega arith;
+  last_above = omega arith;
+}
+
+-- where the word of a drawing lies
+pub record LiesThere (drawing : Drawing) (row : List ℕ) (is : IsOnWholePixels drawing) : Type 0 where
+  pub near : ℕ
+  pub room : HasRoom (cell_of drawing is) near
+  pub lies : LiesNear drawing.swing (cell_of drawing is) (end_of drawing is) near row
+
+-- how much room there is, with so many sixteenths more
+room_of : (drawing : Drawing) (row : List ℕ) (is : IsOnWholePixels drawing) (sought : IsLookedAt drawing (length row))
+    → (near : ℕ) → near ≡ beside_ends (cell_of drawing is) (end_of drawing is) (sought_at sought.wide sought.early row)
+    → (near ≤ 8) × (128 ≤ cell_of drawing is) × (48 * (near + sought.more) ≤ cell_of drawing is)
+room_of drawing row is sought near near_is =
+    let cells = is.cells in
+    let first_is = edge_at drawing 1 is in
+    let last_is = edge_at drawing 81 is in
+    let large = sought.large in
+    let narrow = sought.cells in
+    let a = sought.first.half_above in
+    let b = sought.first.half_below in
+    let c = sought.last.half_above in
+    let d = sought.last.half_below in
+    let e = sought.first.above in
+    let f = sought.first.below in
+    let g = sought.last.above in
+    let h = sought.last.below in
+    let x : beside (start (length row) sought.early) (end_of drawing is) ≤ 8 = omega (arith, first_is, cells, a, b) in
+    let y : beside (start (length row) sought.early + distance (length row) sought.wide)
+    (end_of drawing is + 80 * cell_of drawing is) ≤ 8 = omega (arith, last_is, cells, c, d) in
+    let z : 48 * (beside (start (length row) sought.early) (end_of drawing is) + sought.more) ≤ cell_of drawing is
+    = omega (arith, first_is, cells, e, f) in
+    let w : 48 * (beside (start (length row) sought.early + distance (length row) sought.wide)
+    (end_of drawing is + 80 * cell_of drawing is) + sought.more) ≤ cell_of drawing is
+    = omega (arith, last_is, cells, g, h) in
+    (omega (arith, near_is, x, y), omega (arith, cells, large, narrow), omega (arith, near_is, z, w))
+
+lies_there : (drawing : Drawing) (row : List ℕ) → IsDrawn drawing row → (is : IsOnWholePixels drawing)
+    → IsLookedAt drawing (length row) → LiesThere drawing row is
+lies_there drawing row drawn is sought =
+    let word = drawing.word in
+    let dark = drawing.dark in
+    let swing = drawing.swing in
+    let cell = cell_of drawing is in
+    let end = end_of drawing is in
+    let cells = is.cells in
+    let coarse = sought_at sought.wide sought.early row in
+    let near = beside_ends cell end coarse in
+    let lit = is_lit drawing row drawn is in
+    let there = is_sought drawing row drawn is sought in
+    let rooms = room_of drawing row is sought near refl in
+    let half = rooms.0 in
+    let some = rooms.1 in
+    let room = rooms.2 in
+    let whole : apart coarse ≡ distance (length row) sought.wide = omega arith in
+    let in_row = sought.in_row in
+    let front : apart coarse ≤ 80 * coarse.first = omega (arith, whole, in_row) in
+    let close = is_close cell end coarse in
+    elim sought.enough [
+      | inl exact ↦
+          let more = exact.0 in
+          let wide = exact.1 in
+          let has : HasRoom cell near = record {
+            few = omega (arith, half);
+            wide = some;
+            room = omega (arith, room, more);
+          } in
+          let kept = kept_exact word dark swing cell end near row coarse lit (omega (arith, room)) (omega (arith, whole,
+          wide, cells)) front close in
+          record {
+            near = near;
+            room = has;
+            lies = lies_near word dark swing cell end near sought.wide sought.early row lit has there kept;
+          }
+      | inr more ↦
+          let has : HasRoom cell (near + 2) = record {
+            few = omega (arith, half);
+            wide = some;
+            room = omega (arith, room, more);
+          } in
+          let kept = kept_rounded word dark swing cell end near row coarse lit (omega (arith, room, more)) some half front
+          close in
+          record {
+            near = near + 2;
+            room = has;
+            lies = lies_near word dark swing cell end (near + 2) sought.wide sought.early row lit has there kept;
+          }
+    ]
+
+pub is_found : (drawing : Drawing) (row : List ℕ) → IsRow row → IsDrawn drawing row → IsOnWholePixels drawing
+    → IsLookedAt drawing (length row)
     → (code : CodeRow) × IsCode row code × (says_bits code.levels ≡ true) × (number_of code.levels ≡ drawing.word)
-is_found drawing row long drawn is =
-    let near = lies_near drawing.word drawing.dark drawing.swing is.twos (end_of drawing is) row
-    (is_lit drawing row drawn is long) in
-    let code = carries_its_word drawing row near.place (is_row row long) drawn near.lies
-    (close_inside drawing is near.place near.kept.close near.kept.front)
-    (close_has_margin drawing is near.place near.kept.close) in
+is_found drawing row is_row drawn is sought =
+    let there = lies_there drawing row drawn is sought in
+    let near = there.lies in
+    let room = there.room in
+    let code = carries_its_word drawing row near.place is_row drawn near.lies
+    (close_inside drawing is there.near near.place room near.kept.close near.kept.front)
+    (close_has_margin drawing is there.near near.place room near.kept.close) in
     (code.0, code.1, code.3, code.4)
 
 -- and no other word is
 pub only_its_word : ((row : List ℕ) (a b : CodeRow) → IsCode row a → IsCode row b → a ≡ b)
-    → (drawing : Drawing) (row : List ℕ) (code : CodeRow) → length row ≡ 1440 → IsDrawn drawing row
-    → IsOnWholePixels drawing → IsCode row code
+    → (drawing : Drawing) (row : List ℕ) (code : CodeRow) → IsRow row → IsDrawn drawing row
+    → IsOnWholePixels drawing → IsLookedAt drawing (length row) → IsCode row code
     → (says_bits code.levels ≡ true) × (number_of code.levels ≡ drawing.word)
-only_its_word one drawing row code long drawn is read =
-    let found = is_found drawing row long drawn is in
+only_its_word one drawing row code is_row drawn is sought read =
+    let found = is_found drawing row is_row drawn is sought in
     subst (λ (c : CodeRow). (says_bits c.levels ≡ true) × (number_of c.levels ≡ drawing.word))
     (one row found.0 code found.1 read) (found.2, found.3)
 
 -- so a field has its line
 pub has_the_line : OneCode → (drawing : Drawing) (raster : RasterSize) (field lines row : List ℕ)
-    (before behind : List (List ℕ)) → length row ≡ 1440 → IsDrawn drawing row → IsOnWholePixels drawing
-    → looked_at raster (whole_parts raster.width field) ≡ before ++ (row ∷ behind) → length before < 20
-    → SaysLines raster field lines → (first rest : List ℕ) × (lines ≡ first ++ (drawing.word ∷ rest))
-has_the_line one drawing raster field lines row before behind long drawn is looked few said =
-    let near = lies_near drawing.word drawing.dark drawing.swing is.twos (end_of drawing is) row
-    (is_lit drawing row drawn is long) in
-    has_its_line one drawing raster field lines row before behind near.place (is_row row long) drawn near.lies
-    (close_inside drawing is near.place near.kept.close near.kept.front)
-    (close_has_margin drawing is near.place near.kept.close) looked few said
+    (before behind : List (List ℕ)) → IsRow row → IsDrawn drawing row → IsOnWholePixels drawing
+    → IsLookedAt drawing (length row) → looked_at raster (whole_parts raster.width field) ≡ before ++ (row ∷ behind)
+    → length before < 20 → SaysLines raster field lines
+    → (first rest : List ℕ) × (lines ≡ first ++ (drawing.word ∷ rest))
+has_the_line one drawing raster field lines row before behind is_row drawn is sought looked few said =
+    let there = lies_there drawing row drawn is sought in
+    let near = there.lies in
+    let room = there.room in
+    has_its_line one drawing raster field lines row before behind near.place is_row drawn near.lies
+    (close_inside drawing is there.near near.place room near.kept.close near.kept.front)
+    (close_has_margin drawing is there.near near.place room near.kept.close) looked few said
