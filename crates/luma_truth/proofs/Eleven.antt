@@ -60,21 +60,23 @@ odd_is_looked_at drawing whole fits odd =
           let m = ap (λ (n : ℕ). n * pair) cells in
           let k = ap (λ (n : ℕ). n * pair) pixels in
           omega (arith, cells, pixels, begins, odd, m, k);
-      more = 1;
-      enough = inl (refl, omega (arith, cells, pixels));
-      first = record {
-        half_above = omega (arith, cells, pixels, begins, odd);
-        half_below = omega (arith, cells, pixels, begins, odd);
-        above = omega (arith, cells, pixels, begins, odd);
-        below = omega (arith, cells, pixels, begins, odd);
+      beside = record {
+        more = 1;
+        enough = inl (refl, omega (arith, cells, pixels));
+        first = record {
+          half_above = omega (arith, cells, pixels, begins, odd);
+          half_below = omega (arith, cells, pixels, begins, odd);
+          above = omega (arith, cells, pixels, begins, odd);
+          below = omega (arith, cells, pixels, begins, odd);
+        };
+        last = record {
+          half_above = omega (arith, cells, pixels, begins, odd);
+          half_below = omega (arith, cells, pixels, begins, odd);
+          above = omega (arith, cells, pixels, begins, odd);
+          below = omega (arith, cells, pixels, begins, odd);
+        };
+        in_row = omega (arith, odd);
       };
-      last = record {
-        half_above = omega (arith, cells, pixels, begins, odd);
-        half_below = omega (arith, cells, pixels, begins, odd);
-        above = omega (arith, cells, pixels, begins, odd);
-        below = omega (arith, cells, pixels, begins, odd);
-      };
-      in_row = omega (arith, odd);
     }
 
 pub eleven_is_looked_at : IsLookedAt eleven 1440

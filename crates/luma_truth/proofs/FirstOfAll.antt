@@ -45,7 +45,7 @@ fall_at_begin word dark swing cell end row is before k o place r behind a b few 
     omega (arith, one, two, three, four, darker)
 
 -- the fall of the first sync pair; a cell before the row is cut off
-first_falls : (word dark swing cell end : ℕ) (row : List ℕ) → IsLit word dark swing cell end row → 128 ≤ cell
+first_falls : (word dark swing cell end : ℕ) (row : List ℕ) → IsLit word dark swing cell end row → 64 ≤ cell
     → (first apart : ℕ) → apart ≤ 81 * cell → 4 * first + 3 * cell ≤ 4 * end
     → (first + cell ≤ end) ⊎ (79 * cell ≤ apart)
     → fall row ((640 * first - 8 * apart) / 640) first ((640 * first + 8 * apart) / 640) ≤ EVEN + dark
@@ -82,7 +82,7 @@ first_falls word dark swing cell end row is some first apart narrow before cases
 
 -- and that of each other
 other_falls : (word dark swing cell end near : ℕ) (row : List ℕ) → IsLit word dark swing cell end row
-    → near ≤ 11 → 128 ≤ cell → (at apart : ℕ) → apart ≤ 80 * cell + 10 * near + 8
+    → near ≤ 11 → 64 ≤ cell → (at apart : ℕ) → apart ≤ 80 * cell + 10 * near + 8
     → 8 * apart ≤ at → at ≤ 640 * (end + 81 * cell)
     → fall row ((at - 8 * apart) / 640) (at / 640) ((at + 8 * apart) / 640) ≤ EVEN + dark + swing * (cell + 2)
 other_falls word dark swing cell end near row is few_near some at apart narrow front within =
@@ -143,7 +143,7 @@ first_pair_is row place =
     rw (a, b, c) refl
 
 first_pair_falls : (word dark swing cell end : ℕ) (row : List ℕ) (place : Place) → IsLit word dark swing cell end row
-    → 128 ≤ cell → apart place ≤ 81 * cell → 4 * place.first + 3 * cell ≤ 4 * end
+    → 64 ≤ cell → apart place ≤ 81 * cell → 4 * place.first + 3 * cell ≤ 4 * end
     → (place.first + cell ≤ end) ⊎ (79 * cell ≤ apart place) → pair_fall row place 0 ≤ EVEN + dark
 first_pair_falls word dark swing cell end row place is some narrow early cases =
     let same = first_pair_is row place in

@@ -9,7 +9,7 @@ use Rattle.luma_field.specs.Rows.{looked_at, SaysLines}
 use Rattle.luma_row.specs.declared.light.TheConstants.{EVEN}
 use Rattle.luma_row.specs.declared.place.Place.{Place}
 use Rattle.luma_row.specs.declared.row.CodeRow.{CodeRow}
-use Rattle.luma_row.specs.Coarse.{best_at}
+use Rattle.luma_row.specs.Coarse.{best_at, IsCoarse}
 use Rattle.luma_row.specs.Levels.{number_of, says_bits}
 use Rattle.luma_row.specs.Light.{fall, IsRow}
 use Rattle.luma_row.specs.Place.{apart, pair_fall, score}
@@ -17,7 +17,7 @@ use Rattle.luma_row.specs.Row.{IsCode, LiesAt}
 use Rattle.luma_row.specs.Width.{distance, grain, start}
 use Rattle.luma_truth.specs.Drawing.{Drawing, IsDrawn}
 use Rattle.luma_truth.specs.Inside.{core, HasMargin, LiesInside}
-use Rattle.luma_truth.specs.Whole.{IsLookedAt, IsOnWholePixels}
+use Rattle.luma_truth.specs.Whole.{IsBeside, IsLookedAt, IsOnWholePixels}
 use Rattle.luma_truth.proofs.CleanDrawing.{carries_its_word}
 use Rattle.luma_truth.proofs.FirstOfAll.{stands_first}
 use Rattle.luma_truth.proofs.LineOfAField.{has_its_line, OneCode}
@@ -115,7 +115,7 @@ falls_rounded word dark swing cell end row is before place behind some a b withi
 
 -- a pair whose 1 is looked for near where it ends
 pair_beside : (word dark swing cell end near : ℕ) (row : List ℕ) (place : Place) → IsLit word dark swing cell end row
-    → 48 * (near + 1) ≤ cell → 128 ≤ cell → near ≤ 8 → apart place ≤ 80 * place.first → IsClose cell end near place
+    → 48 * (near + 1) ≤ cell → 64 ≤ cell → near ≤ 8 → apart place ≤ 80 * place.first → IsClose cell end near place
     → (pair : ℕ) → pair < 9
     → 640 * end_of_pair cell end pair ≤ at_pair place pair + 640 * near
     → at_pair place pair ≤ 640 * end_of_pair cell end pair + 640 * near
@@ -234,7 +234,7 @@ kept_exact word dark swing cell end near row place is short wide front close = r
 }
 
 kept_rounded : (word dark swing cell end near : ℕ) (row : List ℕ) (place : Place) → IsLit word dark swing cell end row
-    → 48 * (near + 1) ≤ cell → 128 ≤ cell → near ≤ 8 → apart place ≤ 80 * place.first → IsClose cell end near place
+    → 48 * (near + 1) ≤ cell → 64 ≤ cell → near ≤ 8 → apart place ≤ 80 * place.first → IsClose cell end near place
     → IsKept swing cell end (near + 2) row place
 kept_rounded word dark swing cell end near row place is room some half front close =
     let fb = close.first_below in
@@ -330,27 +330,18 @@ close_has_margin drawing is near place room close =
 
 -- ---- the place of the word
 
--- a place that is looked at
-abbrev sought_at : ℕ → ℕ → List ℕ → Place
-sought_at wide early row = record {
-  first = start (length row) early;
-  last = start (length row) early + distance (length row) wide;
-}
-
 -- where the word of a row lies, near the true place
 pub record LiesNear (swing cell end near : ℕ) (row : List ℕ) : Type 0 where
   pub place : Place
   pub lies : LiesAt row place
   pub kept : IsKept swing cell end near row place
 
-lies_near : (word dark swing cell end near wide early : ℕ) (row : List ℕ) → IsLit word dark swing cell end row
-    → HasRoom cell near → IsSought cell end wide early row → IsKept swing cell end near row (sought_at wide early row)
-    → LiesNear swing cell end near row
-lies_near word dark swing cell end near wide early row is room sought kept =
-    let narrow = sought.narrow in
+lies_near : (word dark swing cell end near : ℕ) (row : List ℕ) (sum : ℕ) (coarse : Place)
+    → IsLit word dark swing cell end row → HasRoom cell near → 95 * length row ≤ 600 * cell → IsCoarse row sum coarse
+    → 9 * EVEN < sum → IsKept swing cell end near row coarse → LiesNear swing cell end near row
+lies_near word dark swing cell end near row sum coarse is room narrow is_coarse falls kept =
     let r = room.room in
     let short : IsShort cell near (2 * grain (length row)) = omega (arith, narrow, r) in
-    let coarse = sought_at wide early row in
     let found = refines_kept word dark swing cell end near row (2 * grain (length row)) 8 coarse is room.wide short kept
     in
     let none = none_before row found.0 (stands_first word dark swing cell end near row found.0 is room found.2) in
@@ -358,9 +349,9 @@ lies_near word dark swing cell end near wide early row is room sought kept =
       place = found.0;
       lies = record {
         coarse = coarse;
-        sum = best_at row wide;
-        is_coarse = finds_the_pixel word dark swing cell end wide early row is sought;
-        falls = sum_is_enough word dark swing cell end wide early row is sought;
+        sum = sum;
+        is_coarse = is_coarse;
+        falls = falls;
         deepest = found.0;
         fine = found.1;
         earliest_is = sym none;
@@ -368,26 +359,7 @@ lies_near word dark swing cell end near wide early row is room sought kept =
       kept = found.2;
     }
 
--- ---- where a drawing on whole pixels is looked at
-
-is_sought : (drawing : Drawing) (row : List ℕ) → IsDrawn drawing row → (is : IsOnWholePixels drawing)
-    → (sought : IsLookedAt drawing (length row))
-    → IsSought (cell_of drawing is) (end_of drawing is) sought.wide sought.early row
-is_sought drawing row drawn is sought =
-    let cells = is.cells in
-    let narrow = sought.cells in
-    let wide = drawn.of_row.wide in
-    record {
-      large = sought.large;
-      narrow = omega (arith, cells, narrow);
-      broad = omega (arith, cells, wide);
-      one_distance = sought.one_distance;
-      one_start = sought.one_start;
-      pixels = λ pair h.
-          let pixel = sought.pixels pair h in
-          let there = edge_at drawing (10 * pair + 1) is in
-          omega (arith, pixel, there);
-    }
+-- ---- a drawing beside which the search of whole pixels comes out
 
 -- how far both ends are from the true ones at most, in sixteenths of a pixel
 abbrev beside : ℕ → ℕ → ℕ
@@ -411,55 +383,56 @@ pub record LiesThere (drawing : Drawing) (row : List ℕ) (is : IsOnWholePixels 
   pub lies : LiesNear drawing.swing (cell_of drawing is) (end_of drawing is) near row
 
 -- how much room there is, with so many sixteenths more
-room_of : (drawing : Drawing) (row : List ℕ) (is : IsOnWholePixels drawing) (sought : IsLookedAt drawing (length row))
-    → (near : ℕ) → near ≡ beside_ends (cell_of drawing is) (end_of drawing is) (sought_at sought.wide sought.early row)
-    → (near ≤ 8) × (128 ≤ cell_of drawing is) × (48 * (near + sought.more) ≤ cell_of drawing is)
-room_of drawing row is sought near near_is =
+room_of : (drawing : Drawing) (is : IsOnWholePixels drawing) (place : Place) (besides : IsBeside drawing place)
+    → (near : ℕ) → near ≡ beside_ends (cell_of drawing is) (end_of drawing is) place
+    → (near ≤ 8) × (48 * (near + besides.more) ≤ cell_of drawing is)
+room_of drawing is place besides near near_is =
     let cells = is.cells in
     let first_is = edge_at drawing 1 is in
     let last_is = edge_at drawing 81 is in
-    let large = sought.large in
-    let narrow = sought.cells in
-    let a = sought.first.half_above in
-    let b = sought.first.half_below in
-    let c = sought.last.half_above in
-    let d = sought.last.half_below in
-    let e = sought.first.above in
-    let f = sought.first.below in
-    let g = sought.last.above in
-    let h = sought.last.below in
-    let x : beside (start (length row) sought.early) (end_of drawing is) ≤ 8 = omega (arith, first_is, cells, a, b) in
-    let y : beside (start (length row) sought.early + distance (length row) sought.wide)
-    (end_of drawing is + 80 * cell_of drawing is) ≤ 8 = omega (arith, last_is, cells, c, d) in
-    let z : 48 * (beside (start (length row) sought.early) (end_of drawing is) + sought.more) ≤ cell_of drawing is
+    let a = besides.first.half_above in
+    let b = besides.first.half_below in
+    let c = besides.last.half_above in
+    let d = besides.last.half_below in
+    let e = besides.first.above in
+    let f = besides.first.below in
+    let g = besides.last.above in
+    let h = besides.last.below in
+    let x : beside place.first (end_of drawing is) ≤ 8 = omega (arith, first_is, a, b) in
+    let y : beside place.last (end_of drawing is + 80 * cell_of drawing is) ≤ 8 = omega (arith, last_is, c, d) in
+    let z : 48 * (beside place.first (end_of drawing is) + besides.more) ≤ cell_of drawing is
     = omega (arith, first_is, cells, e, f) in
-    let w : 48 * (beside (start (length row) sought.early + distance (length row) sought.wide)
-    (end_of drawing is + 80 * cell_of drawing is) + sought.more) ≤ cell_of drawing is
+    let w : 48 * (beside place.last (end_of drawing is + 80 * cell_of drawing is) + besides.more) ≤ cell_of drawing is
     = omega (arith, last_is, cells, g, h) in
-    (omega (arith, near_is, x, y), omega (arith, cells, large, narrow), omega (arith, near_is, z, w))
+    (omega (arith, near_is, x, y), omega (arith, near_is, z, w))
 
-lies_there : (drawing : Drawing) (row : List ℕ) → IsDrawn drawing row → (is : IsOnWholePixels drawing)
-    → IsLookedAt drawing (length row) → LiesThere drawing row is
-lies_there drawing row drawn is sought =
+-- a row of 360 pixels has cells of four
+some_cell : (pixels width cell : ℕ) → 360 ≤ width → 95 * (10240 * width) ≤ 9600 * cell → cell ≡ 10240 * pixels
+    → 64 ≤ 16 * pixels
+some_cell pixels width cell least narrow is = omega (arith, least, narrow, is)
+
+lies_there : (drawing : Drawing) (row : List ℕ) (sum : ℕ) (coarse : Place) → IsRow row → IsDrawn drawing row
+    → (is : IsOnWholePixels drawing) → IsCoarse row sum coarse → 9 * EVEN < sum → IsBeside drawing coarse
+    → LiesThere drawing row is
+lies_there drawing row sum coarse is_row drawn is is_coarse falls besides =
     let word = drawing.word in
     let dark = drawing.dark in
     let swing = drawing.swing in
     let cell = cell_of drawing is in
     let end = end_of drawing is in
     let cells = is.cells in
-    let coarse = sought_at sought.wide sought.early row in
     let near = beside_ends cell end coarse in
     let lit = is_lit drawing row drawn is in
-    let there = is_sought drawing row drawn is sought in
-    let rooms = room_of drawing row is sought near refl in
+    let rooms = room_of drawing is coarse besides near refl in
     let half = rooms.0 in
-    let some = rooms.1 in
-    let room = rooms.2 in
-    let whole : apart coarse ≡ distance (length row) sought.wide = omega arith in
-    let in_row = sought.in_row in
-    let front : apart coarse ≤ 80 * coarse.first = omega (arith, whole, in_row) in
+    let room = rooms.1 in
+    let least = is_row.0 in
+    let of_row = drawn.of_row.narrow in
+    let some : 64 ≤ cell = some_cell is.pixels (length row) drawing.cell least of_row cells in
+    let narrow : 95 * length row ≤ 600 * cell = omega (arith, of_row, cells) in
+    let front = besides.in_row in
     let close = is_close cell end coarse in
-    elim sought.enough [
+    elim besides.enough [
       | inl exact ↦
           let more = exact.0 in
           let wide = exact.1 in
@@ -468,12 +441,12 @@ lies_there drawing row drawn is sought =
             wide = some;
             room = omega (arith, room, more);
           } in
-          let kept = kept_exact word dark swing cell end near row coarse lit (omega (arith, room)) (omega (arith, whole,
-          wide, cells)) front close in
+          let kept = kept_exact word dark swing cell end near row coarse lit (omega (arith, room))
+          (omega (arith, wide, cells)) front close in
           record {
             near = near;
             room = has;
-            lies = lies_near word dark swing cell end near sought.wide sought.early row lit has there kept;
+            lies = lies_near word dark swing cell end near row sum coarse lit has narrow is_coarse falls kept;
           }
       | inr more ↦
           let has : HasRoom cell (near + 2) = record {
@@ -486,21 +459,70 @@ lies_there drawing row drawn is sought =
           record {
             near = near + 2;
             room = has;
-            lies = lies_near word dark swing cell end (near + 2) sought.wide sought.early row lit has there kept;
+            lies = lies_near word dark swing cell end (near + 2) row sum coarse lit has narrow is_coarse falls kept;
           }
     ]
+
+-- ---- a drawing that is looked at
+
+is_sought : (drawing : Drawing) (row : List ℕ) → IsDrawn drawing row → (is : IsOnWholePixels drawing)
+    → (sought : IsLookedAt drawing (length row))
+    → IsSought (cell_of drawing is) (end_of drawing is) sought.wide sought.early row
+is_sought drawing row drawn is sought =
+    let cells = is.cells in
+    let narrow = sought.cells in
+    let wide = drawn.of_row.wide in
+    record {
+      large = sought.large;
+      narrow = omega (arith, cells, narrow);
+      broad = omega (arith, cells, wide);
+      one_distance = sought.one_distance;
+      one_start = sought.one_start;
+      pixels = λ pair h.
+          let pixel = sought.pixels pair h in
+          let there = edge_at drawing (10 * pair + 1) is in
+          omega (arith, pixel, there);
+    }
+
+lies_sought : (drawing : Drawing) (row : List ℕ) → IsRow row → IsDrawn drawing row → (is : IsOnWholePixels drawing)
+    → IsLookedAt drawing (length row) → LiesThere drawing row is
+lies_sought drawing row is_row drawn is sought =
+    let lit = is_lit drawing row drawn is in
+    let there = is_sought drawing row drawn is sought in
+    lies_there drawing row (best_at row sought.wide) (record {
+      first = start (length row) sought.early;
+      last = start (length row) sought.early + distance (length row) sought.wide;
+    }) is_row drawn is
+    (finds_the_pixel drawing.word drawing.dark drawing.swing (cell_of drawing is) (end_of drawing is) sought.wide
+    sought.early row lit there)
+    (sum_is_enough drawing.word drawing.dark drawing.swing (cell_of drawing is) (end_of drawing is) sought.wide
+    sought.early row lit there) sought.beside
+
+-- ---- and says its word
+
+says_there : (drawing : Drawing) (row : List ℕ) → IsRow row → IsDrawn drawing row → (is : IsOnWholePixels drawing)
+    → LiesThere drawing row is
+    → (code : CodeRow) × IsCode row code × (says_bits code.levels ≡ true) × (number_of code.levels ≡ drawing.word)
+says_there drawing row is_row drawn is there =
+    let near = there.lies in
+    let code = carries_its_word drawing row near.place is_row drawn near.lies
+    (close_inside drawing is there.near near.place there.room near.kept.close near.kept.front)
+    (close_has_margin drawing is there.near near.place there.room near.kept.close) in
+    (code.0, code.1, code.3, code.4)
 
 pub is_found : (drawing : Drawing) (row : List ℕ) → IsRow row → IsDrawn drawing row → IsOnWholePixels drawing
     → IsLookedAt drawing (length row)
     → (code : CodeRow) × IsCode row code × (says_bits code.levels ≡ true) × (number_of code.levels ≡ drawing.word)
 is_found drawing row is_row drawn is sought =
-    let there = lies_there drawing row drawn is sought in
-    let near = there.lies in
-    let room = there.room in
-    let code = carries_its_word drawing row near.place is_row drawn near.lies
-    (close_inside drawing is there.near near.place room near.kept.close near.kept.front)
-    (close_has_margin drawing is there.near near.place room near.kept.close) in
-    (code.0, code.1, code.3, code.4)
+    says_there drawing row is_row drawn is (lies_sought drawing row is_row drawn is sought)
+
+-- where the search comes out beside it
+pub is_found_beside : (drawing : Drawing) (row : List ℕ) (sum : ℕ) (coarse : Place) → IsRow row → IsDrawn drawing row
+    → IsOnWholePixels drawing → IsCoarse row sum coarse → 9 * EVEN < sum → IsBeside drawing coarse
+    → (code : CodeRow) × IsCode row code × (says_bits code.levels ≡ true) × (number_of code.levels ≡ drawing.word)
+is_found_beside drawing row sum coarse is_row drawn is is_coarse falls besides =
+    says_there drawing row is_row drawn is
+    (lies_there drawing row sum coarse is_row drawn is is_coarse falls besides)
 
 -- and no other word is
 pub only_its_word : ((row : List ℕ) (a b : CodeRow) → IsCode row a → IsCode row b → a ≡ b)
@@ -519,7 +541,7 @@ pub has_the_line : OneCode → (drawing : Drawing) (raster : RasterSize) (field 
     → length before < 20 → SaysLines raster field lines
     → (first rest : List ℕ) × (lines ≡ first ++ (drawing.word ∷ rest))
 has_the_line one drawing raster field lines row before behind is_row drawn is sought looked few said =
-    let there = lies_there drawing row drawn is sought in
+    let there = lies_sought drawing row is_row drawn is sought in
     let near = there.lies in
     let room = there.room in
     has_its_line one drawing raster field lines row before behind near.place is_row drawn near.lies

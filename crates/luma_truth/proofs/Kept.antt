@@ -98,7 +98,7 @@ abbrev pub IsShort : ℕ → ℕ → ℕ → Type 0
 IsShort cell near step = 5 * (5 * near + 4 + step) ≤ 2 * cell
 
 move_kept : (word dark swing cell end near : ℕ) (row : List ℕ) (step : ℕ) (from to : Place)
-    → IsLit word dark swing cell end row → 128 ≤ cell → IsShort cell near step
+    → IsLit word dark swing cell end row → 64 ≤ cell → IsShort cell near step
     → IsKept swing cell end near row from → Moves row step from to → IsKept swing cell end near row to
 move_kept word dark swing cell end near row step from to is some short kept moves =
     let no_less = moves_on row step from to moves in
@@ -119,7 +119,7 @@ move_kept word dark swing cell end near row step from to is some short kept move
     ]
 
 pub climbs_kept : (word dark swing cell end near : ℕ) (row : List ℕ) (step moves : ℕ) (from : Place)
-    → IsLit word dark swing cell end row → 128 ≤ cell → IsShort cell near step
+    → IsLit word dark swing cell end row → 64 ≤ cell → IsShort cell near step
     → IsKept swing cell end near row from
     → (to : Place) × Climbs row step moves from to × IsKept swing cell end near row to
 climbs_kept word dark swing cell end near row step zero from is some short kept = (from, refl, kept)
@@ -140,7 +140,7 @@ halved_short cell near step (suc times) h =
     omega (arith, before)
 
 pub refines_kept : (word dark swing cell end near : ℕ) (row : List ℕ) (step steps : ℕ) (from : Place)
-    → IsLit word dark swing cell end row → 128 ≤ cell → IsShort cell near step
+    → IsLit word dark swing cell end row → 64 ≤ cell → IsShort cell near step
     → IsKept swing cell end near row from
     → (to : Place) × Refines row step steps from to × IsKept swing cell end near row to
 refines_kept word dark swing cell end near row step zero from is some short kept = (from, refl, kept)

@@ -13,7 +13,7 @@ use Rattle.luma_truth.proofs.Rest.{rest_of}
 -- How far beside the true place the search comes out at most, and how wide a cell is then at least.
 pub record HasRoom (cell near : ℕ) : Type 0 where
   pub few : near ≤ 11
-  pub wide : 128 ≤ cell
+  pub wide : 64 ≤ cell
   pub room : 48 * (near + 1) ≤ cell
 
 -- the sum of nine
@@ -81,7 +81,7 @@ pair_within word dark swing cell end row is pair h =
     let m = mul-le-mul_left cell few in
     omega (arith, within, m)
 
-worth_at : (word dark swing cell end : ℕ) (row : List ℕ) → IsLit word dark swing cell end row → 128 ≤ cell
+worth_at : (word dark swing cell end : ℕ) (row : List ℕ) → IsLit word dark swing cell end row → 64 ≤ cell
     → (pair : ℕ) → pair < 9 → (at apart : ℕ) → 79 * cell ≤ apart → apart ≤ 81 * cell → 8 * apart ≤ at
     → 640 * end_of_pair cell end pair ≤ at + 256 * cell → at ≤ 640 * end_of_pair cell end pair + 256 * cell
     → (k : ℕ) × IsWorth dark swing cell end pair
@@ -160,7 +160,7 @@ pair_is row place pair front =
     rw (a, b) refl
 
 pair_worth : (word dark swing cell end far : ℕ) (row : List ℕ) (place : Place) → IsLit word dark swing cell end row
-    → 128 ≤ cell → 5 * far ≤ 2 * cell → apart place ≤ 80 * place.first → IsClose cell end far place
+    → 64 ≤ cell → 5 * far ≤ 2 * cell → apart place ≤ 80 * place.first → IsClose cell end far place
     → (pair : ℕ) → pair < 9 → 640 * end_of_pair cell end pair ≤ at_pair place pair + 256 * cell
     → at_pair place pair ≤ 640 * end_of_pair cell end pair + 256 * cell
     → (k : ℕ) × IsWorth dark swing cell end pair (pair_fall row place pair) (at_pair place pair) (apart place) k
@@ -281,7 +281,7 @@ ends_are cell near end first apart last whole a b c d = (
 
 -- so a place is pulled to the true one
 pub pulled : (word dark swing cell end near far : ℕ) (row : List ℕ) (place : Place)
-    → IsLit word dark swing cell end row → 128 ≤ cell → 5 * far ≤ 2 * cell → apart place ≤ 80 * place.first
+    → IsLit word dark swing cell end row → 64 ≤ cell → 5 * far ≤ 2 * cell → apart place ≤ 80 * place.first
     → IsClose cell end far place → FallsEnough swing cell near (score row place)
     → IsClose cell end (5 * near + 4) place
 unfolding score

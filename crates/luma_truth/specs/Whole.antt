@@ -1,6 +1,8 @@
 -- Drawings on whole pixels, and which of them the search of whole pixels looks at.
 use Rattle.std.specs.Prelude.{◌≡◌, ℕ, ◌+◌, ◌*◌, ◌<◌, ◌≤◌, ◌⊎◌}
+use Rattle.luma_row.specs.declared.place.Place.{Place}
 use Rattle.luma_row.specs.Coarse.{pixel_of, step_to}
+use Rattle.luma_row.specs.Place.{apart}
 use Rattle.luma_row.specs.Width.{distance, distances, start, starts}
 use Rattle.luma_truth.specs.Drawing.{edge, Drawing}
 
@@ -22,10 +24,18 @@ pub record AreBeside (cell more a b : ℕ) : Type 0 where
   pub above : 48 * (a + 640 * more) ≤ 48 * b + cell
   pub below : 48 * (b + 640 * more) ≤ 48 * a + cell
 
+-- A place that lies beside a drawing: both its ends lie beside the true ones, with one sixteenth of a pixel more if they
+-- are 80 cells apart, and else with three, since places are rounded; and the word begins in the row.
+pub record IsBeside (drawing : Drawing) (place : Place) : Type 0 where
+  pub more : ℕ
+  pub enough : ((more ≡ 1) × (640 * apart place ≡ 80 * drawing.cell)) ⊎ (more ≡ 3)
+  pub first : AreBeside drawing.cell more (640 * place.first) (edge drawing 1)
+  pub last : AreBeside drawing.cell more (640 * place.last) (edge drawing 81)
+  pub in_row : apart place ≤ 80 * place.first
+
 -- The search of whole pixels looks at the drawing, in a row of 720 pixels or more with cells no narrower than a 96th of
--- it: at one of its starts, with one of its distances, each sync pair is in the pixel where its 1 ends. There both ends
--- lie beside the true ones, with one sixteenth of a pixel more if the distance is that of 80 cells, and else with three;
--- and the word begins in the row.
+-- it: at one of its starts, with one of its distances, each sync pair is in the pixel where its 1 ends; and that place
+-- lies beside the drawing.
 pub record IsLookedAt (drawing : Drawing) (width : ℕ) : Type 0 where
   pub large : 720 ≤ width
   pub cells : 10240 * width ≤ 96 * drawing.cell
@@ -35,8 +45,5 @@ pub record IsLookedAt (drawing : Drawing) (width : ℕ) : Type 0 where
   pub one_start : early < starts width (distance width wide)
   pub pixels : (pair : ℕ) → pair < 9
       → 10240 * (pixel_of (start width early) + step_to (distance width wide) pair) ≡ edge drawing (10 * pair + 1)
-  pub more : ℕ
-  pub enough : ((more ≡ 1) × (640 * distance width wide ≡ 80 * drawing.cell)) ⊎ (more ≡ 3)
-  pub first : AreBeside drawing.cell more (640 * start width early) (edge drawing 1)
-  pub last : AreBeside drawing.cell more (640 * (start width early + distance width wide)) (edge drawing 81)
-  pub in_row : distance width wide ≤ 80 * start width early
+  pub beside : IsBeside drawing
+      (record { first = start width early; last = start width early + distance width wide })

@@ -3,8 +3,10 @@ ghost use Rattle.std.specs.Prelude.{◌≡◌, ℕ, ◌+◌, ◌*◌, ◌%◌, �
 ghost use Rattle.luma_field.specs.Parts.{whole_parts};
 ghost use Rattle.luma_field.specs.Raster.{RasterSize};
 ghost use Rattle.luma_field.specs.Rows.{looked_at, SaysLines};
+ghost use Rattle.luma_row.specs.declared.light.TheConstants.{EVEN};
 ghost use Rattle.luma_row.specs.declared.place.Place.{Place};
 ghost use Rattle.luma_row.specs.declared.row.CodeRow.{CodeRow};
+ghost use Rattle.luma_row.specs.Coarse.{IsCoarse};
 ghost use Rattle.luma_row.specs.Levels.{number_of, says_bits};
 ghost use Rattle.luma_row.specs.Light.{IsRow};
 ghost use Rattle.luma_row.specs.Row.{IsCode, LiesAt};
@@ -12,7 +14,7 @@ ghost use Rattle.luma_truth.specs.Alone.{FallsNoLess, IsSummit, StandsAlone, Sta
 ghost use Rattle.luma_truth.specs.Drawing.{rounded, Drawing, FitsARow, IsDrawn};
 ghost use Rattle.luma_truth.specs.Inside.{core, HasMargin, IsEnough, LiesInside};
 ghost use Rattle.luma_truth.specs.Near.{IsNear};
-ghost use Rattle.luma_truth.specs.Whole.{IsLookedAt, IsOnWholePixels};
+ghost use Rattle.luma_truth.specs.Whole.{IsBeside, IsLookedAt, IsOnWholePixels};
 ghost use Rattle.luma_truth.specs.Worked.{eleven, ten_hours};
 
 use luma_row::laws::a_row_says_one_thing;
@@ -83,6 +85,10 @@ pub fn a_drawing_on_whole_pixels_is_found()
         → IsRow row → IsDrawn drawing row → IsOnWholePixels drawing → IsLookedAt drawing (length row)
         → looked_at raster (whole_parts raster.width field) ≡ before ++ (row ∷ behind) → length before < 20
         → SaysLines raster field lines → (first rest : List ℕ) × (lines ≡ first ++ (drawing.word ∷ rest)) }
+    ensures beside { (drawing : Drawing) (row : List ℕ) (sum : ℕ) (coarse : Place) → IsRow row → IsDrawn drawing row
+        → IsOnWholePixels drawing → IsCoarse row sum coarse → 9 * EVEN < sum → IsBeside drawing coarse
+        → (code : CodeRow) × IsCode row code × (says_bits code.levels ≡ true)
+        × (number_of code.levels ≡ drawing.word) }
     ensures drawn { (drawing : Drawing) (width : ℕ) → FitsARow drawing width → IsOnWholePixels drawing
         → IsDrawn drawing (rounded drawing width) }
     ensures odd { (drawing : Drawing) (whole : IsOnWholePixels drawing) → FitsARow drawing 1_440
