@@ -61,17 +61,14 @@ odd_is_looked_at drawing whole fits odd =
           let k = ap (λ (n : ℕ). n * pair) pixels in
           omega (arith, cells, pixels, begins, odd, m, k);
       beside = record {
+        wide = omega (arith, cells, pixels);
         more = 1;
         enough = inl (refl, omega (arith, cells, pixels));
         first = record {
-          half_above = omega (arith, cells, pixels, begins, odd);
-          half_below = omega (arith, cells, pixels, begins, odd);
           above = omega (arith, cells, pixels, begins, odd);
           below = omega (arith, cells, pixels, begins, odd);
         };
         last = record {
-          half_above = omega (arith, cells, pixels, begins, odd);
-          half_below = omega (arith, cells, pixels, begins, odd);
           above = omega (arith, cells, pixels, begins, odd);
           below = omega (arith, cells, pixels, begins, odd);
         };

@@ -12,10 +12,12 @@ use Rattle.luma_row.specs.Earliest.{all_fall, back, falls, falls_enough}
 use Rattle.luma_row.specs.Light.{fall}
 use Rattle.luma_row.specs.Place.{apart, eighth, pair_fall, score}
 use Rattle.luma_truth.specs.Alone.{StandsFirst}
+use Rattle.luma_truth.proofs.BesidePairs.{pair_beside}
 use Rattle.luma_truth.proofs.Kept.{IsKept}
-use Rattle.luma_truth.proofs.NearPairs.{at_pair, fall_anywhere, nine, pair_is, FallsEnough, HasRoom}
+use Rattle.luma_truth.proofs.NearPairs.{at_pair, fall_anywhere, pair_is, room_before, HasRoom}
 use Rattle.luma_truth.proofs.OnPixels.{IsLit}
 use Rattle.luma_truth.proofs.Rest.{rest_of}
+use Rattle.luma_truth.proofs.Sums.{sum_within}
 
 -- a place before the word: nothing falls there
 fall_before : (word dark swing cell end : ℕ) (row : List ℕ) → IsLit word dark swing cell end row
@@ -45,8 +47,8 @@ fall_at_begin word dark swing cell end row is before k o place r behind a b few 
     omega (arith, one, two, three, four, darker)
 
 -- the fall of the first sync pair; a cell before the row is cut off
-first_falls : (word dark swing cell end : ℕ) (row : List ℕ) → IsLit word dark swing cell end row → 64 ≤ cell
-    → (first apart : ℕ) → apart ≤ 81 * cell → 4 * first + 3 * cell ≤ 4 * end
+first_falls : (word dark swing cell end : ℕ) (row : List ℕ) → IsLit word dark swing cell end row → 128 ≤ cell
+    → (first apart : ℕ) → apart ≤ 81 * cell → 2 * first + cell ≤ 2 * end
     → (first + cell ≤ end) ⊎ (79 * cell ≤ apart)
     → fall row ((640 * first - 8 * apart) / 640) first ((640 * first + 8 * apart) / 640) ≤ EVEN + dark
 first_falls word dark swing cell end row is some first apart narrow before cases =
@@ -82,18 +84,18 @@ first_falls word dark swing cell end row is some first apart narrow before cases
 
 -- and that of each other
 other_falls : (word dark swing cell end near : ℕ) (row : List ℕ) → IsLit word dark swing cell end row
-    → near ≤ 11 → 64 ≤ cell → (at apart : ℕ) → apart ≤ 80 * cell + 10 * near + 8
+    → (at apart : ℕ) → apart ≤ 80 * cell + 10 * near + 8 → 30 * (near + 1) ≤ cell
     → 8 * apart ≤ at → at ≤ 640 * (end + 81 * cell)
-    → fall row ((at - 8 * apart) / 640) (at / 640) ((at + 8 * apart) / 640) ≤ EVEN + dark + swing * (cell + 2)
-other_falls word dark swing cell end near row is few_near some at apart narrow front within =
+    → fall row ((at - 8 * apart) / 640) (at / 640) ((at + 8 * apart) / 640) ≤ EVEN + dark + swing * (cell + near + 2)
+other_falls word dark swing cell end near row is at apart narrow some front within =
     let room = is.within in
     let n = rest_of ((at - 8 * apart) / 640) (at / 640) (omega arith) in
     let m = rest_of (at / 640) ((at + 8 * apart) / 640) (omega arith) in
     let e = n.1 in
     let f = m.1 in
     let all = fall_anywhere word dark swing cell end row is ((at - 8 * apart) / 640) n.0 (at / 640) m.0
-    ((at + 8 * apart) / 640) e f (omega (arith, room, within, narrow, few_near, some)) (omega (arith, e, f)) in
-    let few : n.0 ≤ cell + 2 = omega (arith, e, narrow, few_near, front) in
+    ((at + 8 * apart) / 640) e f (omega (arith, room, within, narrow, some)) (omega (arith, e, f)) in
+    let few : n.0 ≤ cell + near + 2 = omega (arith, e, narrow, front) in
     let m = mul-le-mul_left swing few in
     omega (arith, all, m)
 
@@ -105,23 +107,19 @@ pair_before cell end first apart pair few last =
     let m = mul-le-mul_left apart eight in
     omega (arith, m, last)
 
-room_before : (first apart n : ℕ) → apart ≤ 80 * first → 8 * apart ≤ 640 * first + apart * n
-room_before first apart n h = omega arith
-
 pair_falls : (word dark swing cell end near : ℕ) (row : List ℕ) (place : Place) → IsLit word dark swing cell end row
     → HasRoom cell near → IsKept swing cell end near row place
-    → (pair : ℕ) → pair < 9 → pair_fall row place pair ≤ EVEN + dark + swing * (cell + 2)
+    → (pair : ℕ) → pair < 9 → pair_fall row place pair ≤ EVEN + dark + swing * (cell + near + 2)
 pair_falls word dark swing cell end near row place is room kept pair h =
     let fb = kept.close.first_below in
     let fa = kept.close.first_above in
     let lb = kept.close.last_below in
     let la = kept.close.last_above in
-    let few = room.few in
-    let some = room.wide in
+    let r = room.room in
     let same = pair_is row place pair kept.front in
-    let most = other_falls word dark swing cell end near row is few some (at_pair place pair) (apart place)
-    (omega (arith, fb, la)) (room_before place.first (apart place) (80 * pair) kept.front)
-    (pair_before cell end place.first (apart place) pair h (omega (arith, fa, lb, la, few, some))) in
+    let most = other_falls word dark swing cell end near row is (at_pair place pair) (apart place)
+    (omega (arith, fb, la)) r (room_before place.first (apart place) (80 * pair) kept.front)
+    (pair_before cell end place.first (apart place) pair h (omega (arith, fa, lb, la, r))) in
     omega (arith, same, most)
 
 -- the first pair of a place, which may begin before the row
@@ -143,7 +141,7 @@ first_pair_is row place =
     rw (a, b, c) refl
 
 first_pair_falls : (word dark swing cell end : ℕ) (row : List ℕ) (place : Place) → IsLit word dark swing cell end row
-    → 64 ≤ cell → apart place ≤ 81 * cell → 4 * place.first + 3 * cell ≤ 4 * end
+    → 128 ≤ cell → apart place ≤ 81 * cell → 2 * place.first + cell ≤ 2 * end
     → (place.first + cell ≤ end) ⊎ (79 * cell ≤ apart place) → pair_fall row place 0 ≤ EVEN + dark
 first_pair_falls word dark swing cell end row place is some narrow early cases =
     let same = first_pair_is row place in
@@ -174,7 +172,7 @@ back_is first last on less order few back =
       | inr behind ↦ (omega arith, inr (omega arith))
     ]
 
-isnt_enough : (sum fall even swing cell near : ℕ) → 1 ≤ swing → 48 * (near + 1) ≤ cell
+isnt_enough : (sum fall even swing cell near : ℕ) → 1 ≤ swing → 30 * (near + 1) ≤ cell
     → 9 * even + 9 * (swing * cell) ≤ sum + 18 * (swing * near) → fall ≤ even + swing
     → leb (sum - 9 * even) (18 * (fall - even)) ≡ false
 isnt_enough sum fall even swing cell near some room most few =
@@ -226,40 +224,13 @@ none_earlier word dark swing cell end near row place is room kept cells some few
 
 -- ---- at the place itself
 
-sum_most : (n : ℕ) (f : ℕ → ℕ) (most : ℕ) → ((k : ℕ) → k < n → f k ≤ most) → sum_of n f ≤ sum_of n (λ k. most)
-unfolding sum_of
-sum_most zero f most each = omega arith
-sum_most (suc n) f most each =
-    let before = sum_most n f most (λ k h. each k (omega (arith, h))) in
-    let last = each n (omega arith) in
-    omega (arith, before, last)
-
--- one of some has what the others leave
-left_for : (n : ℕ) (f : ℕ → ℕ) (most k : ℕ) → ((j : ℕ) → j < n → f j ≤ most) → k < n
-    → sum_of n f + most ≤ f k + sum_of n (λ j. most)
-unfolding sum_of
-left_for zero f most k each h = absurd (omega (arith, h))
-left_for (suc n) f most k each h =
-    let cases : (k < n) ⊎ (k ≡ n) = grind arith in
-    elim cases [
-      | inl less ↦
-          let before = left_for n f most k (λ j h. each j (omega (arith, h))) less in
-          let last = each n (omega arith) in
-          omega (arith, before, last)
-      | inr same ↦
-          let before = sum_most n f most (λ j h. each j (omega (arith, h))) in
-          subst (λ (m : ℕ). sum_of n f + f n + most ≤ f m + (sum_of n (λ j. most) + most)) (sym same)
-          (omega (arith, before))
-    ]
-
-is_enough : (sum fall even dark swing cell near : ℕ) → dark ≤ swing → 48 * (near + 1) ≤ cell
-    → 9 * even + 9 * (swing * cell) ≤ sum + 18 * (swing * near)
-    → sum + (even + dark + swing * (cell + 2)) ≤ fall + 9 * (even + dark + swing * (cell + 2))
-    → leb (sum - 9 * even) (18 * (fall - even)) ≡ true
-is_enough sum fall even dark swing cell near few room most left =
-    let enough : 34 * near + 48 ≤ cell = omega (arith, room) in
+is_enough : (sum fall even dark swing cell near : ℕ) → dark ≤ swing → 128 ≤ cell → 30 * (near + 1) ≤ cell
+    → even + swing * cell ≤ fall + 2 * (swing * (5 * near + 4)) + swing * 4 + 4 * (swing * 4)
+    → sum ≤ 9 * (even + dark + swing * (cell + near + 2)) → leb (sum - 9 * even) (18 * (fall - even)) ≡ true
+is_enough sum fall even dark swing cell near few wide room falls most =
+    let enough : 21 * near + 59 ≤ cell = omega (arith, room, wide) in
     let m = mul-le-mul_left swing enough in
-    let le : sum - 9 * even ≤ 18 * (fall - even) = omega (arith, few, most, left, m) in
+    let le : sum - 9 * even ≤ 18 * (fall - even) = omega (arith, few, most, falls, m) in
     grind (arith, nat_tests)
 
 all_true : (n : ℕ) (p : ℕ → Bool) → ((k : ℕ) → k < n → p k ≡ true) → all_of n p ≡ true
@@ -272,14 +243,21 @@ all_here : (word dark swing cell end near : ℕ) (row : List ℕ) (place : Place
     → HasRoom cell near → IsKept swing cell end near row place → all_fall row (falls row place) place ≡ true
 unfolding score
 all_here word dark swing cell end near row place is room kept =
-    let most = EVEN + dark + swing * (cell + 2) in
-    let each : (pair : ℕ) → pair < 9 → pair_fall row place pair ≤ EVEN + dark + swing * (cell + 2)
-    = pair_falls word dark swing cell end near row place is room kept in
-    let nines = nine (λ k. most) in
+    let fb = kept.close.first_below in
+    let fa = kept.close.first_above in
+    let lb = kept.close.last_below in
+    let r = room.room in
+    let wide = room.wide in
+    let narrow = room.narrow in
+    let front = kept.front in
+    let begins : cell ≤ place.first + 4 = omega (arith, front, fa, lb, r, narrow) in
+    let sum = sum_within 9 (EVEN + dark + swing * (cell + near + 2)) (pair_fall row place)
+    (pair_falls word dark swing cell end near row place is room kept) in
     all_true 9 (falls_enough row (falls row place) place) (λ pair h.
-    let left = left_for 9 (pair_fall row place) most pair each h in
-    is_enough (score row place) (pair_fall row place pair) EVEN dark swing cell near is.few room.room kept.falls
-    (omega (arith, left, nines)))
+    let falls = pair_beside word dark swing cell end (5 * near + 4) 4 4 row place is (omega (arith, r))
+    (omega (arith, wide)) (omega (arith, r, narrow)) front begins kept.close pair h in
+    is_enough (score row place) (pair_fall row place pair) EVEN dark swing cell near is.few wide r falls
+    (omega (arith, sum)))
 
 pub stands_first : (word dark swing cell end near : ℕ) (row : List ℕ) (place : Place)
     → IsLit word dark swing cell end row → HasRoom cell near → IsKept swing cell end near row place

@@ -1,4 +1,4 @@
--- A place that is near the true one stays near it in each move: a move goes no further than two fifths of a cell, and
+-- A place that is near the true one stays near it in each move: a move goes no further than half a cell, and
 -- only to where all falls no less.
 use Rattle.std.proofs.Common.{◌≡◌, ℕ, zero, suc, ◌+◌, ◌*◌, ◌/◌, ◌%◌, ◌<◌, ◌≤◌, ◌⊎◌, inl, inr, true, List, length}
 use Rattle.std.proofs.Common.{refl, sym, subst, arith}
@@ -93,12 +93,12 @@ moved_close cell end near step number place close =
 pub front_of : (width : ℕ) (place : Place) → fits width place ≡ true → apart place ≤ 80 * place.first
 front_of width place fit = grind (arith, nat_tests)
 
--- a step goes from near the true place no further than two fifths of a cell
+-- a step goes from near the true place no further than half a cell
 abbrev pub IsShort : ℕ → ℕ → ℕ → Type 0
-IsShort cell near step = 5 * (5 * near + 4 + step) ≤ 2 * cell
+IsShort cell near step = 2 * (5 * near + 4 + step) ≤ cell
 
 move_kept : (word dark swing cell end near : ℕ) (row : List ℕ) (step : ℕ) (from to : Place)
-    → IsLit word dark swing cell end row → 64 ≤ cell → IsShort cell near step
+    → IsLit word dark swing cell end row → 128 ≤ cell → IsShort cell near step
     → IsKept swing cell end near row from → Moves row step from to → IsKept swing cell end near row to
 move_kept word dark swing cell end near row step from to is some short kept moves =
     let no_less = moves_on row step from to moves in
@@ -119,7 +119,7 @@ move_kept word dark swing cell end near row step from to is some short kept move
     ]
 
 pub climbs_kept : (word dark swing cell end near : ℕ) (row : List ℕ) (step moves : ℕ) (from : Place)
-    → IsLit word dark swing cell end row → 64 ≤ cell → IsShort cell near step
+    → IsLit word dark swing cell end row → 128 ≤ cell → IsShort cell near step
     → IsKept swing cell end near row from
     → (to : Place) × Climbs row step moves from to × IsKept swing cell end near row to
 climbs_kept word dark swing cell end near row step zero from is some short kept = (from, refl, kept)
@@ -140,7 +140,7 @@ halved_short cell near step (suc times) h =
     omega (arith, before)
 
 pub refines_kept : (word dark swing cell end near : ℕ) (row : List ℕ) (step steps : ℕ) (from : Place)
-    → IsLit word dark swing cell end row → 64 ≤ cell → IsShort cell near step
+    → IsLit word dark swing cell end row → 128 ≤ cell → IsShort cell near step
     → IsKept swing cell end near row from
     → (to : Place) × Refines row step steps from to × IsKept swing cell end near row to
 refines_kept word dark swing cell end near row step zero from is some short kept = (from, refl, kept)

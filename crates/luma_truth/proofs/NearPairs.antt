@@ -10,11 +10,11 @@ use Rattle.luma_row.specs.Place.{apart, eighth, pair_fall, score}
 use Rattle.luma_truth.proofs.OnPixels.{IsLit}
 use Rattle.luma_truth.proofs.Rest.{rest_of}
 
--- How far beside the true place the search comes out at most, and how wide a cell is then at least.
+-- How far beside the true place the search comes out at most, and how wide a cell is then.
 pub record HasRoom (cell near : ℕ) : Type 0 where
-  pub few : near ≤ 11
-  pub wide : 64 ≤ cell
-  pub room : 48 * (near + 1) ≤ cell
+  pub wide : 128 ≤ cell
+  pub narrow : cell ≤ 768
+  pub room : 30 * (near + 1) ≤ cell
 
 -- the sum of nine
 pub nine : (f : ℕ → ℕ) → sum_of 9 f ≡ f 0 + f 1 + f 2 + f 3 + f 4 + f 5 + f 6 + f 7 + f 8
@@ -81,9 +81,9 @@ pair_within word dark swing cell end row is pair h =
     let m = mul-le-mul_left cell few in
     omega (arith, within, m)
 
-worth_at : (word dark swing cell end : ℕ) (row : List ℕ) → IsLit word dark swing cell end row → 64 ≤ cell
+worth_at : (word dark swing cell end : ℕ) (row : List ℕ) → IsLit word dark swing cell end row → 128 ≤ cell
     → (pair : ℕ) → pair < 9 → (at apart : ℕ) → 79 * cell ≤ apart → apart ≤ 81 * cell → 8 * apart ≤ at
-    → 640 * end_of_pair cell end pair ≤ at + 256 * cell → at ≤ 640 * end_of_pair cell end pair + 256 * cell
+    → 640 * end_of_pair cell end pair ≤ at + 320 * cell → at ≤ 640 * end_of_pair cell end pair + 320 * cell
     → (k : ℕ) × IsWorth dark swing cell end pair
     (fall row ((at - 8 * apart) / 640) (at / 640) ((at + 8 * apart) / 640)) at apart k
 worth_at word dark swing cell end row is some pair h at apart wide narrow front below above =
@@ -160,9 +160,9 @@ pair_is row place pair front =
     rw (a, b) refl
 
 pair_worth : (word dark swing cell end far : ℕ) (row : List ℕ) (place : Place) → IsLit word dark swing cell end row
-    → 64 ≤ cell → 5 * far ≤ 2 * cell → apart place ≤ 80 * place.first → IsClose cell end far place
-    → (pair : ℕ) → pair < 9 → 640 * end_of_pair cell end pair ≤ at_pair place pair + 256 * cell
-    → at_pair place pair ≤ 640 * end_of_pair cell end pair + 256 * cell
+    → 128 ≤ cell → 2 * far ≤ cell → apart place ≤ 80 * place.first → IsClose cell end far place
+    → (pair : ℕ) → pair < 9 → 640 * end_of_pair cell end pair ≤ at_pair place pair + 320 * cell
+    → at_pair place pair ≤ 640 * end_of_pair cell end pair + 320 * cell
     → (k : ℕ) × IsWorth dark swing cell end pair (pair_fall row place pair) (at_pair place pair) (apart place) k
 pair_worth word dark swing cell end far row place is some short front close pair h below above =
     let fb = close.first_below in
@@ -281,7 +281,7 @@ ends_are cell near end first apart last whole a b c d = (
 
 -- so a place is pulled to the true one
 pub pulled : (word dark swing cell end near far : ℕ) (row : List ℕ) (place : Place)
-    → IsLit word dark swing cell end row → 64 ≤ cell → 5 * far ≤ 2 * cell → apart place ≤ 80 * place.first
+    → IsLit word dark swing cell end row → 128 ≤ cell → 2 * far ≤ cell → apart place ≤ 80 * place.first
     → IsClose cell end far place → FallsEnough swing cell near (score row place)
     → IsClose cell end (5 * near + 4) place
 unfolding score
@@ -290,8 +290,8 @@ pulled word dark swing cell end near far row place is some short front close fal
     let fa = close.first_above in
     let lb = close.last_below in
     let la = close.last_above in
-    let worth : (pair : ℕ) → pair < 9 → 640 * end_of_pair cell end pair ≤ at_pair place pair + 256 * cell
-    → at_pair place pair ≤ 640 * end_of_pair cell end pair + 256 * cell
+    let worth : (pair : ℕ) → pair < 9 → 640 * end_of_pair cell end pair ≤ at_pair place pair + 320 * cell
+    → at_pair place pair ≤ 640 * end_of_pair cell end pair + 320 * cell
     → (k : ℕ) × IsWorth dark swing cell end pair (pair_fall row place pair) (at_pair place pair) (apart place) k
     = pair_worth word dark swing cell end far row place is some short front close in
     let w0 = worth 0 (omega arith) (omega (arith, fb, fa, lb, la, short)) (omega (arith, fb, fa, lb, la, short)) in

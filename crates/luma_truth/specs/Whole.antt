@@ -16,17 +16,16 @@ pub record IsOnWholePixels (drawing : Drawing) : Type 0 where
   pub exact : drawing.noise ≡ 0
   pub levels : drawing.dark ≤ drawing.swing
 
--- Two places lie within half a pixel of each other; and with so many sixteenths of a pixel more than they are apart,
--- within a 48th of a cell.
+-- two places: with so many sixteenths of a pixel more than they are apart, they are within a 30th of a cell
 pub record AreBeside (cell more a b : ℕ) : Type 0 where
-  pub half_above : a ≤ b + 5120
-  pub half_below : b ≤ a + 5120
-  pub above : 48 * (a + 640 * more) ≤ 48 * b + cell
-  pub below : 48 * (b + 640 * more) ≤ 48 * a + cell
+  pub above : 30 * (a + 640 * more) ≤ 30 * b + cell
+  pub below : 30 * (b + 640 * more) ≤ 30 * a + cell
 
--- A place that lies beside a drawing: both its ends lie beside the true ones, with one sixteenth of a pixel more if they
--- are 80 cells apart, and else with three, since places are rounded; and the word begins in the row.
+-- A place that lies beside a drawing with cells of eight pixels or more: both its ends lie beside the true ones, with
+-- one sixteenth of a pixel more if they are 80 cells apart, and else with three, since places are rounded; and the word
+-- begins in the row.
 pub record IsBeside (drawing : Drawing) (place : Place) : Type 0 where
+  pub wide : 81920 ≤ drawing.cell
   pub more : ℕ
   pub enough : ((more ≡ 1) × (640 * apart place ≡ 80 * drawing.cell)) ⊎ (more ≡ 3)
   pub first : AreBeside drawing.cell more (640 * place.first) (edge drawing 1)
