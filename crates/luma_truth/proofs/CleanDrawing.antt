@@ -88,7 +88,7 @@ between_these drawing less over core cells lit = record {
   zeros_most = λ bit h set. let l = lit.zeros_most bit h set in omega (arith, l);
 }
 
-pairs_of : (drawing : Drawing) (row : List ℕ) → IsDrawn drawing row → HasPairs drawing.word
+pub pairs_of : (drawing : Drawing) (row : List ℕ) → IsDrawn drawing row → HasPairs drawing.word
 pairs_of drawing row is = record { ones = is.of_row.ones; zeros = is.of_row.zeros }
 
 -- where there is a margin, the cores are long
@@ -169,10 +169,10 @@ says_its_word drawing row code is read inside enough =
     (say.said, number_is drawing.word code.levels is.of_row.bits say.bits)
 
 -- the levels of the cells at a place
-abbrev levels_at : List ℕ → Place → Levels
+abbrev pub levels_at : List ℕ → Place → Levels
 levels_at row place = record { swing = swing (cells_of row place); heights = heights_of (cells_of row place) }
 
-abbrev code_at : List ℕ → Place → CodeRow
+abbrev pub code_at : List ℕ → Place → CodeRow
 code_at row place = record { place = place; levels = levels_at row place }
 
 count_at : (drawing : Drawing) (row : List ℕ) (place : Place) → IsDrawn drawing row → LiesInside drawing place

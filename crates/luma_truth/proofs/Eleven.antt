@@ -1,8 +1,8 @@
--- The worked drawing on whole pixels has its sync pairs, as can be counted.
-use Rattle.std.proofs.Common.{ℕ, ◌+◌, ◌*◌, Bool, true, not, ◌≡◌, refl, arith}
+-- The worked drawing on whole pixels has its sync pairs, as can be counted; and the search of whole pixels looks at it.
+use Rattle.std.proofs.Common.{ℕ, ◌+◌, ◌*◌, ◌/◌, ◌%◌, Bool, true, not, ◌≡◌, ◌<◌, inl, refl, ap, arith}
 use Rattle.luma_row.specs.Choice.{all_of}
-use Rattle.luma_truth.specs.Drawing.{has_bit, FitsARow}
-use Rattle.luma_truth.specs.Whole.{IsOnWholePixels}
+use Rattle.luma_truth.specs.Drawing.{has_bit, Drawing, FitsARow}
+use Rattle.luma_truth.specs.Whole.{IsLookedAt, IsOnWholePixels}
 use Rattle.luma_truth.specs.Worked.{eleven}
 use Rattle.luma_truth.proofs.TenHours.{each, isnt}
 
@@ -32,4 +32,50 @@ eleven_fits = record {
 }
 
 pub eleven_is_whole : IsOnWholePixels eleven
-eleven_is_whole = record { twos = 22; begins = refl; cells = refl; exact = refl; levels = omega arith }
+eleven_is_whole = record { before = 45; pixels = 15; begins = refl; cells = refl; exact = refl; levels = omega arith }
+
+-- in a row of 1,440 pixels a cell has 15, and the search looks at every second pixel
+fifteen : (drawing : Drawing) (whole : IsOnWholePixels drawing) → FitsARow drawing 1440 → whole.pixels ≡ 15
+fifteen drawing whole fits =
+    let narrow = fits.narrow in
+    let wide = fits.wide in
+    let cells = whole.cells in
+    omega (arith, narrow, wide, cells)
+
+pub odd_is_looked_at : (drawing : Drawing) (whole : IsOnWholePixels drawing) → FitsARow drawing 1440
+    → whole.before % 2 ≡ 1 → IsLookedAt drawing 1440
+odd_is_looked_at drawing whole fits odd =
+    let pixels = fifteen drawing whole fits in
+    let cells = whole.cells in
+    let begins = whole.begins in
+    let within = fits.within in
+    record {
+      large = omega arith;
+      cells = omega (arith, cells, pixels);
+      wide = 15;
+      early = whole.before / 2 + 1;
+      one_distance = omega arith;
+      one_start = omega (arith, cells, pixels, begins, within);
+      pixels = λ pair h.
+          let m = ap (λ (n : ℕ). n * pair) cells in
+          let k = ap (λ (n : ℕ). n * pair) pixels in
+          omega (arith, cells, pixels, begins, odd, m, k);
+      beside = record {
+        wide = omega (arith, cells, pixels);
+        more = 1;
+        enough = inl (refl, omega (arith, cells, pixels));
+        first = record {
+          above = omega (arith, cells, pixels, begins, odd);
+          below = omega (arith, cells, pixels, begins, odd);
+        };
+        last = record {
+          above = omega (arith, cells, pixels, begins, odd);
+          below = omega (arith, cells, pixels, begins, odd);
+        };
+        in_row = omega (arith, odd);
+      };
+    }
+
+pub eleven_is_looked_at : IsLookedAt eleven 1440
+unfolding eleven_is_whole
+eleven_is_looked_at = odd_is_looked_at eleven eleven_is_whole eleven_fits refl

@@ -1,11 +1,13 @@
 -- Each pixel of a drawing on whole pixels is as light as a 1 or as dark as a 0, so rounding changes nothing.
 use Rattle.std.proofs.Common.{◌≡◌, ℕ, ◌+◌, ◌-◌, ◌*◌, ◌/◌, ◌<◌, ◌≤◌, ◌⊎◌, inl, inr}
 use Rattle.std.proofs.Common.{ap, subst, sym, arith}
+use Rattle.std.proofs.Math.Nat.{mul-le-mul_left}
 use Rattle.luma_truth.specs.Drawing.{edge, has_bit, pixel_light, rounded, share, Drawing, FitsARow, IsDrawn}
 use Rattle.luma_truth.specs.Whole.{IsOnWholePixels}
 use Rattle.luma_truth.proofs.InPixels.{dark_light, drawn_dark, drawn_light, lit_light, outside_light}
 use Rattle.luma_truth.proofs.NoLess.{either}
 use Rattle.luma_truth.proofs.OnPixels.{covered, edge_at}
+use Rattle.luma_truth.proofs.Rest.{goes_into}
 use Rattle.luma_truth.proofs.Rounded.{length_is, pixel_is}
 
 -- the light of a pixel is a whole level
@@ -38,13 +40,26 @@ in_cell drawing pixel bit h all =
           inl (omega (arith, m, most, least))
     ]
 
-is_whole : (drawing : Drawing) (pixel : ℕ) → IsOnWholePixels drawing → IsWhole drawing (pixel_light drawing pixel)
-is_whole drawing pixel is =
-    let begins = is.begins in
+-- a pixel of 90 cells is in one of them
+bit_below : (pixels bit rest n : ℕ) → pixels * bit + rest ≡ n → n < 90 * pixels → bit < 90
+bit_below pixels bit rest n all few =
+    let cases : (bit < 90) ⊎ (90 ≤ bit) = grind arith in
+    elim cases [ inl below ↦ below | inr more ↦ let m = mul-le-mul_left pixels more in absurd (omega (arith, m, all, few)) ]
+
+some_pixels : (drawing : Drawing) (width : ℕ) → FitsARow drawing width → 0 < width → (is : IsOnWholePixels drawing)
+    → 0 < is.pixels
+some_pixels drawing width fits some is =
+    let narrow = fits.narrow in
+    let cells = is.cells in
+    omega (arith, narrow, cells, some)
+
+is_whole : (drawing : Drawing) (width pixel : ℕ) → FitsARow drawing width → pixel < width → IsOnWholePixels drawing
+    → IsWhole drawing (pixel_light drawing pixel)
+is_whole drawing width pixel fits within is =
     let first = edge_at drawing 0 is in
     let last = edge_at drawing 90 is in
     let before : (10240 * pixel + 10240 ≤ edge drawing 0) ⊎ (edge drawing 0 ≤ 10240 * pixel)
-    = grind (arith, first, begins) in
+    = grind (arith, first) in
     elim before [
       | inl out ↦ outside_is_dark drawing pixel (inl out)
       | inr begun ↦
@@ -52,12 +67,18 @@ is_whole drawing pixel is =
           elim behind [
             | inl out ↦ outside_is_dark drawing pixel (inr out)
             | inr in_word ↦
-                let bit = (pixel - (2 * is.twos + 1)) / 15 in
+                let at = goes_into is.pixels (pixel - is.before)
+                (some_pixels drawing width fits (omega (arith, within)) is) in
+                let bit = at.times in
+                let all = at.all in
+                let less = at.less in
                 let from = edge_at drawing bit is in
                 let to = edge_at drawing (bit + 1) is in
-                in_cell drawing pixel bit (omega (arith, begins, first, last, begun, in_word))
-                (covered drawing pixel bit (omega (arith, begins, first, from, begun))
-                (omega (arith, begins, first, to, begun)))
+                let few : bit < 90 = bit_below is.pixels bit at.rest (pixel - is.before) all
+                (omega (arith, first, last, begun, in_word)) in
+                in_cell drawing pixel bit few
+                (covered drawing pixel bit (omega (arith, first, from, begun, all))
+                (omega (arith, first, to, begun, all, less)))
           ]
     ]
 
@@ -65,20 +86,22 @@ rounds_to_itself : (dark swing light : ℕ) → (light ≡ 10240 * dark) ⊎ (li
     → 10240 * ((light + 5120) / 10240) ≡ light
 rounds_to_itself dark swing light is = elim is [ inl d ↦ omega (arith, d) | inr l ↦ omega (arith, l) ]
 
-pub rounded_is_exact : (drawing : Drawing) → FitsARow drawing 1440 → IsOnWholePixels drawing
-    → IsDrawn drawing (rounded drawing 1440)
-rounded_is_exact drawing fits is =
-    let long = length_is drawing 1440 in
+pub rounded_is_exact : (drawing : Drawing) (width : ℕ) → FitsARow drawing width → IsOnWholePixels drawing
+    → IsDrawn drawing (rounded drawing width)
+rounded_is_exact drawing width fits is =
+    let long = length_is drawing width in
     record {
       of_row = subst (λ (n : ℕ). FitsARow drawing n) (sym long) fits;
       least = λ pixel h.
-          let value = pixel_is drawing 1440 pixel (omega (arith, h, long)) in
+          let within : pixel < width = omega (arith, h, long) in
+          let value = pixel_is drawing width pixel within in
           let same = rounds_to_itself drawing.dark drawing.swing (pixel_light drawing pixel)
-          (is_whole drawing pixel is) in
+          (is_whole drawing width pixel fits within is) in
           omega (arith, value, same);
       most = λ pixel h.
-          let value = pixel_is drawing 1440 pixel (omega (arith, h, long)) in
+          let within : pixel < width = omega (arith, h, long) in
+          let value = pixel_is drawing width pixel within in
           let same = rounds_to_itself drawing.dark drawing.swing (pixel_light drawing pixel)
-          (is_whole drawing pixel is) in
+          (is_whole drawing width pixel fits within is) in
           omega (arith, value, same);
     }

@@ -1,7 +1,7 @@
--- A drawing on whole pixels is found: the search of whole pixels comes out a quarter of a pixel beside it, each move
--- keeps near it, and no earlier place is taken. There the cores lie in their cells, so the row says the word.
+-- A drawing on whole pixels is found where the search of whole pixels looks at it: the search comes out there, each move
+-- keeps near, and no earlier place is taken. There the cores lie in their cells, so the row says the word.
 use Rattle.std.proofs.Common.{◌≡◌, ℕ, ◌+◌, ◌-◌, ◌*◌, ◌/◌, ◌<◌, ◌≤◌, ◌⊎◌, inl, inr, true, List, length}
-use Rattle.std.proofs.Common.{◌∷◌, ◌++◌, ap, subst, sym, arith}
+use Rattle.std.proofs.Common.{◌∷◌, ◌++◌, max, ap, refl, subst, sym, arith}
 use Rattle.std.proofs.Math.Nat.{mul-le-mul_left}
 use Rattle.luma_field.specs.Parts.{whole_parts}
 use Rattle.luma_field.specs.Raster.{RasterSize}
@@ -9,209 +9,408 @@ use Rattle.luma_field.specs.Rows.{looked_at, SaysLines}
 use Rattle.luma_row.specs.declared.light.TheConstants.{EVEN}
 use Rattle.luma_row.specs.declared.place.Place.{Place}
 use Rattle.luma_row.specs.declared.row.CodeRow.{CodeRow}
-use Rattle.luma_row.specs.Coarse.{best_at}
+use Rattle.luma_row.specs.Coarse.{best_at, IsCoarse}
 use Rattle.luma_row.specs.Levels.{number_of, says_bits}
-use Rattle.luma_row.specs.Light.{fall, IsRow}
-use Rattle.luma_row.specs.Place.{apart, pair_fall, score}
+use Rattle.luma_row.specs.Light.{darkest, IsRow}
+use Rattle.luma_row.specs.Place.{apart, eighth}
 use Rattle.luma_row.specs.Row.{IsCode, LiesAt}
-use Rattle.luma_row.specs.Width.{grain}
+use Rattle.luma_row.specs.Width.{distance, grain, start}
 use Rattle.luma_truth.specs.Drawing.{Drawing, IsDrawn}
-use Rattle.luma_truth.specs.Inside.{core, HasMargin, LiesInside}
-use Rattle.luma_truth.specs.Whole.{IsOnWholePixels}
-use Rattle.luma_truth.proofs.CleanDrawing.{carries_its_word}
+use Rattle.luma_truth.specs.Whole.{IsBeside, IsLookedAt, IsOnWholePixels}
+use Rattle.luma_truth.proofs.BesidePairs.{nine_enough, pair_beside, pair_exact}
+use Rattle.luma_truth.proofs.CleanDrawing.{code_at, levels_at, pairs_of}
 use Rattle.luma_truth.proofs.FirstOfAll.{stands_first}
-use Rattle.luma_truth.proofs.LineOfAField.{has_its_line, OneCode}
-use Rattle.luma_truth.proofs.Kept.{refines_kept, IsKept}
-use Rattle.luma_truth.proofs.NearPairs.{at_pair, pair_is, IsClose}
+use Rattle.luma_truth.proofs.InCells.{long_enough}
+use Rattle.luma_truth.proofs.IsCarried.{contrast_is, dark_enough}
+use Rattle.luma_truth.proofs.LineOfAField.{has_the_line_of, OneCode}
+use Rattle.luma_truth.proofs.Kept.{refines_kept, IsKept, IsShort}
+use Rattle.luma_truth.proofs.NearPairs.{HasRoom, IsClose}
 use Rattle.luma_truth.proofs.NoLess.{none_before}
-use Rattle.luma_truth.proofs.OnPixels.{edge_at, end_of, is_lit, IsLit}
+use Rattle.luma_truth.proofs.OfBits.{number_is}
+use Rattle.luma_truth.proofs.OnPixels.{cell_of, edge_at, end_of, is_lit, IsLit}
 use Rattle.luma_truth.proofs.Rest.{rest_of}
-use Rattle.luma_truth.proofs.Searched.{finds_the_pixel, sum_from, sum_is_enough}
+use Rattle.luma_truth.proofs.Searched.{finds_the_pixel, sum_is_enough, IsSought}
+use Rattle.luma_truth.proofs.Spilt.{spilt_counts, spilt_says, AreSpilt, IsSpilt}
 
 -- ---- where the search of whole pixels comes out
 
-abbrev coarse_at : ℕ → Place
-coarse_at end = record { first = end + 4; last = end + 19204 }
-
--- a quarter of a pixel late, a fall lacks at most eight of its 240 sixteenths
-fall_beside : (word dark swing twos end : ℕ) (row : List ℕ) → IsLit word dark swing twos end row → (pair : ℕ) → pair < 9
-    → (before place behind : ℕ) → before + 236 ≡ end + 2400 * pair → place ≡ end + 2400 * pair + 4
-    → behind ≡ end + 2400 * pair + 244 → EVEN + 232 * swing ≤ fall row before place behind
-unfolding fall
-fall_beside word dark swing twos end row is pair h before place behind a b c =
-    let end_is = is.within in
-    let true_end = end + 2400 * pair in
-    let one = is.bright (10 * pair) before 236 true_end (omega arith) (is.ones pair h) a (omega (arith, a))
-    (omega arith) in
-    let two = is.least true_end 4 place (omega (arith, b)) (omega (arith, b, end_is)) in
-    let three = is.dim (10 * pair + 1) place 236 (true_end + 240) (omega arith) (is.zeros pair h) (omega (arith, b))
-    (omega (arith, b)) (omega arith) in
-    let four = is.most (true_end + 240) 4 behind (omega (arith, c)) (omega (arith, c, end_is)) in
-    omega (arith, one, two, three, four)
-
-pair_beside : (word dark swing twos end : ℕ) (row : List ℕ) → IsLit word dark swing twos end row → (pair : ℕ) → pair < 9
-    → EVEN + 232 * swing ≤ pair_fall row (coarse_at end) pair
-pair_beside word dark swing twos end row is pair h =
-    let end_is = is.end_is in
-    let wide : apart (coarse_at end) ≡ 19200 = omega arith in
-    let same = pair_is row (coarse_at end) pair (omega (arith, wide, end_is)) in
-    let m = ap (λ (n : ℕ). n * (80 * pair)) wide in
-    let at : at_pair (coarse_at end) pair ≡ 640 * (end + 4 + 2400 * pair) = omega (arith, m) in
-    let falls = fall_beside word dark swing twos end row is pair h
-    ((at_pair (coarse_at end) pair - 8 * apart (coarse_at end)) / 640) (at_pair (coarse_at end) pair / 640)
-    ((at_pair (coarse_at end) pair + 8 * apart (coarse_at end)) / 640) (omega (arith, at, wide, end_is))
-    (omega (arith, at)) (omega (arith, at, wide)) in
-    omega (arith, same, falls)
-
-coarse_kept : (word dark swing twos end : ℕ) (row : List ℕ) → IsLit word dark swing twos end row
-    → IsKept swing end row (coarse_at end)
-unfolding score
-coarse_kept word dark swing twos end row is =
-    let end_is = is.end_is in
-    let sum = sum_from 9 (EVEN + 232 * swing) (pair_fall row (coarse_at end))
-    (pair_beside word dark swing twos end row is) in
-    record {
-      close = record {
-        first_below = omega arith;
-        first_above = omega arith;
-        last_below = omega arith;
-        last_above = omega arith;
-      };
-      front = omega (arith, end_is);
-      falls = omega (arith, sum);
-    }
-
--- ---- the cores
-
-core_begins : (end first apart bit : ℕ) → bit < 90 → end ≤ first + 23 → first ≤ end + 23
-    → end + 19200 ≤ first + apart + 23 → first + apart ≤ end + 19200 + 23 → apart ≤ 80 * first
-    → 640 * end + 153600 * bit ≤ 640 * ((640 * first + apart * (8 * bit + 1) - 8 * apart) / 640) + 153600
-core_begins end first apart bit h fb fa lb la front =
-    let cases : (19200 ≤ apart) ⊎ (apart ≤ 19200) = grind arith in
-    elim cases [
-      | inl wide ↦ let m = mul-le-mul_left bit wide in omega (arith, m)
-      | inr narrow ↦
-          let e = rest_of apart 19200 narrow in
-          let p = e.1 in
-          let few : bit ≤ 89 = omega arith in
-          let m = mul-le-mul_left e.0 few in
-          let all = ap (λ (n : ℕ). n * bit) p in
-          omega (arith, m, all, p)
-    ]
-
-core_ends : (end first apart bit : ℕ) → bit < 90 → end ≤ first + 23 → first ≤ end + 23
-    → end + 19200 ≤ first + apart + 23 → first + apart ≤ end + 19200 + 23 → apart ≤ 80 * first
-    → 640 * ((640 * first + apart * (8 * bit + 7) - 8 * apart) / 640) ≤ 640 * end + 153600 * bit
-core_ends end first apart bit h fb fa lb la front =
-    let cases : (19200 ≤ apart) ⊎ (apart ≤ 19200) = grind arith in
-    elim cases [
-      | inr narrow ↦ let m = mul-le-mul_left bit narrow in omega (arith, m)
-      | inl wide ↦
-          let e = rest_of 19200 apart wide in
-          let p = e.1 in
-          let few : bit ≤ 89 = omega arith in
-          let m = mul-le-mul_left e.0 few in
-          let all = ap (λ (n : ℕ). n * bit) p in
-          omega (arith, m, all, p)
-    ]
-
-close_inside : (drawing : Drawing) (is : IsOnWholePixels drawing) (place : Place) → IsClose (end_of drawing is) 23 place
-    → apart place ≤ 80 * place.first → LiesInside drawing place
-close_inside drawing is place close front =
-    let begins = is.begins in
+closer : (cell end near far : ℕ) (place : Place) → near ≤ far → IsClose cell end near place → IsClose cell end far place
+closer cell end near far place le close =
     let fb = close.first_below in
     let fa = close.first_above in
     let lb = close.last_below in
     let la = close.last_above in
-    let whole : place.first + apart place ≡ place.last = omega (arith, fa, lb) in
     record {
-      in_row = front;
-      begins = λ bit h.
-          let e = edge_at drawing bit is in
-          let c = core_begins (end_of drawing is) place.first (apart place) bit h fb fa (omega (arith, whole, lb))
-          (omega (arith, whole, la)) front in
-          omega (arith, e, c, begins);
-      ends = λ bit h.
-          let e = edge_at drawing (bit + 1) is in
-          let c = core_ends (end_of drawing is) place.first (apart place) bit h fb fa (omega (arith, whole, lb))
-          (omega (arith, whole, la)) front in
-          omega (arith, e, c, begins);
+      first_below = omega (arith, fb, le);
+      first_above = omega (arith, fa, le);
+      last_below = omega (arith, lb, le);
+      last_above = omega (arith, la, le);
     }
 
-margin_at : (dark swing noise core : ℕ) → dark ≤ swing → noise ≡ 0 → 179 ≤ core
-    → 204 * (dark + noise * (core + 1)) + 2299 * swing ≤ 70 * (swing * core)
-margin_at dark swing noise core few none long =
-    let m = mul-le-mul_left swing long in
-    let n = ap (λ (k : ℕ). k * (core + 1)) none in
-    omega (arith, m, n)
+kept_exact : (word dark swing cell end near : ℕ) (row : List ℕ) (place : Place) → IsLit word dark swing cell end row
+    → near ≤ cell → apart place ≡ 80 * cell → apart place ≤ 80 * place.first → IsClose cell end near place
+    → IsKept swing cell end near row place
+kept_exact word dark swing cell end near row place is short wide front close = record {
+  close = closer cell end near (5 * near + 4) place (omega arith) close;
+  front = front;
+  falls = nine_enough swing cell near row place
+      (pair_exact word dark swing cell end near row place is short wide (omega (arith, wide, front)) close.first_below
+      close.first_above);
+}
 
-close_has_margin : (drawing : Drawing) (is : IsOnWholePixels drawing) (place : Place)
-    → IsClose (end_of drawing is) 23 place → HasMargin drawing place
-close_has_margin drawing is place close =
+kept_rounded : (word dark swing cell end near : ℕ) (row : List ℕ) (place : Place) → IsLit word dark swing cell end row
+    → 30 * (near + 1) ≤ cell → cell ≤ 768 → apart place ≤ 80 * place.first → IsClose cell end near place
+    → IsKept swing cell end (near + 2) row place
+kept_rounded word dark swing cell end near row place is room narrow front close =
+    let fb = close.first_below in
     let fa = close.first_above in
     let lb = close.last_below in
-    margin_at drawing.dark drawing.swing drawing.noise (core place) is.levels is.exact (omega (arith, fa, lb))
+    let la = close.last_above in
+    let begins : cell ≤ place.first + 0 = omega (arith, front, fa, lb, room, narrow) in
+    record {
+      close = closer cell end near (5 * (near + 2) + 4) place (omega arith) close;
+      front = front;
+      falls = nine_enough swing cell (near + 2) row place (λ pair h.
+          let falls = pair_beside word dark swing cell end near 0 1 row place is (omega (arith, room))
+          (omega (arith, room)) (omega (arith, room, narrow)) front begins close pair h in
+          omega (arith, falls));
+    }
+
+-- ---- the cores
+
+-- how much of a core may spill, where both ends of a place are so far from the true ones
+abbrev spill_of : ℕ → ℕ → ℕ
+spill_of cell near = (10 * (5 * near + 4) + 15 - cell) / 8
+
+core_begins : (cell end near spill first apart bit : ℕ) → bit < 90 → 10 * near + 8 ≤ cell + 8 * spill
+    → end ≤ first + near → first ≤ end + near → end + 80 * cell ≤ first + apart + near
+    → first + apart ≤ end + 80 * cell + near → apart ≤ 80 * first
+    → end + cell * bit ≤ (640 * first + apart * (8 * bit + 1) - 8 * apart) / 640 + cell + spill
+core_begins cell end near spill first apart bit h room fb fa lb la front =
+    let cases : (80 * cell ≤ apart) ⊎ (apart ≤ 80 * cell) = grind arith in
+    elim cases [
+      | inl wide ↦ let m = mul-le-mul_left bit wide in omega (arith, m, wide, room, fb, fa, lb, la, front)
+      | inr narrow ↦
+          let e = rest_of apart (80 * cell) narrow in
+          let p = e.1 in
+          let most : bit ≤ 89 = omega (arith, h) in
+          let m = mul-le-mul_left e.0 most in
+          let all = ap (λ (n : ℕ). n * bit) p in
+          omega (arith, m, all, p, room, fb, fa, lb, la, front)
+    ]
+
+core_ends : (cell end near spill first apart bit : ℕ) → bit < 90 → 10 * near + 8 ≤ cell + 8 * spill
+    → end ≤ first + near → first ≤ end + near → end + 80 * cell ≤ first + apart + near
+    → first + apart ≤ end + 80 * cell + near → apart ≤ 80 * first
+    → (640 * first + apart * (8 * bit + 7) - 8 * apart) / 640 ≤ end + cell * bit + spill
+core_ends cell end near spill first apart bit h room fb fa lb la front =
+    let cases : (80 * cell ≤ apart) ⊎ (apart ≤ 80 * cell) = grind arith in
+    elim cases [
+      | inr narrow ↦ let m = mul-le-mul_left bit narrow in omega (arith, m, narrow, room, fb, fa, lb, la, front)
+      | inl wide ↦
+          let e = rest_of (80 * cell) apart wide in
+          let p = e.1 in
+          let most : bit ≤ 89 = omega (arith, h) in
+          let m = mul-le-mul_left e.0 most in
+          let all = ap (λ (n : ℕ). n * bit) p in
+          omega (arith, m, all, p, room, fb, fa, lb, la, front)
+    ]
+
+-- a core is shorter than a cell, so it spills at one end only
+core_short : (cell end near first apart bit : ℕ) → 128 ≤ cell → 30 * (near + 1) ≤ cell
+    → first ≤ end + (5 * near + 4) → end ≤ first + (5 * near + 4)
+    → first + apart ≤ end + 80 * cell + (5 * near + 4) → apart ≤ 80 * first
+    → (640 * first + apart * (8 * bit + 7) - 8 * apart) / 640
+    ≤ (640 * first + apart * (8 * bit + 1) - 8 * apart) / 640 + cell
+core_short cell end near first apart bit wide room fa fb la front = omega (arith, wide, room, fa, fb, la, front)
+
+core_long : (cell near apart : ℕ) → 128 ≤ cell → 30 * (near + 1) ≤ cell → 80 * cell ≤ apart + 10 * near + 8
+    → 7 * spill_of cell near + 5 ≤ 6 * apart / 640
+core_long cell near apart wide room least = omega (arith, wide, room, least)
+
+one_end : (begin stop cell true_end : ℕ) → stop ≤ begin + cell → (true_end ≤ begin + cell) ⊎ (stop ≤ true_end)
+one_end begin stop cell true_end short = grind (arith, short)
+
+spilt_one : (cell end near first apart bit n begin stop : ℕ) → bit < 90 → HasRoom cell near
+    → end ≤ first + (5 * near + 4) → first ≤ end + (5 * near + 4) → end + 80 * cell ≤ first + apart + (5 * near + 4)
+    → first + apart ≤ end + 80 * cell + (5 * near + 4) → apart ≤ 80 * first
+    → begin ≡ (640 * first + apart * (8 * bit + 1) - 8 * apart) / 640
+    → stop ≡ (640 * first + apart * (8 * bit + 7) - 8 * apart) / 640 → begin + n ≡ stop → 6 * apart / 640 ≤ n
+    → IsSpilt cell end bit begin n stop (spill_of cell near)
+spilt_one cell end near first apart bit n begin stop h room fb fa lb la front begin_is stop_is all long =
+    let r = room.room in
+    let wide = room.wide in
+    let enough : 10 * (5 * near + 4) + 8 ≤ cell + 8 * spill_of cell near = omega arith in
+    let a = core_begins cell end (5 * near + 4) (spill_of cell near) first apart bit h enough fb fa lb la front in
+    let b = core_ends cell end (5 * near + 4) (spill_of cell near) first apart bit h enough fb fa lb la front in
+    let c = core_short cell end near first apart bit wide r fa fb la front in
+    let d = core_long cell near apart wide r (omega (arith, fa, lb)) in
+    record {
+      all = all;
+      more = omega (arith, d, long);
+      before = omega (arith, a, begin_is);
+      behind = omega (arith, b, stop_is);
+      one = one_end begin stop cell (end + cell * bit) (omega (arith, c, begin_is, stop_is));
+    }
+
+close_spilt : (cell end near : ℕ) (place : Place) → HasRoom cell near → IsClose cell end (5 * near + 4) place
+    → apart place ≤ 80 * place.first → AreSpilt cell end (spill_of cell near) place
+close_spilt cell end near place room close front =
+    let fb = close.first_below in
+    let fa = close.first_above in
+    let lb = close.last_below in
+    let la = close.last_above in
+    let r = room.room in
+    let whole : place.first + apart place ≡ place.last = omega (arith, fa, lb, r) in
+    record {
+      front = front;
+      each = λ bit n h all.
+          let begin = eighth place (8 * bit + 1) in
+          let stop = eighth place (8 * bit + 7) in
+          let long = long_enough place.first (apart place) bit front in
+          spilt_one cell end near place.first (apart place) bit n begin stop h room fb fa (omega (arith, whole, lb))
+          (omega (arith, whole, la)) front refl refl all (omega (arith, long, all));
+    }
 
 -- ---- the place of the word
 
 -- where the word of a row lies, near the true place
-pub record LiesNear (swing end : ℕ) (row : List ℕ) : Type 0 where
+pub record LiesNear (swing cell end near : ℕ) (row : List ℕ) : Type 0 where
   pub place : Place
   pub lies : LiesAt row place
-  pub kept : IsKept swing end row place
+  pub kept : IsKept swing cell end near row place
 
-lies_near : (word dark swing twos end : ℕ) (row : List ℕ) → IsLit word dark swing twos end row → LiesNear swing end row
-lies_near word dark swing twos end row is =
-    let long = is.long in
-    let few : 2 * grain (length row) ≤ 64 = omega (arith, long) in
-    let found = refines_kept word dark swing twos end row (2 * grain (length row)) 8 (coarse_at end) is few
-    (coarse_kept word dark swing twos end row is) in
-    let first = none_before row found.0 (stands_first word dark swing twos end row found.0 is found.2) in
+lies_near : (word dark swing cell end near : ℕ) (row : List ℕ) (sum : ℕ) (coarse : Place)
+    → IsLit word dark swing cell end row → HasRoom cell near → 95 * length row ≤ 600 * cell → IsCoarse row sum coarse
+    → 9 * EVEN < sum → IsKept swing cell end near row coarse → LiesNear swing cell end near row
+lies_near word dark swing cell end near row sum coarse is room narrow is_coarse falls kept =
+    let r = room.room in
+    let short : IsShort cell near (2 * grain (length row)) = omega (arith, narrow, r) in
+    let found = refines_kept word dark swing cell end near row (2 * grain (length row)) 8 coarse is room.wide short kept
+    in
+    let none = none_before row found.0 (stands_first word dark swing cell end near row found.0 is room found.2) in
     record {
       place = found.0;
       lies = record {
-        coarse = coarse_at end;
-        sum = best_at row 15;
-        is_coarse = finds_the_pixel word dark swing twos end row is;
-        falls = sum_is_enough word dark swing twos end row is;
+        coarse = coarse;
+        sum = sum;
+        is_coarse = is_coarse;
+        falls = falls;
         deepest = found.0;
         fine = found.1;
-        earliest_is = sym first;
+        earliest_is = sym none;
       };
       kept = found.2;
     }
 
-is_row : (row : List ℕ) → length row ≡ 1440 → IsRow row
-is_row row long = (omega (arith, long), omega (arith, long))
+-- ---- a drawing beside which the search of whole pixels comes out
 
-pub is_found : (drawing : Drawing) (row : List ℕ) → length row ≡ 1440 → IsDrawn drawing row → IsOnWholePixels drawing
+-- how far both ends are from the true ones at most, in sixteenths of a pixel
+abbrev beside : ℕ → ℕ → ℕ
+beside a b = (a - b) + (b - a)
+
+abbrev beside_ends : ℕ → ℕ → Place → ℕ
+beside_ends cell end place = max (beside place.first end) (beside place.last (end + 80 * cell))
+
+is_close : (cell end : ℕ) (place : Place) → IsClose cell end (beside_ends cell end place) place
+is_close cell end place = record {
+  first_below = omega arith;
+  first_above = omega arith;
+  last_below = omega arith;
+  last_above = omega arith;
+}
+
+-- where the word of a drawing lies
+pub record LiesThere (drawing : Drawing) (row : List ℕ) (is : IsOnWholePixels drawing) : Type 0 where
+  pub near : ℕ
+  pub room : HasRoom (cell_of drawing is) near
+  pub lies : LiesNear drawing.swing (cell_of drawing is) (end_of drawing is) near row
+
+-- how much room there is, with so many sixteenths more
+room_of : (drawing : Drawing) (is : IsOnWholePixels drawing) (place : Place) (besides : IsBeside drawing place)
+    → (near : ℕ) → near ≡ beside_ends (cell_of drawing is) (end_of drawing is) place
+    → 30 * (near + besides.more) ≤ cell_of drawing is
+room_of drawing is place besides near near_is =
+    let cells = is.cells in
+    let first_is = edge_at drawing 1 is in
+    let last_is = edge_at drawing 81 is in
+    let e = besides.first.above in
+    let f = besides.first.below in
+    let g = besides.last.above in
+    let h = besides.last.below in
+    let z : 30 * (beside place.first (end_of drawing is) + besides.more) ≤ cell_of drawing is
+    = omega (arith, first_is, cells, e, f) in
+    let w : 30 * (beside place.last (end_of drawing is + 80 * cell_of drawing is) + besides.more) ≤ cell_of drawing is
+    = omega (arith, last_is, cells, g, h) in
+    omega (arith, near_is, z, w)
+
+-- a row of 4,096 pixels has cells of 44
+few_pixels : (pixels width cell : ℕ) → width ≤ 4096 → 9600 * cell ≤ 105 * (10240 * width) → cell ≡ 10240 * pixels
+    → 16 * pixels ≤ 768
+few_pixels pixels width cell most wide is = omega (arith, most, wide, is)
+
+lies_there : (drawing : Drawing) (row : List ℕ) (sum : ℕ) (coarse : Place) → IsRow row → IsDrawn drawing row
+    → (is : IsOnWholePixels drawing) → IsCoarse row sum coarse → 9 * EVEN < sum → IsBeside drawing coarse
+    → LiesThere drawing row is
+lies_there drawing row sum coarse is_row drawn is is_coarse falls besides =
+    let word = drawing.word in
+    let dark = drawing.dark in
+    let swing = drawing.swing in
+    let cell = cell_of drawing is in
+    let end = end_of drawing is in
+    let cells = is.cells in
+    let near = beside_ends cell end coarse in
+    let lit = is_lit drawing row drawn is in
+    let room = room_of drawing is coarse besides near refl in
+    let of_row = drawn.of_row.narrow in
+    let least = besides.wide in
+    let some : 128 ≤ cell = omega (arith, least, cells) in
+    let few : cell ≤ 768 = few_pixels is.pixels (length row) drawing.cell is_row.1 drawn.of_row.wide cells in
+    let narrow : 95 * length row ≤ 600 * cell = omega (arith, of_row, cells) in
+    let front = besides.in_row in
+    let close = is_close cell end coarse in
+    elim besides.enough [
+      | inl exact ↦
+          let more = exact.0 in
+          let wide = exact.1 in
+          let has : HasRoom cell near = record {
+            wide = some;
+            narrow = few;
+            room = omega (arith, room, more);
+          } in
+          let kept = kept_exact word dark swing cell end near row coarse lit (omega (arith, room))
+          (omega (arith, wide, cells)) front close in
+          record {
+            near = near;
+            room = has;
+            lies = lies_near word dark swing cell end near row sum coarse lit has narrow is_coarse falls kept;
+          }
+      | inr more ↦
+          let has : HasRoom cell (near + 2) = record {
+            wide = some;
+            narrow = few;
+            room = omega (arith, room, more);
+          } in
+          let kept = kept_rounded word dark swing cell end near row coarse lit (omega (arith, room, more)) few front close
+          in
+          record {
+            near = near + 2;
+            room = has;
+            lies = lies_near word dark swing cell end (near + 2) row sum coarse lit has narrow is_coarse falls kept;
+          }
+    ]
+
+-- ---- a drawing that is looked at
+
+is_sought : (drawing : Drawing) (row : List ℕ) → IsDrawn drawing row → (is : IsOnWholePixels drawing)
+    → (sought : IsLookedAt drawing (length row))
+    → IsSought (cell_of drawing is) (end_of drawing is) sought.wide sought.early row
+is_sought drawing row drawn is sought =
+    let cells = is.cells in
+    let narrow = sought.cells in
+    let wide = drawn.of_row.wide in
+    record {
+      large = sought.large;
+      narrow = omega (arith, cells, narrow);
+      broad = omega (arith, cells, wide);
+      one_distance = sought.one_distance;
+      one_start = sought.one_start;
+      pixels = λ pair h.
+          let pixel = sought.pixels pair h in
+          let there = edge_at drawing (10 * pair + 1) is in
+          omega (arith, pixel, there);
+    }
+
+lies_sought : (drawing : Drawing) (row : List ℕ) → IsRow row → IsDrawn drawing row → (is : IsOnWholePixels drawing)
+    → IsLookedAt drawing (length row) → LiesThere drawing row is
+lies_sought drawing row is_row drawn is sought =
+    let lit = is_lit drawing row drawn is in
+    let there = is_sought drawing row drawn is sought in
+    lies_there drawing row (best_at row sought.wide) (record {
+      first = start (length row) sought.early;
+      last = start (length row) sought.early + distance (length row) sought.wide;
+    }) is_row drawn is
+    (finds_the_pixel drawing.word drawing.dark drawing.swing (cell_of drawing is) (end_of drawing is) sought.wide
+    sought.early row lit there)
+    (sum_is_enough drawing.word drawing.dark drawing.swing (cell_of drawing is) (end_of drawing is) sought.wide
+    sought.early row lit there) sought.beside
+
+-- ---- and says its word
+
+-- no margin is asked for: a drawing on whole pixels has a 1 twice as light as a 0
+some_margin : (dark swing noise : ℕ) → dark ≤ swing → noise ≡ 0
+    → 204 * (dark + noise * (36 + 1)) + 2299 * swing ≤ 70 * (swing * 36)
+some_margin dark swing noise few none = omega (arith, few, none)
+
+says_there : (drawing : Drawing) (row : List ℕ) → IsRow row → IsDrawn drawing row → (is : IsOnWholePixels drawing)
+    → LiesThere drawing row is
     → (code : CodeRow) × IsCode row code × (says_bits code.levels ≡ true) × (number_of code.levels ≡ drawing.word)
-is_found drawing row long drawn is =
-    let near = lies_near drawing.word drawing.dark drawing.swing is.twos (end_of drawing is) row
-    (is_lit drawing row drawn is long) in
-    let code = carries_its_word drawing row near.place (is_row row long) drawn near.lies
-    (close_inside drawing is near.place near.kept.close near.kept.front)
-    (close_has_margin drawing is near.place near.kept.close) in
-    (code.0, code.1, code.3, code.4)
+says_there drawing row is_row drawn is there =
+    let word = drawing.word in
+    let dark = drawing.dark in
+    let swing = drawing.swing in
+    let cell = cell_of drawing is in
+    let end = end_of drawing is in
+    let near = there.near in
+    let place = there.lies.place in
+    let room = there.room in
+    let lit = is_lit drawing row drawn is in
+    let close = there.lies.kept.close in
+    let fa = close.first_above in
+    let lb = close.last_below in
+    let r = room.room in
+    let wide = room.wide in
+    let spill = spill_of cell near in
+    let cells = is.cells in
+    let none = is.exact in
+    let spilt = close_spilt cell end near place room close there.lies.kept.front in
+    let long = core_long cell near (apart place) wide r (omega (arith, fa, lb)) in
+    let dim = dark_enough drawing row drawn (omega (arith, cells, wide)) in
+    let black : darkest row ≤ dark = omega (arith, dim, none) in
+    let less = rest_of (darkest row) dark black in
+    let pairs = pairs_of drawing row drawn in
+    let says = spilt_says word dark swing cell end spill less.0 row place lit pairs less.1 spilt long in
+    let code : IsCode row (code_at row place) = record {
+      contrast = contrast_is drawing row 36 drawn is_row (some_margin dark swing drawing.noise is.levels none);
+      lies = there.lies.lies;
+      it_counts = spilt_counts word dark swing cell end spill less.0 row place lit pairs drawn.of_row.levels less.1 spilt
+          long;
+      swing_is = refl;
+      heights_are = refl;
+    } in
+    (code_at row place, code, says.said, number_is word (levels_at row place) drawn.of_row.bits says.bits)
+
+pub is_found : (drawing : Drawing) (row : List ℕ) → IsRow row → IsDrawn drawing row → IsOnWholePixels drawing
+    → IsLookedAt drawing (length row)
+    → (code : CodeRow) × IsCode row code × (says_bits code.levels ≡ true) × (number_of code.levels ≡ drawing.word)
+is_found drawing row is_row drawn is sought =
+    says_there drawing row is_row drawn is (lies_sought drawing row is_row drawn is sought)
+
+-- where the search comes out beside it
+pub is_found_beside : (drawing : Drawing) (row : List ℕ) (sum : ℕ) (coarse : Place) → IsRow row → IsDrawn drawing row
+    → IsOnWholePixels drawing → IsCoarse row sum coarse → 9 * EVEN < sum → IsBeside drawing coarse
+    → (code : CodeRow) × IsCode row code × (says_bits code.levels ≡ true) × (number_of code.levels ≡ drawing.word)
+is_found_beside drawing row sum coarse is_row drawn is is_coarse falls besides =
+    says_there drawing row is_row drawn is
+    (lies_there drawing row sum coarse is_row drawn is is_coarse falls besides)
 
 -- and no other word is
 pub only_its_word : ((row : List ℕ) (a b : CodeRow) → IsCode row a → IsCode row b → a ≡ b)
-    → (drawing : Drawing) (row : List ℕ) (code : CodeRow) → length row ≡ 1440 → IsDrawn drawing row
-    → IsOnWholePixels drawing → IsCode row code
+    → (drawing : Drawing) (row : List ℕ) (code : CodeRow) → IsRow row → IsDrawn drawing row
+    → IsOnWholePixels drawing → IsLookedAt drawing (length row) → IsCode row code
     → (says_bits code.levels ≡ true) × (number_of code.levels ≡ drawing.word)
-only_its_word one drawing row code long drawn is read =
-    let found = is_found drawing row long drawn is in
+only_its_word one drawing row code is_row drawn is sought read =
+    let found = is_found drawing row is_row drawn is sought in
     subst (λ (c : CodeRow). (says_bits c.levels ≡ true) × (number_of c.levels ≡ drawing.word))
     (one row found.0 code found.1 read) (found.2, found.3)
 
 -- so a field has its line
 pub has_the_line : OneCode → (drawing : Drawing) (raster : RasterSize) (field lines row : List ℕ)
-    (before behind : List (List ℕ)) → length row ≡ 1440 → IsDrawn drawing row → IsOnWholePixels drawing
-    → looked_at raster (whole_parts raster.width field) ≡ before ++ (row ∷ behind) → length before < 20
-    → SaysLines raster field lines → (first rest : List ℕ) × (lines ≡ first ++ (drawing.word ∷ rest))
-has_the_line one drawing raster field lines row before behind long drawn is looked few said =
-    let near = lies_near drawing.word drawing.dark drawing.swing is.twos (end_of drawing is) row
-    (is_lit drawing row drawn is long) in
-    has_its_line one drawing raster field lines row before behind near.place (is_row row long) drawn near.lies
-    (close_inside drawing is near.place near.kept.close near.kept.front)
-    (close_has_margin drawing is near.place near.kept.close) looked few said
+    (before behind : List (List ℕ)) → IsRow row → IsDrawn drawing row → IsOnWholePixels drawing
+    → IsLookedAt drawing (length row) → looked_at raster (whole_parts raster.width field) ≡ before ++ (row ∷ behind)
+    → length before < 20 → SaysLines raster field lines
+    → (first rest : List ℕ) × (lines ≡ first ++ (drawing.word ∷ rest))
+has_the_line one drawing raster field lines row before behind is_row drawn is sought looked few said =
+    let found = is_found drawing row is_row drawn is sought in
+    has_the_line_of one drawing.word raster field lines row before behind found.0 found.1 found.2 found.3 looked few
+    said

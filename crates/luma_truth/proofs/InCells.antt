@@ -13,7 +13,7 @@ use Rattle.luma_truth.proofs.InHalves.{bright_least, bright_most, dark_least, da
 use Rattle.luma_truth.proofs.InCores.{bright_core, dark_core, light_at_least, light_at_most, Core}
 
 -- a core has the whole sixteenths of six eighths of a cell, or one more
-long_enough : (first apart bit : ℕ) → apart ≤ 80 * first
+pub long_enough : (first apart bit : ℕ) → apart ≤ 80 * first
     → (640 * first + apart * (8 * bit + 1) - 8 * apart) / 640 + 6 * apart / 640
     ≤ (640 * first + apart * (8 * bit + 7) - 8 * apart) / 640
 long_enough first apart bit h = omega arith
@@ -69,7 +69,7 @@ core_of drawing row place less over bit begin end is h begin_is end_is =
     }
 
 -- how many sixteenths a core has
-length_of : (place : Place) (bit begin end : ℕ) → apart place ≤ 80 * place.first
+pub length_of : (place : Place) (bit begin end : ℕ) → apart place ≤ 80 * place.first
     → begin ≡ eighth place (8 * bit + 1) → end ≡ eighth place (8 * bit + 7)
     → (begin + (end - begin) ≡ end) × ((end - begin ≡ core place) ⊎ (end - begin ≡ core place + 1))
 length_of place bit begin end h begin_is end_is =
@@ -82,7 +82,7 @@ length_of place bit begin end h begin_is end_is =
     (e, cases)
 
 -- the light of a cell in the list of all
-cell_is : (row : List ℕ) (place : Place) (bit : ℕ) → bit < 90 → get_or (cells_of row place) bit 0 ≡ cell row place bit
+pub cell_is : (row : List ℕ) (place : Place) (bit : ℕ) → bit < 90 → get_or (cells_of row place) bit 0 ≡ cell row place bit
 cell_is row place bit h = get_or-map-range_with_len (cell row place) 0 90 bit bit 0 h (omega arith)
 
 -- how light the cells are

@@ -1,5 +1,5 @@
--- A place that is near the true one stays near it in each move: a move goes no further than four pixels, and only to
--- where all falls no less.
+-- A place that is near the true one stays near it in each move: a move goes no further than half a cell, and
+-- only to where all falls no less.
 use Rattle.std.proofs.Common.{◌≡◌, ℕ, zero, suc, ◌+◌, ◌*◌, ◌/◌, ◌%◌, ◌<◌, ◌≤◌, ◌⊎◌, inl, inr, true, List, length}
 use Rattle.std.proofs.Common.{refl, sym, subst, arith}
 use Rattle.std.proofs.lemmas.Bool.Decides.{nat_tests}
@@ -7,7 +7,7 @@ use Rattle.luma_row.specs.declared.place.Place.{Place}
 use Rattle.luma_row.specs.Choice.{IsFirstBest}
 use Rattle.luma_row.specs.Climb.{halved, moved, neighbour, worth, Climbs, Moves, Refines}
 use Rattle.luma_row.specs.Place.{apart, fits, score}
-use Rattle.luma_truth.proofs.NearPairs.{enough, pulled, IsClose}
+use Rattle.luma_truth.proofs.NearPairs.{pulled, FallsEnough, IsClose}
 use Rattle.luma_truth.proofs.NoLess.{moves_on}
 use Rattle.luma_truth.proofs.OnPixels.{IsLit}
 
@@ -56,10 +56,10 @@ best_of (suc n) worth =
     ]
 
 -- a place that is near, and falls nearly the most
-pub record IsKept (swing end : ℕ) (row : List ℕ) (place : Place) : Type 0 where
-  pub close : IsClose end 23 place
+pub record IsKept (swing cell end near : ℕ) (row : List ℕ) (place : Place) : Type 0 where
+  pub close : IsClose cell end (5 * near + 4) place
   pub front : apart place ≤ 80 * place.first
-  pub falls : enough swing ≤ score row place
+  pub falls : FallsEnough swing cell near (score row place)
 
 -- a step of an end goes as far as the step
 moved_above : (place step number : ℕ) → moved place step number ≤ place + step
@@ -72,9 +72,9 @@ moved_below place step zero = omega arith
 moved_below place step (suc zero) = omega arith
 moved_below place step (suc (suc n)) = omega arith
 
-moved_close : (end step number : ℕ) (place : Place) → step ≤ 64 → IsClose end 23 place
-    → IsClose end 87 (neighbour place step number)
-moved_close end step number place few close =
+moved_close : (cell end near step number : ℕ) (place : Place) → IsClose cell end (5 * near + 4) place
+    → IsClose cell end (5 * near + 4 + step) (neighbour place step number)
+moved_close cell end near step number place close =
     let fb = close.first_below in
     let fa = close.first_above in
     let lb = close.last_below in
@@ -93,43 +93,59 @@ moved_close end step number place few close =
 pub front_of : (width : ℕ) (place : Place) → fits width place ≡ true → apart place ≤ 80 * place.first
 front_of width place fit = grind (arith, nat_tests)
 
-move_kept : (word dark swing twos end : ℕ) (row : List ℕ) (step : ℕ) (from to : Place)
-    → IsLit word dark swing twos end row → step ≤ 64 → IsKept swing end row from → Moves row step from to
-    → IsKept swing end row to
-move_kept word dark swing twos end row step from to is few kept moves =
+-- a step goes from near the true place no further than half a cell
+abbrev pub IsShort : ℕ → ℕ → ℕ → Type 0
+IsShort cell near step = 2 * (5 * near + 4 + step) ≤ cell
+
+move_kept : (word dark swing cell end near : ℕ) (row : List ℕ) (step : ℕ) (from to : Place)
+    → IsLit word dark swing cell end row → 128 ≤ cell → IsShort cell near step
+    → IsKept swing cell end near row from → Moves row step from to → IsKept swing cell end near row to
+move_kept word dark swing cell end near row step from to is some short kept moves =
     let no_less = moves_on row step from to moves in
     elim no_less.fits [
-      | inl same ↦ subst (IsKept swing end row) (sym same) kept
+      | inl same ↦ subst (IsKept swing cell end near row) (sym same) kept
       | inr fit ↦
-          let close = subst (IsClose end 87) (sym moves.2) (moved_close end step moves.0 from few kept.close) in
+          let close = subst (IsClose cell end (5 * near + 4 + step)) (sym moves.2)
+          (moved_close cell end near step moves.0 from kept.close) in
           let front = front_of (length row) to fit in
           let before = kept.falls in
           let more = no_less.falls in
-          let falls : enough swing ≤ score row to = omega (arith, before, more) in
-          record { close = pulled word dark swing twos end row to is front close falls; front = front; falls = falls }
+          let falls : FallsEnough swing cell near (score row to) = omega (arith, before, more) in
+          record {
+            close = pulled word dark swing cell end near (5 * near + 4 + step) row to is some short front close falls;
+            front = front;
+            falls = falls;
+          }
     ]
 
-pub climbs_kept : (word dark swing twos end : ℕ) (row : List ℕ) (step moves : ℕ) (from : Place)
-    → IsLit word dark swing twos end row → step ≤ 64 → IsKept swing end row from
-    → (to : Place) × Climbs row step moves from to × IsKept swing end row to
-climbs_kept word dark swing twos end row step zero from is few kept = (from, refl, kept)
-climbs_kept word dark swing twos end row step (suc moves) from is few kept =
-    let before = climbs_kept word dark swing twos end row step moves from is few kept in
+pub climbs_kept : (word dark swing cell end near : ℕ) (row : List ℕ) (step moves : ℕ) (from : Place)
+    → IsLit word dark swing cell end row → 128 ≤ cell → IsShort cell near step
+    → IsKept swing cell end near row from
+    → (to : Place) × Climbs row step moves from to × IsKept swing cell end near row to
+climbs_kept word dark swing cell end near row step zero from is some short kept = (from, refl, kept)
+climbs_kept word dark swing cell end near row step (suc moves) from is some short kept =
+    let before = climbs_kept word dark swing cell end near row step moves from is some short kept in
     let best = best_of 8 (worth row before.0 step) in
     let to = neighbour before.0 step best.0 in
-    let move : Moves row step before.0 to = (best.0, best.1, refl) in
-    (to, (before.0, before.1, move), move_kept word dark swing twos end row step before.0 to is few before.2 move)
+    let move : Moves row step before.0 to = (best.0, best.1, refl) in (
+      to,
+      (before.0, before.1, move),
+      move_kept word dark swing cell end near row step before.0 to is some short before.2 move,
+    )
 
-halved_few : (step times most : ℕ) → step ≤ most → halved step times ≤ most
-halved_few step zero most h = h
-halved_few step (suc times) most h = let before = halved_few step times most h in omega (arith, before)
+halved_short : (cell near step times : ℕ) → IsShort cell near step → IsShort cell near (halved step times)
+halved_short cell near step zero h = h
+halved_short cell near step (suc times) h =
+    let before = halved_short cell near step times h in
+    omega (arith, before)
 
-pub refines_kept : (word dark swing twos end : ℕ) (row : List ℕ) (step steps : ℕ) (from : Place)
-    → IsLit word dark swing twos end row → step ≤ 64 → IsKept swing end row from
-    → (to : Place) × Refines row step steps from to × IsKept swing end row to
-refines_kept word dark swing twos end row step zero from is few kept = (from, refl, kept)
-refines_kept word dark swing twos end row step (suc steps) from is few kept =
-    let before = refines_kept word dark swing twos end row step steps from is few kept in
-    let more = climbs_kept word dark swing twos end row (halved step steps) 6 before.0 is
-    (halved_few step steps 64 few) before.2 in
+pub refines_kept : (word dark swing cell end near : ℕ) (row : List ℕ) (step steps : ℕ) (from : Place)
+    → IsLit word dark swing cell end row → 128 ≤ cell → IsShort cell near step
+    → IsKept swing cell end near row from
+    → (to : Place) × Refines row step steps from to × IsKept swing cell end near row to
+refines_kept word dark swing cell end near row step zero from is some short kept = (from, refl, kept)
+refines_kept word dark swing cell end near row step (suc steps) from is some short kept =
+    let before = refines_kept word dark swing cell end near row step steps from is some short kept in
+    let more = climbs_kept word dark swing cell end near row (halved step steps) 6 before.0 is some
+    (halved_short cell near step steps short) before.2 in
     (more.0, (before.0, before.1, more.1), more.2)

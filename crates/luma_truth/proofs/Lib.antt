@@ -1,4 +1,5 @@
 mod AllSay
+mod BesidePairs
 mod BothEnds
 mod CleanDrawing
 mod Eleven
@@ -21,7 +22,9 @@ mod PairsCount
 mod Rest
 mod Rounded
 mod Searched
+mod Spilt
 mod StepByStep
+mod Sums
 mod TenHours
 mod TenHoursFound
 mod TenHoursRow

@@ -121,6 +121,34 @@ some_code : OneCode → (row : List ℕ) (say : Option CodeRow) (code : CodeRow)
 some_code one row None code said is = absurd (said code is)
 some_code one row (Some other) code said is = ap (λ (c : CodeRow). Some c) (one row other code said is)
 
+pub has_the_line_of : OneCode → (word : ℕ) (raster : RasterSize) (field lines row : List ℕ)
+    (before behind : List (List ℕ)) (code : CodeRow) → IsCode row code → says_bits code.levels ≡ true
+    → number_of code.levels ≡ word → looked_at raster (whole_parts raster.width field) ≡ before ++ (row ∷ behind)
+    → length before < 20 → SaysLines raster field lines → (first rest : List ℕ) × (lines ≡ first ++ (word ∷ rest))
+has_the_line_of one word raster field lines row before behind code is says_it number looked few said =
+    let says = said.are.0 in
+    let zipped = subst (λ (rows : List (List ℕ)). AllZip Says rows says) looked said.are.1 in
+    let of_row = said_of row before behind says zipped in
+    let some = some_code one row of_row.say code of_row.said is in
+    let all : says ≡ of_row.first ++ (Some code ∷ of_row.rest) =
+    of_row.are ∙ ap (λ (say : Option CodeRow). of_row.first ++ (say ∷ of_row.rest)) some in
+    let found = found_behind raster.first of_row.first code of_row.rest in
+    let long = few_found raster.first of_row.first in
+    let early : length (found_from raster.first of_row.first) < 20 = omega (arith, long, of_row.long, few) in
+    let front = take_front 20 (found_from raster.first of_row.first) (record { number = found.0; row = code }) found.1
+    early in
+    let found_is : said.found ≡ found_from raster.first of_row.first
+    ++ (record { number = found.0; row = code } ∷ front.0) =
+    said.are.2 ∙ (ap (λ (list : List (Option CodeRow)). take 20 (found_from raster.first list)) all
+    ∙ (ap (λ (list : List FoundRow). take 20 list) found.2 ∙ front.1)) in
+    let lines_are = lines_with raster.width word found.0 code (found_from raster.first of_row.first) front.0
+    early says_it number (flat_map (line_of_pair raster.width) (pairs said.found)) in (
+      lines_are.0,
+      lines_are.1,
+      said.lines ∙ (ap (λ (list : List FoundRow). take 20 (flat_map line_of_row list
+          ++ flat_map (line_of_pair raster.width) (pairs said.found))) found_is ∙ lines_are.2),
+    )
+
 pub has_its_line : OneCode → (drawing : Drawing) (raster : RasterSize) (field lines row : List ℕ)
     (before behind : List (List ℕ)) (place : Place) → IsRow row → IsDrawn drawing row → LiesAt row place
     → LiesInside drawing place → HasMargin drawing place
@@ -128,25 +156,4 @@ pub has_its_line : OneCode → (drawing : Drawing) (raster : RasterSize) (field 
     → SaysLines raster field lines → (first rest : List ℕ) × (lines ≡ first ++ (drawing.word ∷ rest))
 has_its_line one drawing raster field lines row before behind place row_is is lies inside enough looked few said =
     let code = carries_its_word drawing row place row_is is lies inside enough in
-    let says = said.are.0 in
-    let zipped = subst (λ (rows : List (List ℕ)). AllZip Says rows says) looked said.are.1 in
-    let of_row = said_of row before behind says zipped in
-    let some = some_code one row of_row.say code.0 of_row.said code.1 in
-    let all : says ≡ of_row.first ++ (Some code.0 ∷ of_row.rest) =
-    of_row.are ∙ ap (λ (say : Option CodeRow). of_row.first ++ (say ∷ of_row.rest)) some in
-    let found = found_behind raster.first of_row.first code.0 of_row.rest in
-    let long = few_found raster.first of_row.first in
-    let early : length (found_from raster.first of_row.first) < 20 = omega (arith, long, of_row.long, few) in
-    let front = take_front 20 (found_from raster.first of_row.first) (record { number = found.0; row = code.0 }) found.1
-    early in
-    let found_is : said.found ≡ found_from raster.first of_row.first
-    ++ (record { number = found.0; row = code.0 } ∷ front.0) =
-    said.are.2 ∙ (ap (λ (list : List (Option CodeRow)). take 20 (found_from raster.first list)) all
-    ∙ (ap (λ (list : List FoundRow). take 20 list) found.2 ∙ front.1)) in
-    let lines_are = lines_with raster.width drawing.word found.0 code.0 (found_from raster.first of_row.first) front.0
-    early code.3 code.4 (flat_map (line_of_pair raster.width) (pairs said.found)) in (
-      lines_are.0,
-      lines_are.1,
-      said.lines ∙ (ap (λ (list : List FoundRow). take 20 (flat_map line_of_row list
-          ++ flat_map (line_of_pair raster.width) (pairs said.found))) found_is ∙ lines_are.2),
-    )
+    has_the_line_of one drawing.word raster field lines row before behind code.0 code.1 code.3 code.4 looked few said

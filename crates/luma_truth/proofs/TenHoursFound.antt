@@ -23,7 +23,7 @@ use Rattle.luma_truth.proofs.BothEnds.{near_lies_inside}
 use Rattle.luma_truth.proofs.CleanDrawing.{carries_its_word}
 use Rattle.luma_truth.proofs.NoLess.{none_before}
 use Rattle.luma_truth.proofs.Rounded.{length_is, rounded_is_drawn}
-use Rattle.luma_truth.proofs.Searched.{greatest_less, greatest_within, one_of_greatest}
+use Rattle.luma_truth.proofs.Sums.{greatest_less, greatest_within, one_of_greatest}
 use Rattle.luma_truth.proofs.TenHours.{each, isnt, ten_hours_fits}
 use Rattle.luma_truth.proofs.TenHoursRow.{falls_are, row_is, row_is_long, ten_hours_falls, ten_hours_row}
 

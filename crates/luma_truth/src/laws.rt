@@ -1,10 +1,12 @@
 //! What follows from the definitions alone: from a clean drawing to its word.
-ghost use Rattle.std.specs.Prelude.{◌≡◌, ℕ, ◌+◌, ◌*◌, ◌<◌, ◌≤◌, true, List, ◌∷◌, ◌++◌, length};
+ghost use Rattle.std.specs.Prelude.{◌≡◌, ℕ, ◌+◌, ◌*◌, ◌%◌, ◌<◌, ◌≤◌, true, List, ◌∷◌, ◌++◌, length};
 ghost use Rattle.luma_field.specs.Parts.{whole_parts};
 ghost use Rattle.luma_field.specs.Raster.{RasterSize};
 ghost use Rattle.luma_field.specs.Rows.{looked_at, SaysLines};
+ghost use Rattle.luma_row.specs.declared.light.TheConstants.{EVEN};
 ghost use Rattle.luma_row.specs.declared.place.Place.{Place};
 ghost use Rattle.luma_row.specs.declared.row.CodeRow.{CodeRow};
+ghost use Rattle.luma_row.specs.Coarse.{IsCoarse};
 ghost use Rattle.luma_row.specs.Levels.{number_of, says_bits};
 ghost use Rattle.luma_row.specs.Light.{IsRow};
 ghost use Rattle.luma_row.specs.Row.{IsCode, LiesAt};
@@ -12,7 +14,7 @@ ghost use Rattle.luma_truth.specs.Alone.{FallsNoLess, IsSummit, StandsAlone, Sta
 ghost use Rattle.luma_truth.specs.Drawing.{rounded, Drawing, FitsARow, IsDrawn};
 ghost use Rattle.luma_truth.specs.Inside.{core, HasMargin, IsEnough, LiesInside};
 ghost use Rattle.luma_truth.specs.Near.{IsNear};
-ghost use Rattle.luma_truth.specs.Whole.{IsOnWholePixels};
+ghost use Rattle.luma_truth.specs.Whole.{IsBeside, IsLookedAt, IsOnWholePixels};
 ghost use Rattle.luma_truth.specs.Worked.{eleven, ten_hours};
 
 use luma_row::laws::a_row_says_one_thing;
@@ -69,22 +71,29 @@ pub fn a_drawing_that_stands_alone_is_found()
         → LiesInside drawing place }
 {}
 
-/// In a row of 1,440 pixels each drawing on whole pixels is found and says its word, whatever the word is. Such a row
-/// says nothing else, and a field has its line. Rounding its pixels changes nothing.
+/// A drawing on whole pixels is found where the search of whole pixels looks at it, and the row says its word, whatever
+/// the word is. Such a row says nothing else, and a field has its line. Rounding its pixels changes nothing. In a row of
+/// 1,440 pixels the search looks at each drawing that begins an odd number of pixels behind the begin of the row.
 pub fn a_drawing_on_whole_pixels_is_found()
-    ensures found { (drawing : Drawing) (row : List ℕ) → length row ≡ 1_440 → IsDrawn drawing row
-        → IsOnWholePixels drawing → (code : CodeRow) × IsCode row code × (says_bits code.levels ≡ true)
+    ensures found { (drawing : Drawing) (row : List ℕ) → IsRow row → IsDrawn drawing row → IsOnWholePixels drawing
+        → IsLookedAt drawing (length row) → (code : CodeRow) × IsCode row code × (says_bits code.levels ≡ true)
         × (number_of code.levels ≡ drawing.word) }
-    ensures only { (drawing : Drawing) (row : List ℕ) (code : CodeRow) → length row ≡ 1_440 → IsDrawn drawing row
-        → IsOnWholePixels drawing → IsCode row code
+    ensures only { (drawing : Drawing) (row : List ℕ) (code : CodeRow) → IsRow row → IsDrawn drawing row
+        → IsOnWholePixels drawing → IsLookedAt drawing (length row) → IsCode row code
         → (says_bits code.levels ≡ true) × (number_of code.levels ≡ drawing.word) }
     ensures field { (drawing : Drawing) (raster : RasterSize) (field lines row : List ℕ) (before behind : List (List ℕ))
-        → length row ≡ 1_440 → IsDrawn drawing row → IsOnWholePixels drawing
+        → IsRow row → IsDrawn drawing row → IsOnWholePixels drawing → IsLookedAt drawing (length row)
         → looked_at raster (whole_parts raster.width field) ≡ before ++ (row ∷ behind) → length before < 20
         → SaysLines raster field lines → (first rest : List ℕ) × (lines ≡ first ++ (drawing.word ∷ rest)) }
-    ensures drawn { (drawing : Drawing) → FitsARow drawing 1_440 → IsOnWholePixels drawing
-        → IsDrawn drawing (rounded drawing 1_440) }
-    ensures worked { FitsARow eleven 1_440 × IsOnWholePixels eleven }
+    ensures beside { (drawing : Drawing) (row : List ℕ) (sum : ℕ) (coarse : Place) → IsRow row → IsDrawn drawing row
+        → IsOnWholePixels drawing → IsCoarse row sum coarse → 9 * EVEN < sum → IsBeside drawing coarse
+        → (code : CodeRow) × IsCode row code × (says_bits code.levels ≡ true)
+        × (number_of code.levels ≡ drawing.word) }
+    ensures drawn { (drawing : Drawing) (width : ℕ) → FitsARow drawing width → IsOnWholePixels drawing
+        → IsDrawn drawing (rounded drawing width) }
+    ensures odd { (drawing : Drawing) (whole : IsOnWholePixels drawing) → FitsARow drawing 1_440
+        → whole.before % 2 ≡ 1 → IsLookedAt drawing 1_440 }
+    ensures worked { FitsARow eleven 1_440 × IsOnWholePixels eleven × IsLookedAt eleven 1_440 }
 {
     a_row_says_one_thing();
 }

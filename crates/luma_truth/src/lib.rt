@@ -20,8 +20,10 @@
 //!   cells (`specs/Near.antt`, `IsNear`).
 //! - The place that is found lies in the drawing where it is a summit, and each summit that falls no less than
 //!   the coarse place does (`specs/Alone.antt`, `IsSummit` and `StandsAlone`).
-//! - In a row of 1,440 pixels each drawing on whole pixels is found and says its word, with nothing else to be
-//!   shown of it (`specs/Whole.antt`, `IsOnWholePixels`; `laws::a_drawing_on_whole_pixels_is_found`).
+//! - A drawing on whole pixels is found and says its word, whatever the word is, where the search of whole pixels
+//!   looks at it, or comes out beside it (`specs/Whole.antt`, `IsOnWholePixels`, `IsLookedAt` and `IsBeside`;
+//!   `laws::a_drawing_on_whole_pixels_is_found`). In a row of 1,440 pixels it looks at each that begins an odd number
+//!   of pixels behind the begin of the row.
 //! - The worked row of 720 pixels is found and read (`laws::the_worked_row_is_read`).
 //!
 //! Read `specs/Drawing.antt`, `Inside`, `Near`, `Alone`, `Whole` and `Worked`, in this order, and `laws` beside them.
