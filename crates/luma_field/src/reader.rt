@@ -1,5 +1,6 @@
 //! From the bytes of a field, as they come, to its lines.
-ghost use Rattle.std.specs.Prelude.{◌≡◌, ◌<◌, ◌≤◌, ◌+◌, ◌++◌, ◌∷◌, [], List, ℕ, length, take, Option, IfNone, IfSome};
+ghost use Rattle.std.specs.Prelude.{◌≡◌, ◌<◌, ◌≤◌, ◌+◌, ◌-◌, ◌++◌, ◌∷◌, [], List, ℕ, length, min, take, Option};
+ghost use Rattle.std.specs.Prelude.{IfNone, IfSome};
 ghost use Rattle.luma_row.specs.declared.row.CodeRow.{CodeRow};
 ghost use Rattle.luma_field.specs.KeptReader.{EndsField, HasRows, IsLooked, StandsFor};
 ghost use Rattle.luma_field.specs.Raster.{size_of};
@@ -55,6 +56,7 @@ impl PixelReader {
         ensures some { length self.old.line < self.old.raster.width → 1 ≤ result.0 }
         ensures most { result.0 ≤ length bytes.now }
         ensures row { length self.old.line + result.0 ≤ self.old.raster.width }
+        ensures all { result.0 ≡ min (self.old.raster.width - length self.old.line) (length bytes.now) }
         ensures raster { self.new.raster ≡ self.old.raster }
         ensures part { IfNone result.1 ((part : List ℕ) → StandsFor self.old part
             → StandsFor self.new (part ++ take result.0 bytes.now)) }

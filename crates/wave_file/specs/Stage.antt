@@ -1,6 +1,6 @@
 -- How far a decoder has come, and what the bytes that follow say. No promise but the decoder's clauses speaks of it.
 use Rattle.std.specs.Prelude.{◌≡◌, ⊤, ◌≤◌, ℕ, ◌+◌, ◌-◌, ◌==◌, List, [], ◌++◌, length, Option, Some, None, nat_lt}
-use Rattle.std.specs.Prelude.{nat_le}
+use Rattle.std.specs.Prelude.{nat_le, min}
 use Rattle.std.specs.Prelude.{if◌then◌else◌}
 use Rattle.wave_file.specs.declared.format.WaveFormat.{WaveFormat}
 use Rattle.wave_file.specs.declared.chunk.Extent.{Extent}
@@ -51,6 +51,13 @@ width_of (Format size) = judged_width size
 width_of (Sizes size) = 16
 width_of (Data format extent room) = format.block
 width_of (Tail format left) = 1
+
+-- how many of `count` bytes come up to the end of the piece, of which this many are there; of those that belong to no
+-- piece, up to the next one
+abbrev pub up_to_end : Stage → ℕ → ℕ → ℕ
+up_to_end (Chunk skip) part count = min (if skip == 0 then 8 - part else skip) count
+up_to_end (Tail format left) part count = count
+up_to_end stage part count = min (width_of stage - part) count
 
 -- a piece is waited for
 abbrev pub IsWaiting : Stage → Type 0

@@ -9,7 +9,7 @@ use Rattle.wave_file.specs.declared.stage.Stage.{Stage}
 use Rattle.wave_file.specs.declared.stage.Stage.TheVariants.{Riff, Data, Tail}
 use Rattle.wave_file.specs.declared.stage.TheConstants.{MAX_BYTES}
 use Rattle.wave_file.specs.Chunk.{no_notes, IsNoted}
-use Rattle.wave_file.specs.Stage.{at, format_at_stage, width_of, IsStage}
+use Rattle.wave_file.specs.Stage.{at, format_at_stage, up_to_end, width_of, IsStage}
 use Rattle.wave_file.specs.Step.{with_samples}
 use Rattle.wave_file.specs.Wave.{Reading, file_at, reading_of}
 use Rattle.tc_io.specs.Verdict.{Verdict, refused, past_limit}
@@ -98,6 +98,18 @@ AddsTaken old new bytes (Sample count sample) =
     Adds old new bytes count (sample ∷ []) × (format_in_decoding new ≡ format_in_decoding old)
 AddsTaken old new bytes (Fault f) = new ≡ old
 AddsTaken old new bytes Limit = new ≡ old
+
+-- so many bytes were taken, where the reading goes on
+abbrev pub TakesCount : ℕ → Taken → Type 0
+TakesCount count (Nothing n) = n ≡ count
+TakesCount count (Begin n format) = n ≡ count
+TakesCount count (Sample n sample) = n ≡ count
+TakesCount count (Fault f) = ⊤
+TakesCount count Limit = ⊤
+
+-- how many of the bytes come up to the end of the piece, and within the most bytes that are read
+abbrev pub wanted : Decoding → List ℕ → ℕ
+wanted d bytes = up_to_end d.stage (length d.part) (min (length bytes) (MAX_BYTES - bytes_taken d))
 
 -- what bytes show that end the reading, behind this format and these samples
 pub record IsTold (r : Reading) (format : Option WaveFormat) (samples : List ℤ) (verdict : Verdict WaveFault) : Type 0

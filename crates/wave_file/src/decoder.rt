@@ -6,7 +6,7 @@ ghost use Rattle.wave_file.specs.Chunk.{IsNoted};
 ghost use Rattle.wave_file.specs.Stage.{format_at_stage, width_of, HasBytes, IsStage, IsWaiting};
 ghost use Rattle.wave_file.specs.Step.{IsLeft, IsStep};
 ghost use Rattle.wave_file.specs.StandsFor.{bytes_taken, format_in_decoding, may_end_before, no_decoding, AddsBlocks};
-ghost use Rattle.wave_file.specs.StandsFor.{blocks_at, data_among, AddsTaken};
+ghost use Rattle.wave_file.specs.StandsFor.{blocks_at, data_among, wanted, AddsTaken, TakesCount};
 ghost use Rattle.wave_file.specs.StandsFor.{IsTold, StandsFor, StopsAt};
 ghost use Rattle.wave_file.specs.Wave.{end_fault_of, reading_of};
 ghost use Rattle.tc_io.specs.Verdict.{good};
@@ -88,6 +88,7 @@ impl WaveDecoder {
     pub fn take(&mut self, bytes: &[u8]) -> Taken
         requires { 0 < length bytes.now }
         ensures takes { AddsTaken self.old self.new bytes.now result }
+        ensures all { TakesCount (wanted self.old bytes.now) result }
         ensures stops { (front : List ℕ) (samples : List ℤ) → StandsFor self.old front samples
             → StopsAt self.old (front ++ bytes.now) samples result }
     {
@@ -118,6 +119,7 @@ impl WaveDecoder {
         requires whole { length self.old.part + want ≡ width_of self.old.stage }
         requires within { bytes_taken self.old + want ≤ MAX_BYTES }
         ensures takes { AddsTaken self.old self.new bytes.now result }
+        ensures all { TakesCount want result }
         ensures stops { (front : List ℕ) (samples : List ℤ) → StandsFor self.old front samples
             → StopsAt self.old (front ++ bytes.now) samples result }
     {
@@ -283,6 +285,7 @@ fn within(room: u64, length: usize) -> usize
     ensures some { 1 ≤ result }
     ensures room { result ≤ room }
     ensures length { result ≤ length }
+    ensures all { result ≡ min length room }
 {
     if room < length as u64 {
         room as usize

@@ -1,7 +1,7 @@
 //! How far a decoder has come, and what a whole piece brings. Read next: `decoder`.
 ghost use Rattle.std.specs.Prelude.{◌≡◌, ℕ, ◌≤◌, ◌<◌, ◌^◌, length, drop, None, IfSome};
 ghost use Rattle.wave_file.specs.Format.{IsAsked, IsTakenFor};
-ghost use Rattle.wave_file.specs.Stage.{data_stage, extent_behind, width_of, HasBlock};
+ghost use Rattle.wave_file.specs.Stage.{data_stage, extent_behind, up_to_end, width_of, HasBlock};
 ghost use Rattle.wave_file.specs.Stage.{HasBytes, IsPassed, IsStage, IsWaiting};
 ghost use Rattle.wave_file.specs.Step.{IsStep};
 ghost use Rattle.wave_file.specs.declared.stage.Stage.TheVariants as stages;
@@ -122,6 +122,7 @@ pub(crate) fn data_stage(format: WaveFormat, extent: Extent, room: u64) -> Stage
 pub(crate) fn passed(stage: &Stage, length: usize) -> Option<(usize, Stage)>
     requires { 1 ≤ length }
     ensures passed { IfSome result (λ passed. IsPassed stage.now length passed.0 passed.1) }
+    ensures all { IfSome result (λ passed. passed.0 ≡ up_to_end stage.now 0 length) }
     ensures waiting { result ≡ None → IsWaiting stage.now }
 {
     match *stage {
