@@ -171,6 +171,7 @@ rows_of_live() {
     done
     # Behind each silence comes one unequal pair before the first word.
     "$tc" ltc-make 30 forward 01:00:00:00 5 20 48000 | "$tc" ltc-pcm 8000 > "$room/five"
+    for frame in $(seq 0 4); do echo "01:00:00:0$frame 00000000"; done >> "$room/encoded"
     for sample in $(seq 400); do
         cat "$room/five"
         head -c $((2 * (800 + sample))) /dev/zero
