@@ -5,7 +5,7 @@
 ramp() { # FIRST LAST
     local piece
     for piece in $(seq 0 29); do
-        hurt 48000 trim $((2 * piece)) 2 speed "$(awk -v first="$1" -v last="$2" -v piece="$piece" \
+        hurt 48000 trim "$(part $((2 * piece)))" "$(part 2)" speed "$(awk -v first="$1" -v last="$2" -v piece="$piece" \
             'BEGIN { printf "%.4f", first * (last / first) ^ (piece / 29) }')" rate 48000 < "$room/tape"
     done
 }
@@ -29,7 +29,7 @@ ramp 2.5 0.4 | noisy 48000 20 > "$room/now" && row "from 2.5 to 0.4, noise at -2
 hurt 48000 reverse < "$room/hiss" > "$room/now" && row "noise at -14 dB, backward" 48000
 "$room/sound" drop 60 < "$room/tape" | noisy 48000 30 > "$room/now" && row "60 dropouts, noise at -30 dB" 48000
 "$room/sound" click 600 < "$room/tape" > "$room/now" && row "600 clicks" 48000
-"$room/sound" cut 60 < "$room/tape" > "$room/now" && row "60 cuts inside words" 48000
+"$room/sound" cut 60 < "$room/own_tape" > "$room/now" && row "60 cuts inside words" 48000
 hurt 48000 highpass 3000 < "$room/tape" > "$room/now" && row "a coupling capacitor: high-pass at 3000 Hz" 48000
 hurt 48000 highpass 3000 < "$room/tape" | noisy 48000 26 > "$room/now" && row "the same, noise at -26 dB" 48000
 # shellcheck disable=SC2046

@@ -1,12 +1,13 @@
 /* Sound of linear time code made and read by libltc, another project's encoder and decoder, for sound.sh.
  *
- *     sound make FPS RATE FRAMES [ADDRESS] > SAMPLES 2> ADDRESSES
- *                            frames from 01:00:00:00 or the address on, and the address of each, a line each
+ *     sound make FPS RATE FRAMES [ADDRESS [own]] > SAMPLES 2> WORDS
+ *                            frames from 01:00:00:00 or the address on, and the address and user bits of each, a line each; with `own` no two
+ *                            frames have the same user bits, so that a word which two of them make together at a cut is none that was made
  *     sound fall DB < SAMPLES > SAMPLES                    a level that falls evenly by DB decibels, from the first sample to the last
  *     sound drop|click|cut PLACES < SAMPLES > SAMPLES
  *                            at PLACES random places: silence of 10 to 100 ms at 48,000 samples a second, one to six samples at full scale, or
  *                            1 to 800 samples left out
- *     sound read FPS RATE < SAMPLES > ADDRESSES            the addresses that libltc's decoder reads
+ *     sound read FPS RATE < SAMPLES > WORDS                what libltc's decoder reads
  *
  * Samples are raw: 16 bits with a sign, little endian, one channel. Build: cc -O2 -o sound sound.c -lltc -lm
  */
@@ -22,13 +23,23 @@ static void put_sample(int sample) {
     putchar((sample >> 8) & 0xff);
 }
 
-static void make(double fps, double rate, long frames, const char *address) {
+/* The user bits of a frame of its own, by its place: the factor is odd, so no two are alike. */
+static unsigned long own_bits(long place) {
+    return (unsigned long)(place + 1) * 2654435761 & 0xffffffff;
+}
+
+static void put_word(const SMPTETimecode *time, unsigned long user, FILE *out) {
+    fprintf(out, "%02d:%02d:%02d:%02d %08lx\n", time->hours, time->mins, time->secs, time->frame, user);
+}
+
+static void make(double fps, double rate, long frames, const char *address, int own) {
     LTCEncoder *encoder = ltc_encoder_create(1, 1, LTC_TV_625_50, 0);
     ltc_encoder_set_buffersize(encoder, rate, fps);
     ltc_encoder_reinit(encoder, rate, fps, fps == 25 ? LTC_TV_625_50 : LTC_TV_525_60, 0);
     ltc_encoder_set_volume(encoder, -3.0);
     ltc_encoder_set_filter(encoder, 40.0);
-    ltc_encoder_set_user_bits(encoder, 0x2a5f19c3);
+    unsigned long user = own ? own_bits(0) : 0x2a5f19c3;
+    ltc_encoder_set_user_bits(encoder, user);
     SMPTETimecode start;
     memset(&start, 0, sizeof start);
     unsigned hours, minutes, seconds, frame;
@@ -45,10 +56,12 @@ static void make(double fps, double rate, long frames, const char *address) {
         SMPTETimecode now;
         ltcsnd_sample_t *samples;
         ltc_encoder_get_timecode(encoder, &now);
-        fprintf(stderr, "%02d:%02d:%02d:%02d\n", now.hours, now.mins, now.secs, now.frame);
+        put_word(&now, user, stderr);
         ltc_encoder_encode_frame(encoder);
         int count = ltc_encoder_get_bufferptr(encoder, &samples, 1);
         for (int k = 0; k < count; k++) put_sample(((int)samples[k] - 128) * 256);
+        if (own) ltc_encoder_set_user_bits(encoder, user = own_bits(i + 1));
+        // (which sets the parity of all the bits, too)
         ltc_encoder_inc_timecode(encoder);
     }
     ltc_encoder_free(encoder);
@@ -105,7 +118,7 @@ static void hurt(const char *how, long places) {
     free(samples);
 }
 
-static void read_addresses(double fps, double rate) {
+static void read_words(double fps, double rate) {
     size_t count;
     int16_t *samples = all_samples(&count);
     LTCDecoder *decoder = ltc_decoder_create((int)(rate / fps), 64);
@@ -116,7 +129,7 @@ static void read_addresses(double fps, double rate) {
         while (ltc_decoder_read(decoder, &frame)) {
             SMPTETimecode time;
             ltc_frame_to_time(&time, &frame.ltc, 0);
-            printf("%02d:%02d:%02d:%02d\n", time.hours, time.mins, time.secs, time.frame);
+            put_word(&time, ltc_frame_get_user_bits(&frame.ltc), stdout);
         }
     }
     ltc_decoder_free(decoder);
@@ -124,14 +137,15 @@ static void read_addresses(double fps, double rate) {
 }
 
 int main(int argc, char **argv) {
-    if ((argc == 5 || argc == 6) && !strcmp(argv[1], "make"))
-        make(atof(argv[2]), atof(argv[3]), atol(argv[4]), argc == 6 ? argv[5] : "01:00:00:00");
+    int own = argc == 7 && !strcmp(argv[6], "own");
+    if ((argc == 5 || argc == 6 || own) && !strcmp(argv[1], "make"))
+        make(atof(argv[2]), atof(argv[3]), atol(argv[4]), argc >= 6 ? argv[5] : "01:00:00:00", own);
     else if (argc == 3 && !strcmp(argv[1], "fall")) fall(atof(argv[2]));
     else if (argc == 3 && (!strcmp(argv[1], "drop") || !strcmp(argv[1], "click") || !strcmp(argv[1], "cut")))
         hurt(argv[1], atol(argv[2]));
-    else if (argc == 4 && !strcmp(argv[1], "read")) read_addresses(atof(argv[2]), atof(argv[3]));
+    else if (argc == 4 && !strcmp(argv[1], "read")) read_words(atof(argv[2]), atof(argv[3]));
     else {
-        fputs("usage: sound make FPS RATE FRAMES [ADDRESS] | sound fall DB | sound drop|click|cut PLACES | sound read FPS RATE\n", stderr);
+        fputs("usage: sound make FPS RATE FRAMES [ADDRESS [own]] | sound fall DB | sound drop|click|cut PLACES | sound read FPS RATE\n", stderr);
         return 2;
     }
     return 0;

@@ -1,6 +1,6 @@
 #!/usr/bin/env bash
 # The table of docs/reference/sound.md: how many words of sound that libltc made and sox degraded are read, by `tc` and by libltc's own decoder. Behind a
-# plus sign are the false ones: words with an address that was never encoded.
+# plus sign are the false ones: words whose address and user bits were never encoded together.
 #
 #     bench/sound.sh [TC [FRAMES [live|path]]]
 #
@@ -46,15 +46,21 @@ noisy() { # RATE DECIBELS [WORDS]
     sox -R -D -m -v 1 $(raw "$rate") "$room/still" -v 1 $(raw "$rate") "$room/noise" $(raw "$rate") -
 }
 
-# How many lines are encoded addresses, and behind a plus sign how many are not.
+# How many lines are words that were encoded, and behind a plus sign how many are not.
 counted() {
-    awk 'NR == FNR { encoded[$1] = 1; next } $1 in encoded { good++; next } { false_ones++ }
-        END { printf "%d%s", good, false_ones ? " +" false_ones : "" }' "$room/addresses" -
+    awk 'NR == FNR { encoded[$0] = 1; next } $0 in encoded { good++; next } { false_ones++ }
+        END { printf "%d%s", good, false_ones ? " +" false_ones : "" }' "$room/encoded" -
 }
 
-# The addresses of the words that a command reads of an interval file.
+# The address and the user bits of each word of a report.
+told() { awk '$1 == "word" { sub(";", ":", $3); print $3, $5 }'; }
+
+# The words that a command reads of an interval file.
 # shellcheck disable=SC2086
-words() { "$tc" $1 | awk '$1 == "word" { sub(";", ":", $3); print $3 }'; }
+words() { "$tc" $1 | told; }
+
+# Seconds of a tape of 1,800 frames, in one of as many frames as are made.
+part() { awk -v seconds="$1" -v frames="$frames" 'BEGIN { printf "%.4f", seconds * frames / 1800 }'; }
 
 # How the sound is sliced, and by which command it is read.
 if [ "$mode" = path ]; then
@@ -101,7 +107,7 @@ cell_of_both() { # FILE READER WORDS..
     "$tc" "${@:3}" < "$1" | "$tc" "$2" > "$room/ended"
     "$tc" "${@:3}" live < "$1" | "$tc" "$2" > "$room/passing"
     compared "$room/ended" "$room/passing"
-    awk '$1 == "word" { sub(";", ":", $3); print $3 }' "$room/passing" | counted | sed -n 's/.*+/, false /p'
+    told < "$room/passing" | counted | sed -n 's/.*+/, false /p'
 }
 
 # A row with `live` and without: raw samples under each tolerance, and a file under the rough one.
@@ -165,6 +171,7 @@ rows_of_live() {
     done
     # Behind each silence comes one unequal pair before the first word.
     "$tc" ltc-make 30 forward 01:00:00:00 5 20 48000 | "$tc" ltc-pcm 8000 > "$room/five"
+    for frame in $(seq 0 4); do echo "01:00:00:0$frame 00000000"; done >> "$room/encoded"
     for sample in $(seq 400); do
         cat "$room/five"
         head -c $((2 * (800 + sample))) /dev/zero
@@ -182,10 +189,13 @@ else
     echo "| Sound of $frames frames | libltc | whole, read | fixed, worn | follow, read | follow, worn | follow, rough | follow 3, rough | deep, rough | deep 3, rough |"
     echo "|---|---|---|---|---|---|---|---|---|---|"
 fi
-"$room/sound" make "$fps" 48000 "$frames" > "$room/clean" 2> "$room/addresses"
+"$room/sound" make "$fps" 48000 "$frames" > "$room/clean" 2> "$room/encoded"
+"$room/sound" make "$fps" 48000 "$frames" 01:00:00:00 own > "$room/own" 2>> "$room/encoded"
 cp "$room/clean" "$room/now" && row "as it was made" 48000
-# The edges of a tape are not square, and it hisses: what follows was hurt so first.
+# The edges of a tape are not square, and it hisses: what follows was hurt so first. Where places of the tape meet that were apart, each frame has
+# user bits of its own.
 hurt 48000 vol 0.5 lowpass 6000 < "$room/clean" | noisy 48000 50 > "$room/tape"
+hurt 48000 vol 0.5 lowpass 6000 < "$room/own" | noisy 48000 50 > "$room/own_tape"
 cp "$room/tape" "$room/now" && row "low-pass at 6000 Hz, noise at -50 dB: a tape" 48000
 for level in 40 30 26 22 18 14; do
     noisy 48000 "$level" < "$room/tape" > "$room/now" && row "the tape, noise at -$level dB" 48000
@@ -200,7 +210,7 @@ done
 for piece in "0 1 " "8 2.3 reverse" "3 0.6 " "21 1.3 " "15 3.1 reverse" "30 0.4 reverse" "26 1.9 " "45 1.1 reverse" "38 2.7 "; do
     read -r from speed way <<< "$piece"
     # shellcheck disable=SC2086
-    hurt 48000 trim "$from" 5.03 $way speed "$speed" rate 48000 < "$room/tape"
+    hurt 48000 trim "$(part "$from")" "$(part 5.03)" $way speed "$speed" rate 48000 < "$room/own_tape"
 done > "$room/now" && row "nine pieces of it, forward and backward, from 0.4 to 3.1" 48000
 "$room/sound" fall 30 < "$room/tape" > "$room/now" && row "the tape, its level falling by 30 dB" 48000
 "$room/sound" fall 30 < "$room/tape" | noisy 48000 60 > "$room/now" && row "the same, noise at -60 dB" 48000
