@@ -7,6 +7,7 @@ ghost use Rattle.cell_path.specs.declared.cell.Sign.{Sign};
 ghost use Rattle.cell_path.specs.declared.cell.Step.{Step};
 ghost use Rattle.cell_path.specs.declared.cell.Way.{Way};
 ghost use Rattle.cell_path.specs.declared.follow.TheConstants.{DELAY, EVERY, FIRST};
+ghost use Rattle.cell_path.specs.declared.lacks.TheConstants.{LATEST};
 ghost use Rattle.cell_path.specs.declared.lengths.TheConstants.{EARLY, JUMP, LENGTHS, PLACES};
 ghost use Rattle.cell_path.specs.declared.placed.Placed.{Placed};
 ghost use Rattle.cell_path.specs.declared.waiting.TheConstants.{ROOM};
@@ -55,6 +56,7 @@ pub fn the_decisions_are_these()
     ensures delay { DELAY ≡ 800 }
     ensures every { EVERY ≡ 1_024 }
     ensures first { FIRST ≡ 2 * EVERY }
+    ensures latest { LATEST ≡ 96 }
     ensures room { 4 * ROOM ≡ FIRST }
 {}
 
