@@ -89,21 +89,6 @@ pub end_pushed : (done : ℕ) (waiting : List Placed) (cell : Placed) (P : ℕ �
 end_pushed done [] cell P new old = new refl
 end_pushed done (w ∷ waiting) cell P new old = old (omega arith)
 
--- a best path of all is the best that ends where it does
-best_of_end : (steps : List Step) (place : ℕ) (sign : Sign) (path : List Cell) → IsBestOfAll LENGTHS steps path
-    → EndsIn place sign path → IsBest LENGTHS steps place sign path
-best_of_end steps place sign path best ends =
-    record { is_path = best.is_path; ends = ends; wins = λ other is like. best.wins other is }
-
--- nothing is gathered yet
-pub none_gathered : (delay count done : ℕ) (paths : PathsState) (first : Point) → first.ago < count
-    → count ≡ paths.marks.count → IsGathered delay count done paths first (Some first) []
-none_gathered delay count done paths first within count_is = λ steps path stand best ends. (
-  path,
-  (omega (arith, within, count_is, stand.count), best_of_end (drop first.ago steps) first.place first.sign path best ends),
-  refl,
-)
-
 -- ---- what is gathered
 
 and_no : (b : Bool) → b && false ≡ false

@@ -82,41 +82,51 @@ sizes-before (suc k) (step ∷ steps) are =
 
 -- ---- what is lacking
 
+-- neither is far above the other
+abbrev pub AreClose : ℤ → ℤ → Type 0
+AreClose x y = (x ≤ℤ (y +ℤ pos (2 ^ 30))) × (y ≤ℤ (x +ℤ pos (2 ^ 30)))
+
 abbrev lack_of : List Step → List Cell → ℤ
 lack_of steps path = lack LENGTHS steps path
 
-near_by : (k : ℕ) (steps : List Step) (path other : List Cell) → AreSteps steps → k ≤ 95 → 195 ≤ length steps
+close_by : (k : ℕ) (steps : List Step) (path other : List Cell) → AreSteps steps → k ≤ 95 → 195 ≤ length steps
     → IsBestOfAll LENGTHS steps path → IsBestOfAll LENGTHS (drop k steps) other
-    → AreNear (lack_of steps path) (lack_of (drop k steps) other)
-near_by k steps path other are few long best like =
+    → AreClose (lack_of steps path) (lack_of (drop k steps) other)
+close_by k steps path other are few long best like =
     let a = earlier_is_near k steps path other are few long best.is_path like in
     let b = later_is_near k steps other path are few long like.is_path best in
     let s = sizes-before k steps are in
-    record { above = omega (arith, ints, a, b, s.0, s.1, few); below = omega (arith, ints, a, b, s.0, s.1, few) }
-
-turned : (x y : ℤ) → AreNear x y → AreNear y x
-turned x y near = record { above = near.below; below = near.above }
+    (omega (arith, ints, a, b, s.0, s.1, few), omega (arith, ints, a, b, s.0, s.1, few))
 
 -- between two of the latest steps
 between : (steps : List Step) (near far : ℕ) (path other : List Cell) → AreSteps steps → near ≤ far → far ≤ 95
     → 2_048 ≤ length steps → IsBestOfAll LENGTHS (drop near steps) path → IsBestOfAll LENGTHS (drop far steps) other
-    → AreNear (lack_of (drop near steps) path) (lack_of (drop far steps) other)
+    → AreClose (lack_of (drop near steps) path) (lack_of (drop far steps) other)
 between steps near far path other are order few long best like =
     let k = far - near in
     let e = length-drop near steps in
     let sum : near + k ≡ far = omega (arith, order) in
     let same : drop k (drop near steps) ≡ drop far steps = drop-drop k near steps ∙ ap (λ n. drop n steps) sum in
-    subst (λ s. AreNear (lack_of (drop near steps) path) (lack_of s other)) same
-    (near_by k (drop near steps) path other (steps_before near steps are) (omega (arith, few))
+    subst (λ s. AreClose (lack_of (drop near steps) path) (lack_of s other)) same
+    (close_by k (drop near steps) path other (steps_before near steps are) (omega (arith, few))
     (omega (arith, e, long, order, few)) best (subst (λ s. IsBestOfAll LENGTHS s other) (sym same) like))
+
+pub close_lacks : (steps : List Step) (ago other : ℕ) (path others : List Cell) → AreSteps steps → ago < 96
+    → other < 96 → 2_048 ≤ length steps → IsBestOfAll LENGTHS (drop ago steps) path
+    → IsBestOfAll LENGTHS (drop other steps) others
+    → AreClose (lack LENGTHS (drop ago steps) path) (lack LENGTHS (drop other steps) others)
+close_lacks steps ago other path others are few low long best like =
+    let cases : (ago ≤ other) ⊎ (other ≤ ago) = grind arith in
+    elim cases [
+      | inl before ↦ between steps ago other path others are before (omega (arith, low)) long best like
+      | inr behind ↦
+          let turned = between steps other ago others path are behind (omega (arith, few)) long like best in
+          (turned.1, turned.0)
+    ]
 
 pub near_lacks : (steps : List Step) (ago other : ℕ) (path others : List Cell) → AreSteps steps → ago < 96 → other < 96
     → 2_048 ≤ length steps → IsBestOfAll LENGTHS (drop ago steps) path → IsBestOfAll LENGTHS (drop other steps) others
     → AreNear (lack LENGTHS (drop ago steps) path) (lack LENGTHS (drop other steps) others)
 near_lacks steps ago other path others are few low long best like =
-    let cases : (ago ≤ other) ⊎ (other ≤ ago) = grind arith in
-    elim cases [
-      | inl before ↦ between steps ago other path others are before (omega (arith, low)) long best like
-      | inr behind ↦ turned (lack_of (drop other steps) others) (lack_of (drop ago steps) path)
-          (between steps other ago others path are behind (omega (arith, few)) long like best)
-    ]
+    let close = close_lacks steps ago other path others are few low long best like in
+    record { above = omega (arith, ints, close.0); below = omega (arith, ints, close.1) }
