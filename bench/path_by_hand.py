@@ -67,9 +67,10 @@ class Paths:
     """The best paths to each step, in each length and sign at the end: their scores, latest bits and ways back."""
 
     def __init__(self, held, sizes):
-        self.sums = [0]
+        self.sums, self.whole = [0], [0]
         for sound in held:
             self.sums.append(self.sums[-1] + sound)
+            self.whole.append(self.whole[-1] + abs(sound))
         self.sizes = sizes
         # of each step, what a cell that begins behind it has before it: by length and the sign before, score and way
         self.starts = [[[(0, JUMP)] * 2 for _ in LENGTHS]]
@@ -123,6 +124,10 @@ class Paths:
             found.append(max(ways, key=lambda way: way[0]))
         return found
 
+    def unfinished(self, count):
+        """Of the latest 96 steps, the latest at which the best path lacks least of the sizes of the held sound."""
+        return min(range(count, count - 96, -1), key=lambda end: self.whole[end] - self.best[end][0])
+
     def cells(self, end):
         """The cells of the best path to a step, the latest first: end, length, bit, sign at the end, behind a jump."""
         place, sign = self.best[end][1:]
@@ -142,7 +147,8 @@ class Paths:
 def decided(paths, count, ended=True):
     """The decided cells in order, each with whether it jumps."""
     cells = []
-    turns = [(end, end - 800) for end in range(2048, count + 1, 1024)] + ([(count, count)] if count and ended else [])
+    turns = [(paths.unfinished(step), step - 800) for step in range(2048, count + 1, 1024)]
+    turns += [(count, count)] if count and ended else []
     for end, limit in turns:
         done = cells[-1][0] if cells else 0
         cells += [cell for cell in reversed(list(paths.cells(end))) if done + cell[1] // 4 < cell[0] <= limit]

@@ -115,13 +115,16 @@ struct Paths {
     ways: Vec<Row<u8>>,
     ones: Vec<Row<bool>>,
     best: Vec<(i64, usize, usize)>,
+    /// The sizes of the held sound so far, summed.
+    whole: Vec<i64>,
 }
 
 impl Paths {
     fn of(held: &[i64], sizes: &[i64]) -> Paths {
-        let mut sums = vec![0];
-        for sound in held {
-            sums.push(sums[sums.len() - 1] + sound);
+        let (mut sums, mut whole) = (vec![0], vec![0]);
+        for (place, sound) in held.iter().enumerate() {
+            sums.push(sums[place] + sound);
+            whole.push(whole[place] + sound.abs());
         }
         let mut paths = Paths {
             lengths: lengths(),
@@ -130,6 +133,7 @@ impl Paths {
             ways: vec![[[JUMP; 2]; LENGTHS]],
             ones: vec![[[false; 2]; LENGTHS]],
             best: vec![(0, 0, 0)],
+            whole,
         };
         for end in 1..=held.len() {
             paths.step(end, sizes[end - 1]);
@@ -214,9 +218,18 @@ impl Paths {
         cells
     }
 
+    /// Where the best path ends that may leave the latest cell open: of the latest 96 steps, the latest at which the
+    /// best path lacks least of the sizes.
+    fn unfinished(&self, count: usize) -> usize {
+        let lack = |end: &usize| self.whole[*end] - self.best[*end].0;
+        // (of equal ones the first is taken)
+        (count - 95..=count).rev().min_by_key(lack).expect("there are 96")
+    }
+
     /// The decided cells, each with whether it jumps.
     fn decided(&self, count: usize, is_ended: bool) -> Vec<Cell> {
-        let mut turns: Vec<(usize, usize)> = (2_048..=count).step_by(1_024).map(|end| (end, end - 800)).collect();
+        let due = (2_048..=count).step_by(1_024);
+        let mut turns: Vec<(usize, usize)> = due.map(|step| (self.unfinished(step), step - 800)).collect();
         if is_ended && count > 0 {
             turns.push((count, count));
         }

@@ -95,14 +95,14 @@ apart_decided delay count done end steps (cell ∷ rest) before path first apart
 abbrev pub ApartWithin : ℕ → List Placed → Type 0
 ApartWithin count all = AreApart all × (end_behind 0 all ≤ count)
 
-newly_apart : (delay count : ℕ) (steps : List Step) (path : List Cell) (before all : List Placed)
+newly_apart : (delay count ago : ℕ) (steps : List Step) (path : List Cell) (before all : List Placed)
     → IsPath LENGTHS steps path → ApartWithin count before
-    → all ≡ newly delay count (end_behind 0 before) path ++ before → ApartWithin count all
-newly_apart delay count steps path before all is_path so_far is =
+    → all ≡ newly delay count ago (end_behind 0 before) path ++ before → ApartWithin count all
+newly_apart delay count ago steps path before all is_path so_far is =
     let done = end_behind 0 before in
-    let last = last_decided delay count done count path before (omega arith) in
+    let last = last_decided delay count done (count - ago) path before (omega arith) in
     subst (ApartWithin count) (sym is) (
-      apart_decided delay count done count steps path before is_path (omega arith) so_far.0,
+      apart_decided delay count done (count - ago) steps path before is_path (omega arith) so_far.0,
       omega (arith, last, so_far.1),
     )
 
@@ -110,7 +110,7 @@ adds_apart : (steps : List Step) (before all : List Placed) (due : Bool) → is_
     → Adds steps before all → ApartWithin (length steps) before → ApartWithin (length steps) all
 adds_apart steps before all true due adds so_far =
     let a = adds.due due in
-    newly_apart DELAY (length steps) steps a.0 before all a.1.is_path so_far a.2
+    newly_apart DELAY (length steps) a.0 (drop a.0 steps) a.1 before all a.2.is_best.is_path so_far a.3
 adds_apart steps before all false due adds so_far =
     subst (ApartWithin (length steps)) (sym (adds.idle due)) so_far
 
@@ -123,25 +123,32 @@ decided_apart (step ∷ steps) all are =
 
 -- ---- the end of the sound
 
+-- the path ends with the sound
+at_end : (count done : ℕ) (path : List Cell)
+    → newly 0 count 0 done path ≡ filter (is_decided 0 count done) (placed count path)
+at_end count done path =
+    let all : count - 0 ≡ count = omega arith in
+    ap (λ e. filter (is_decided 0 count done) (placed e path)) all
+
 reach_by : (count done : ℕ) (cell : Cell) (rest : List Cell) (before : List Placed) (b : Bool)
     → cell.place < 45 → ltb (done + length_in LENGTHS cell.place / 4) count ≡ b → end_behind 0 before ≡ done
-    → count ≤ end_behind 0 (newly 0 count done (cell ∷ rest) ++ before) + 24
+    → count ≤ end_behind 0 (newly 0 count 0 done (cell ∷ rest) ++ before) + 24
 reach_by count done cell rest before true place is last =
     let far = ltb-true (done + length_in LENGTHS cell.place / 4) count is in
-    let front = decided_front 0 count done count cell rest true
+    let front = at_end count done (cell ∷ rest) ∙ decided_front 0 count done count cell rest true
     (old_enough 0 count done (record { end = count; cell = cell }) (omega arith) far) in
     subst (λ l. count ≤ end_behind 0 (l ++ before) + 24) (sym front) (omega arith)
 reach_by count done cell rest before false place is last =
     let n = length_in LENGTHS cell.place in
     let near : count ≤ done + n / 4 = not_below (done + n / 4) count is in
     let most = (length_bounds cell.place place).1 in
-    let front = decided_front 0 count done count cell rest false
+    let front = at_end count done (cell ∷ rest) ∙ decided_front 0 count done count cell rest false
     (too_near 0 count done (record { end = count; cell = cell }) near)
     ∙ none_behind 0 count done (count - n) rest (omega (arith, near)) in
     subst (λ l. count ≤ end_behind 0 (l ++ before) + 24) (sym front) (omega (arith, near, most, last))
 
 reaches : (steps : List Step) (path : List Cell) (before : List Placed) → 0 < length steps → IsPath LENGTHS steps path
-    → length steps ≤ end_behind 0 (newly 0 (length steps) (end_behind 0 before) path ++ before) + 24
+    → length steps ≤ end_behind 0 (newly 0 (length steps) 0 (end_behind 0 before) path ++ before) + 24
 reaches steps [] before some path = absurd (omega (arith, some, path))
 reaches steps (cell ∷ rest) before some path =
     reach_by (length steps) (end_behind 0 before) cell rest before
@@ -157,6 +164,6 @@ cells_cover (step ∷ steps) all are =
     let path = are.2 in
     let best = are.3 in
     let is = are.4 in
-    let apart = newly_apart 0 (length now) now path are.0 all best.is_path so_far is in
+    let apart = newly_apart 0 (length now) 0 now path are.0 all best.is_path so_far is in
     let end = reaches now path are.0 (omega arith) best.is_path in
     (apart.0, apart.1, subst (λ l. length now ≤ end_behind 0 l + 24) (sym is) end)

@@ -40,12 +40,12 @@ IsHere delay count many (Some point) =
     (point.place < 45) × (point.ago < count) × (many ≡ 0 → point.ago ≤ delay + 95) × (4 * many ≤ point.ago - delay)
 
 -- what is gathered and what is left are all that is decided
-abbrev pub IsGathered : ℕ → ℕ → ℕ → PathsState → ℕ → Sign → Option Point → List Placed → Type 0
-IsGathered delay count done paths place sign at waiting = (steps : List Step) (path : List Cell)
+abbrev pub IsGathered : ℕ → ℕ → ℕ → PathsState → Point → Option Point → List Placed → Type 0
+IsGathered delay count done paths best at waiting = (steps : List Step) (path : List Cell)
     → MarksStandFor paths.marks steps
-    → IsBestOfAll LENGTHS steps path → EndsIn place sign path
+    → IsBestOfAll LENGTHS (drop best.ago steps) path → EndsIn best.place best.sign path
     → (rest : List Cell) × LeadsTo steps rest at
-    × (waiting ++ left delay count done (ago_of count at) rest ≡ newly delay count done path)
+    × (waiting ++ left delay count done (ago_of count at) rest ≡ newly delay count best.ago done path)
 
 -- ---- where the path is followed to
 
@@ -173,11 +173,11 @@ same_length : (point : Point) (cell : Cell) → cell.place ≡ point.place
     → length_in LENGTHS cell.place ≡ length_in LENGTHS point.place
 same_length point cell same = ap (length_in LENGTHS) same
 
-pub gathered-skipped : (delay count done : ℕ) (paths : PathsState) (place : ℕ) (sign : Sign) (point : Point)
-    (waiting : List Placed) (back : Back) → IsGathered delay count done paths place sign (Some point) waiting
+pub gathered-skipped : (delay count done : ℕ) (paths : PathsState) (first point : Point)
+    (waiting : List Placed) (back : Back) → IsGathered delay count done paths first (Some point) waiting
     → Follows paths point back → back.cell.place ≡ point.place → IsBefore count point back.before
-    → count < count - point.ago + delay → IsGathered delay count done paths place sign back.before waiting
-gathered-skipped delay count done paths place sign point waiting back all follows same is new =
+    → count < count - point.ago + delay → IsGathered delay count done paths first back.before waiting
+gathered-skipped delay count done paths first point waiting back all follows same is new =
     λ steps path stand best ends.
     let g = all steps path stand best ends in
     let goes = follows steps g.0 stand g.1.0 g.1.1 in
@@ -188,14 +188,14 @@ gathered-skipped delay count done paths place sign point waiting back all follow
     (same_length point back.cell same) is in
     (goes.rest, goes.leads, sym (ap (λ l. waiting ++ l) one) ∙ g.2)
 
-pub gathered-pushed : (delay count done : ℕ) (paths : PathsState) (place : ℕ) (sign : Sign) (point : Point)
-    (waiting : List Placed) (back : Back) → IsGathered delay count done paths place sign (Some point) waiting
+pub gathered-pushed : (delay count done : ℕ) (paths : PathsState) (first point : Point)
+    (waiting : List Placed) (back : Back) → IsGathered delay count done paths first (Some point) waiting
     → Follows paths point back → back.cell.place ≡ point.place → IsBefore count point back.before
     → count - point.ago + delay ≤ count
     → done + length_in LENGTHS point.place / 4 < count - point.ago
-    → IsGathered delay count done paths place sign back.before
+    → IsGathered delay count done paths first back.before
     (waiting ++ record { end = count - point.ago; cell = back.cell } ∷ [])
-gathered-pushed delay count done paths place sign point waiting back all follows same is old far =
+gathered-pushed delay count done paths first point waiting back all follows same is old far =
     λ steps path stand best ends.
     let g = all steps path stand best ends in
     let goes = follows steps g.0 stand g.1.0 g.1.1 in
@@ -226,25 +226,27 @@ rest_is_near delay count done ago steps place sign (cell ∷ rest) ends near =
     ∙ none_behind delay count done (count - (ago + length_in LENGTHS cell.place)) rest (omega arith)
 
 -- the path is followed to what was decided before
-pub all_gathered : (delay count done : ℕ) (paths : PathsState) (place : ℕ) (sign : Sign) (point : Point)
-    (waiting : List Placed) → IsGathered delay count done paths place sign (Some point) waiting
+pub all_gathered : (delay count done : ℕ) (paths : PathsState) (first point : Point)
+    (waiting : List Placed) → IsGathered delay count done paths first (Some point) waiting
     → count - point.ago ≤ done + length_in LENGTHS point.place / 4
-    → (steps : List Step) (path : List Cell) → MarksStandFor paths.marks steps → IsBestOfAll LENGTHS steps path
-    → EndsIn place sign path → waiting ≡ newly delay count done path
-all_gathered delay count done paths place sign point waiting all near steps path stand best ends =
+    → (steps : List Step) (path : List Cell) → MarksStandFor paths.marks steps
+    → IsBestOfAll LENGTHS (drop first.ago steps) path → EndsIn first.place first.sign path
+    → waiting ≡ newly delay count first.ago done path
+all_gathered delay count done paths first point waiting all near steps path stand best ends =
     let g = all steps path stand best ends in
     sym (append-nil waiting)
     ∙ sym (ap (λ l. waiting ++ l)
     (rest_is_near delay count done point.ago steps point.place point.sign g.0 g.1.1.ends near)) ∙ g.2
 
 -- the path is followed to the beginning of the sound
-pub all_gathered_to_begin : (delay count done : ℕ) (paths : PathsState) (place : ℕ) (sign : Sign) (at : Option Point)
-    (waiting : List Placed) → IsGathered delay count done paths place sign at waiting → at ≡ None
-    → (steps : List Step) (path : List Cell) → MarksStandFor paths.marks steps → IsBestOfAll LENGTHS steps path
-    → EndsIn place sign path → waiting ≡ newly delay count done path
-all_gathered_to_begin delay count done paths place sign None waiting all none steps path stand best ends =
+pub all_gathered_to_begin : (delay count done : ℕ) (paths : PathsState) (first : Point) (at : Option Point)
+    (waiting : List Placed) → IsGathered delay count done paths first at waiting → at ≡ None
+    → (steps : List Step) (path : List Cell) → MarksStandFor paths.marks steps
+    → IsBestOfAll LENGTHS (drop first.ago steps) path → EndsIn first.place first.sign path
+    → waiting ≡ newly delay count first.ago done path
+all_gathered_to_begin delay count done paths first None waiting all none steps path stand best ends =
     let g = all steps path stand best ends in
     sym (append-nil waiting)
     ∙ sym (ap (λ l. waiting ++ l) (ap (left delay count done count) g.1 ∙ nothing_left delay count done count)) ∙ g.2
-all_gathered_to_begin delay count done paths place sign (Some point) waiting all none steps path stand best ends =
+all_gathered_to_begin delay count done paths first (Some point) waiting all none steps path stand best ends =
     absurd (none-some point (sym none))

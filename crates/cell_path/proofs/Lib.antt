@@ -11,10 +11,12 @@ pub mod Followed
 pub mod FollowedBack
 pub mod GivesNext
 pub mod GoesBack
+pub mod LeastLack
 pub mod LengthsOfCells
 pub mod Lowest
 pub mod MarkedSteps
 pub mod MarksOfFour
+pub mod NearLacks
 pub mod NearScores
 pub mod NextStep
 pub mod OneBest

@@ -97,16 +97,16 @@ score_is_low steps (cell ∷ before) are is =
     omega (arith, ints, adds, rest, e)
 
 -- what is left of a path, when its latest cells of these steps or some more are gone
-record Cut (steps : List Step) (least : ℕ) (number : ℤ) : Type 0 where
-  gone : ℕ
-  rest : List Cell
-  enough : least ≤ gone
-  few : gone ≤ least + 95
-  within : gone ≤ length steps
-  is_path : IsPath LENGTHS (drop gone steps) rest
-  worth : number ≤ℤ (score LENGTHS (drop gone steps) rest +ℤ pos (gone * 2 ^ 16))
+pub record Cut (steps : List Step) (least : ℕ) (number : ℤ) : Type 0 where
+  pub gone : ℕ
+  pub rest : List Cell
+  pub enough : least ≤ gone
+  pub few : gone ≤ least + 95
+  pub within : gone ≤ length steps
+  pub is_path : IsPath LENGTHS (drop gone steps) rest
+  pub worth : number ≤ℤ (score LENGTHS (drop gone steps) rest +ℤ pos (gone * 2 ^ 16))
 
-cut : (steps : List Step) (path : List Cell) (least : ℕ) → AreSteps steps → IsPath LENGTHS steps path
+pub cut : (steps : List Step) (path : List Cell) (least : ℕ) → AreSteps steps → IsPath LENGTHS steps path
     → least ≤ length steps → Cut steps least (score LENGTHS steps path)
 cut steps path zero are is low = record {
   gone = 0;
@@ -192,10 +192,10 @@ jump_loses steps place sign rest are within low is =
     omega (arith, ints, s.below, s.above, c)
 
 -- a path that was led on over some steps
-record LedOn (steps : List Step) (n : ℕ) (number : ℤ) : Type 0 where
-  path : List Cell
-  is_path : IsPath LENGTHS steps path
-  worth : number ≤ℤ (score LENGTHS steps path +ℤ pos (n * 163_840))
+pub record LedOn (steps : List Step) (n : ℕ) (number : ℤ) : Type 0 where
+  pub path : List Cell
+  pub is_path : IsPath LENGTHS steps path
+  pub worth : number ≤ℤ (score LENGTHS steps path +ℤ pos (n * 163_840))
 
 by_one : (steps : List Step) (place : ℕ) (rest : List Cell) → AreSteps steps → place < 45
     → length_in LENGTHS place ≤ length steps → IsPath LENGTHS (drop (length_in LENGTHS place) steps) rest
@@ -209,7 +209,7 @@ by_one steps place rest are within low is =
     }
 
 -- over four steps or more
-led_on : (more : ℕ) (steps : List Step) (rest : List Cell) → AreSteps steps → more + 4 ≤ length steps
+pub led_on : (more : ℕ) (steps : List Step) (rest : List Cell) → AreSteps steps → more + 4 ≤ length steps
     → IsPath LENGTHS (drop (more + 4) steps) rest → LedOn steps (more + 4) (score LENGTHS (drop (more + 4) steps) rest)
 led_on zero steps rest are low is = by_one steps 0 rest are (omega arith) low is
 led_on (suc zero) steps rest are low is = by_one steps 1 rest are (omega arith) low is
@@ -327,7 +327,7 @@ place_of_end steps [] place sign is ends = absurd ends
 place_of_end steps (cell ∷ before) place sign is ends = (is.0, omega (arith, is.1, ends.0))
 
 -- what wins is not less
-not_less : (number less : ℤ) (path other : List Cell) → Wins number path less other → less ≤ℤ number
+pub not_less : (number less : ℤ) (path other : List Cell) → Wins number path less other → less ≤ℤ number
 not_less number less path other (inl above) = omega (arith, ints)
 not_less number less path other (inr same) = omega (arith, ints, same.0)
 

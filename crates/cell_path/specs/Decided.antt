@@ -16,6 +16,7 @@ use Rattle.cell_path.specs.declared.placed.Placed.{Placed}
 use Rattle.cell_path.specs.Best.{IsBestOfAll}
 use Rattle.cell_path.specs.Lengths.{length_in}
 use Rattle.cell_path.specs.Path.{sign_before}
+use Rattle.cell_path.specs.Unfinished.{IsBestUnfinished}
 
 -- the cells of a path that ends after this many steps, each with its end
 unfoldable pub placed : ℕ → List Cell → List Placed
@@ -34,19 +35,20 @@ abbrev pub is_decided : ℕ → ℕ → ℕ → Placed → Bool
 is_decided delay count done cell =
     leb (cell.end + delay) count && ltb (done + length_in LENGTHS cell.cell.place / 4) cell.end
 
--- those cells of a path of this many steps that are decided behind what was decided before, if they ended as long
--- ago as this
-abbrev pub newly : ℕ → ℕ → ℕ → List Cell → List Placed
-newly delay count done path = filter (is_decided delay count done) (placed count path)
+-- after this many steps, those cells of a path that are decided behind what was decided before, if they ended as long
+-- ago as this; the path ends some steps ago
+abbrev pub newly : ℕ → ℕ → ℕ → ℕ → List Cell → List Placed
+newly delay count ago done path = filter (is_decided delay count done) (placed (count - ago) path)
 
 -- a decision falls due after this many steps
 abbrev pub is_due : ℕ → Bool
 is_due count = leb FIRST count && (count % EVERY == 0)
 
--- the latest step adds what it decides on the best path of all, and nothing where no decision falls due
+-- the latest step adds what it decides on the best of the unfinished paths, and nothing where no decision falls due
 pub record Adds (steps : List Step) (before all : List Placed) : Type 0 where
-  pub due : is_due (length steps) ≡ true → (path : List Cell) × IsBestOfAll LENGTHS steps path
-      × (all ≡ newly DELAY (length steps) (end_behind 0 before) path ++ before)
+  pub due : is_due (length steps) ≡ true
+      → (ago : ℕ) × (path : List Cell) × IsBestUnfinished LENGTHS steps ago path
+      × (all ≡ newly DELAY (length steps) ago (end_behind 0 before) path ++ before)
   pub idle : is_due (length steps) ≡ false → all ≡ before
 
 -- these cells are decided after these steps, and no others
@@ -61,7 +63,7 @@ AreDecidedInAll [] all = all ≡ []
 AreDecidedInAll (step ∷ steps) all =
     (before : List Placed) × AreDecided (step ∷ steps) before
     × (path : List Cell) × IsBestOfAll LENGTHS (step ∷ steps) path
-    × (all ≡ newly 0 (length (step ∷ steps)) (end_behind 0 before) path ++ before)
+    × (all ≡ newly 0 (length (step ∷ steps)) 0 (end_behind 0 before) path ++ before)
 
 -- two signs are the same
 abbrev pub same_sign : Sign → Sign → Bool

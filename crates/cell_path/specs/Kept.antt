@@ -32,6 +32,22 @@ pub record AreSums (sums : SumsState) : Type 0 where
   pub ring : IsRing sums.ring
   pub next : IsNext sums.next
 
+-- what the best path of all lacks at each of the latest steps, in a ring, where the next one comes, and what is kept of
+-- the sum of the sizes
+pub record LacksState : Type 0 where
+  pub ring : List ℕ
+  pub next : ℕ
+  pub sizes : ℕ
+
+-- what it lacked so long ago
+abbrev pub lack_ago : LacksState → ℕ → ℕ
+lack_ago lacks ago = get_or lacks.ring (place_ago lacks.next ago) 0
+
+-- those of the steps so far
+pub record AreLacks (lacks : LacksState) : Type 0 where
+  pub ring : IsRing lacks.ring
+  pub next : IsNext lacks.next
+
 -- the numbers of each length, by a sign, in a ring, and where the next one comes
 pub record RowsState : Type 0 where
   pub plus : List (List ℕ)

@@ -15,4 +15,5 @@ pub mod Spaced
 pub mod Started
 pub mod StandsFor
 pub mod Trying
+pub mod Unfinished
 pub mod Within

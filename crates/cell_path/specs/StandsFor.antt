@@ -1,6 +1,7 @@
 -- What is kept stands for the steps so far, the latest first.
-use Rattle.std.specs.Prelude.{◌≡◌, ℕ, ◌-◌, ◌<◌, ◌≤◌, ℤ, List, [], drop, get_or}
+use Rattle.std.specs.Prelude.{◌≡◌, ℕ, ◌-◌, ◌<◌, ◌≤◌, ℤ, pos, List, [], length, drop, get_or}
 use Rattle.cell_path.specs.declared.cell.Bit.{Bit}
+use Rattle.cell_path.specs.declared.cell.Cell.{Cell}
 use Rattle.cell_path.specs.declared.cell.Sign.{Sign}
 use Rattle.cell_path.specs.declared.cell.Sign.TheVariants.{Plus, Minus}
 use Rattle.cell_path.specs.declared.cell.Step.{Step}
@@ -8,16 +9,29 @@ use Rattle.cell_path.specs.declared.cell.Way.{Way}
 use Rattle.cell_path.specs.declared.ends.Ends.{Ends}
 use Rattle.cell_path.specs.declared.four.Four.{Four}
 use Rattle.cell_path.specs.declared.lengths.TheConstants.{LENGTHS}
+use Rattle.cell_path.specs.Best.{IsBestOfAll}
 use Rattle.cell_path.specs.Four.{at_step, low}
-use Rattle.cell_path.specs.Kept.{number_ago, sum_ago, RowsState, SumsState}
+use Rattle.cell_path.specs.Kept.{lack_ago, number_ago, sum_ago, LacksState, RowsState, SumsState}
 use Rattle.cell_path.specs.Marks.{bit_from, way_from}
 use Rattle.cell_path.specs.Number.{IsBeginning, IsBestEnd, IsEnd}
 use Rattle.cell_path.specs.Path.{total}
 use Rattle.cell_path.specs.Trying.{end_number}
+use Rattle.cell_path.specs.Unfinished.{lack, sum_of_sizes}
 
 -- each sum is that of all steps up to its own
 abbrev pub SumsStandFor : SumsState → List Step → Type 0
 SumsStandFor sums steps = (ago : ℕ) → ago ≤ 99 → sum_ago sums ago ≡ low (total (drop ago steps))
+
+-- what is kept is that of what the best path of all lacks
+pub record HasLack (steps : List Step) (kept : ℕ) : Type 0 where
+  pub path : List Cell
+  pub is_best : IsBestOfAll LENGTHS steps path
+  pub kept_is : kept ≡ low (lack LENGTHS steps path)
+
+-- the sum is that of the sizes, and at each of the latest 96 steps the best path lacks what is kept
+pub record LacksStandFor (lacks : LacksState) (steps : List Step) : Type 0 where
+  pub sizes : lacks.sizes ≡ low (pos (sum_of_sizes steps))
+  pub each : (ago : ℕ) → ago < 96 → ago < length steps → HasLack (drop ago steps) (lack_ago lacks ago)
 
 -- what is kept is that of the score of the best beginning, in some way
 pub record HasBeginning (lengths : List ℕ) (steps : List Step) (ago place : ℕ) (sign : Sign) (kept : ℕ) : Type 0 where

@@ -1,12 +1,14 @@
--- Trying one after another: the best so far, of the ends and of the ways to begin.
-use Rattle.std.specs.Prelude.{◌≡◌, ℕ, ◌+◌, ◌*◌, ◌<◌, ℤ, List, [], ◌∷◌}
+-- Trying one after another: the best so far, of the ends, of the ways to begin, and of the latest steps.
+use Rattle.std.specs.Prelude.{◌≡◌, ℕ, ◌+◌, ◌*◌, ◌<◌, ℤ, List, [], ◌∷◌, drop}
 use Rattle.cell_path.specs.declared.cell.Cell.{Cell}
 use Rattle.cell_path.specs.declared.cell.Sign.{Sign}
 use Rattle.cell_path.specs.declared.cell.Step.{Step}
 use Rattle.cell_path.specs.declared.cell.Way.{Way}
-use Rattle.cell_path.specs.Best.{rank_of_sign, rank_of_way, EndsIn, Wins}
+use Rattle.cell_path.specs.declared.lengths.TheConstants.{LENGTHS}
+use Rattle.cell_path.specs.Best.{rank_of_sign, rank_of_way, EndsIn, IsBestOfAll, Wins}
 use Rattle.cell_path.specs.Number.{score_before, Begins, WinsBy}
 use Rattle.cell_path.specs.Path.{score, IsPath}
+use Rattle.cell_path.specs.Unfinished.{lack, LacksLess}
 
 -- the number of an end, in the order in which ends are tried
 abbrev pub end_number : ℕ → Sign → ℕ
@@ -47,3 +49,9 @@ pub record IsBestOfWay (lengths : List ℕ) (steps : List Step) (place : ℕ) (s
   pub number_is : number ≡ score_before lengths steps 0 place way before
   pub wins : (others : List Cell) → Begins lengths steps 0 place sign way others
       → Wins number before (score_before lengths steps 0 place way others) others
+
+-- of the best paths to the latest `most` steps that to the step so long ago lacks least
+abbrev pub LacksLeast : List Step → ℕ → ℕ → Type 0
+LacksLeast steps most ago = (other : ℕ) (path others : List Cell) → other < most
+    → IsBestOfAll LENGTHS (drop ago steps) path → IsBestOfAll LENGTHS (drop other steps) others
+    → LacksLess (lack LENGTHS (drop ago steps) path) ago (lack LENGTHS (drop other steps) others) other

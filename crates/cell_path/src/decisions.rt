@@ -82,8 +82,10 @@ impl Decisions {
         take(&mut self.paths, &mut self.pending, self.count, step);
         self.count += 1;
         if FIRST <= self.count && self.count % EVERY == 0 {
+            let best = self.paths.unfinished();
             decide(
                 &self.paths,
+                best,
                 DELAY,
                 self.count,
                 &mut self.done,
@@ -104,8 +106,10 @@ impl Decisions {
         if 0 < self.count {
             let left = self.count % 4;
             self.paths.finish(self.pending, left);
+            let best = self.paths.best();
             decide(
                 &self.paths,
+                best,
                 0,
                 self.count,
                 &mut self.done,

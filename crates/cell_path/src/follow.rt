@@ -1,5 +1,5 @@
 //! Following the best path back to what was decided before. Read next: `decisions`.
-ghost use Rattle.std.specs.Prelude.{◌≡◌, ℕ, ◌+◌, ◌-◌, ◌^◌, ◌<◌, ◌≤◌, List, length};
+ghost use Rattle.std.specs.Prelude.{◌≡◌, ◌+◌, ◌^◌, ◌<◌, ◌≤◌, List, drop, length};
 ghost use Rattle.cell_path.specs.declared.cell.Cell.{Cell};
 ghost use Rattle.cell_path.specs.declared.cell.Step.{Step};
 ghost use Rattle.cell_path.specs.declared.lengths.TheConstants.{LENGTHS};
@@ -25,8 +25,8 @@ pub const EVERY: u64 = 1_024;
 /// The steps before the first decision: after 1,024 it would decide 224 only.
 pub const FIRST: u64 = 2_048;
 
-/// The cells of the best path that ended `delay` steps ago or earlier, after what was decided before, which
-/// ended at `done`.
+/// The cells of the path that ended `delay` steps ago or earlier, after what was decided before, which ended
+/// at `done`.
 fn decided_now(paths: &Paths, best: Point, delay: u64, count: u64, done: u64) -> Waiting
     requires count { count ≡ paths.now.marks.count }
     requires first { 0 < delay → 2_048 ≤ count }
@@ -35,10 +35,12 @@ fn decided_now(paths: &Paths, best: Point, delay: u64, count: u64, done: u64) ->
     requires some { 0 < count }
     requires behind { done ≤ count }
     requires near { count ≤ done + 2_048 }
-    requires here { best.ago ≡ 0 }
+    requires latest { best.ago < 96 }
+    requires within { best.ago < count }
     requires place { best.place < 45 }
     ensures decided { (steps : List Step) (path : List Cell) → MarksStandFor paths.now.marks steps
-        → IsBestOfAll LENGTHS steps path → EndsIn best.place best.sign path → result ≡ newly delay count done path }
+        → IsBestOfAll LENGTHS (drop best.ago steps) path → EndsIn best.place best.sign path
+        → result ≡ newly delay count best.ago done path }
     ensures near { count ≤ end_behind done result + delay + 119 }
     ensures behind { end_behind done result ≤ count }
     ensures spaced { AreSpaced 120 done result }
@@ -62,11 +64,18 @@ fn decided_now(paths: &Paths, best: Point, delay: u64, count: u64, done: u64) ->
     waiting
 }
 
-/// Takes a decision, when all that was decided before has been given.
+/// Takes a decision on a path that ends in a point, when all that was decided before has been given.
 // Out of line, since the room for a list is cleared on entry, which a step does not have to pay.
 #[cold]
 #[inline(never)]
-pub(crate) fn decide(paths: &Paths, delay: u64, count: u64, done: &mut u64, waiting: &mut Waiting)
+pub(crate) fn decide(
+    paths: &Paths,
+    best: Point,
+    delay: u64,
+    count: u64,
+    done: &mut u64,
+    waiting: &mut Waiting,
+)
     requires count { count ≡ paths.now.marks.count }
     requires first { 0 < delay → 2_048 ≤ count }
     requires delay { delay ≤ 800 }
@@ -74,14 +83,18 @@ pub(crate) fn decide(paths: &Paths, delay: u64, count: u64, done: &mut u64, wait
     requires some { 0 < count }
     requires behind { done.old ≤ count }
     requires near { count ≤ done.old + 2_048 }
-    ensures decided { (steps : List Step) → MarksStandFor paths.now.marks steps → 0 < length steps
-        → (path : List Cell) × IsBestOfAll LENGTHS steps path × (waiting.new ≡ newly delay count done.old path) }
+    requires latest { best.ago < 96 }
+    requires within { best.ago < count }
+    requires place { best.place < 45 }
+    ensures decided { (steps : List Step) (path : List Cell) → MarksStandFor paths.now.marks steps
+        → IsBestOfAll LENGTHS (drop best.ago steps) path → EndsIn best.place best.sign path
+        → waiting.new ≡ newly delay count best.ago done.old path }
     ensures done { done.new ≡ end_behind done.old waiting.new }
     ensures many { length waiting.new ≤ 1_024 }
     ensures near { count ≤ done.new + delay + 119 }
     ensures behind { done.new ≤ count }
     ensures spaced { AreSpaced 120 done.old waiting.new }
 {
-    *waiting = decided_now(paths, paths.best(), delay, count, *done);
+    *waiting = decided_now(paths, best, delay, count, *done);
     *done = waiting.end_behind(*done);
 }

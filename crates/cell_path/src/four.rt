@@ -18,7 +18,7 @@ struct One {
 
 /// Whether a number is below another.
 #[inline(always)]
-fn less(number: u32, other: u32) -> bool
+pub(crate) fn less(number: u32, other: u32) -> bool
     ensures yes { (x y : ℤ) → number ≡ low x → other ≡ low y → AreNear x y → result ≡ true → x <ℤ y }
     ensures no { (x y : ℤ) → number ≡ low x → other ≡ low y → AreNear x y → result ≡ false → y ≤ℤ x }
 {

@@ -7,6 +7,7 @@ ghost use Rattle.cell_path.specs.declared.cell.Sign.{Sign};
 ghost use Rattle.cell_path.specs.declared.cell.Step.{Step};
 ghost use Rattle.cell_path.specs.declared.cell.Way.{Way};
 ghost use Rattle.cell_path.specs.declared.follow.TheConstants.{DELAY, EVERY, FIRST};
+ghost use Rattle.cell_path.specs.declared.lacks.TheConstants.{LATEST};
 ghost use Rattle.cell_path.specs.declared.lengths.TheConstants.{EARLY, JUMP, LENGTHS, PLACES};
 ghost use Rattle.cell_path.specs.declared.placed.Placed.{Placed};
 ghost use Rattle.cell_path.specs.declared.waiting.TheConstants.{ROOM};
@@ -16,6 +17,7 @@ ghost use Rattle.cell_path.specs.Lengths.{length_in, spelled};
 ghost use Rattle.cell_path.specs.Number.{IsBeginning, IsEnd};
 ghost use Rattle.cell_path.specs.Scores.{AreSteps};
 ghost use Rattle.cell_path.specs.Spaced.{AreApart};
+ghost use Rattle.cell_path.specs.Unfinished.{lack};
 
 /// The lengths: from 4 to 24 each, from 26 to 48 each second, from 52 to 96 each fourth.
 pub fn the_lengths_are_these()
@@ -39,8 +41,8 @@ pub fn what_stands_before_is_best()
 {}
 
 /// In a sound of 16 bits the best scores lie near one another: those of the paths that end with a step, in whichever
-/// length and sign, within 2^29, and those of what comes before a cell of one length within 2^24. So a number of 32
-/// bits tells which of two is the greater.
+/// length and sign, within 2^29, and those of what comes before a cell of one length within 2^24; and what the best
+/// paths to two of the latest steps lack within 2^30. So a number of 32 bits tells which of two is the greater.
 pub fn the_best_scores_lie_near_one_another()
     ensures ends { (steps : List Step) (place other_place : ℕ) (sign other_sign : Sign) (number other : ℤ)
         (bit other_bit : Bit) → AreSteps steps → IsEnd LENGTHS steps place sign number bit
@@ -48,6 +50,10 @@ pub fn the_best_scores_lie_near_one_another()
     ensures beginnings { (steps : List Step) (ago place : ℕ) (sign other_sign : Sign) (number other : ℤ)
         (way other_way : Way) → AreSteps steps → place < 45 → IsBeginning LENGTHS steps ago place sign number way
         → IsBeginning LENGTHS steps ago place other_sign other other_way → number ≤ℤ (other +ℤ pos (2 ^ 24)) }
+    ensures lacks { (steps : List Step) (ago other : ℕ) (path others : List Cell) → AreSteps steps → ago < LATEST
+        → other < LATEST → FIRST ≤ length steps → IsBestOfAll LENGTHS (drop ago steps) path
+        → IsBestOfAll LENGTHS (drop other steps) others
+        → lack LENGTHS (drop ago steps) path ≤ℤ (lack LENGTHS (drop other steps) others +ℤ pos (2 ^ 30)) }
 {}
 
 /// When a decision falls due, what it leaves open, and how many cells it can decide.
@@ -55,6 +61,7 @@ pub fn the_decisions_are_these()
     ensures delay { DELAY ≡ 800 }
     ensures every { EVERY ≡ 1_024 }
     ensures first { FIRST ≡ 2 * EVERY }
+    ensures latest { LATEST ≡ 96 }
     ensures room { 4 * ROOM ≡ FIRST }
 {}
 

@@ -20,10 +20,12 @@
 //!   where the cell before it ends (`specs/KeptMarks.antt`, `GoesBack`), as long as the points lie within
 //!   4,000 steps. A mark of one byte for each step and length keeps the bits and the ways
 //!   (`specs/Marks.antt`).
-//! - While the sound goes on, its cells are decided: every 1,024 steps the best path is followed back, and
-//!   those of its cells that ended 800 steps ago or earlier, behind what was decided before, are given one
-//!   by one in the order of time (`Decisions::feed`, `Decisions::give`; `specs/Decided.antt`, `AreDecided`:
-//!   what is decided depends on the steps alone, not on when it is fetched). When the sound ends, the
+//! - While the sound goes on, its cells are decided: every 1,024 steps the best unfinished path is followed
+//!   back, and those of its cells that ended 800 steps ago or earlier, behind what was decided before, are
+//!   given one by one in the order of time (`Decisions::feed`, `Decisions::give`; `specs/Decided.antt`,
+//!   `AreDecided`: what is decided depends on the steps alone, not on when it is fetched). Unfinished paths
+//!   end with one of the latest 96 steps, since a cell may go on behind them; the best lacks least of the sum
+//!   of the sizes of the sound (`specs/Unfinished.antt`, `IsBestUnfinished`). When the sound ends, the
 //!   rest of its best path is decided too (`Decisions::finish`; `AreDecidedInAll`). A cell jumps if it
 //!   does not meet the one before it within a quarter of its length and with its sign. At most 512 are
 //!   decided at once, so nothing is allocated.
@@ -33,7 +35,7 @@
 //!
 //! Read `lengths` and `cell` with `specs/Path.antt` and `specs/Best.antt`, then `scores` with
 //! `specs/Number.antt` and `specs/StandsFor.antt`, `paths` with `specs/KeptMarks.antt`, and `decisions`
-//! with `specs/Decided.antt`; below them are `four` and `ring`, `end`, `best` and `start`, which try one length
+//! with `specs/Unfinished.antt` and `specs/Decided.antt`; below them are `four` and `ring`, `end`, `best` and `start`, which try one length
 //! each, and `follow`. Lists of steps and of cells begin with the latest.
 //! Nothing here allocates or refuses. What makes the steps of samples, and what separates cells from noise, is in
 //! path_front.
@@ -46,6 +48,7 @@ mod end;
 mod ends;
 mod follow;
 mod four;
+mod lacks;
 pub mod laws;
 mod lengths;
 mod mark;
@@ -68,6 +71,7 @@ pub use decisions::Decisions;
 pub use ends::Ends;
 pub use follow::{DELAY, EVERY, FIRST};
 pub use four::Four;
+pub use lacks::LATEST;
 pub use lengths::{EARLY, JUMP, LENGTHS, PLACES, length_at};
 pub use mark::{FourMarks, StepMarks};
 pub use marks::KEPT;

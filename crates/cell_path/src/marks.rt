@@ -82,18 +82,19 @@ impl Marks {
         &self.ring[(self.count as usize + KEPT - ago) % KEPT]
     }
 
-    /// Where the best path of all ends, with the latest step.
-    pub(crate) fn best(&self) -> Point
-        ensures best { (steps : List Step) → MarksStandFor self.now steps → 0 < length steps
-            → (number : ℤ) × IsBestEnd LENGTHS steps result.place result.sign number }
+    /// Where the best path of all ended, so many steps ago.
+    pub(crate) fn best(&self, ago: usize) -> Point
+        requires { ago < 4_096 }
+        ensures best { (steps : List Step) → MarksStandFor self.now steps → ago < length steps
+            → (number : ℤ) × IsBestEnd LENGTHS (drop ago steps) result.place result.sign number }
         ensures place { result.place < 45 }
-        ensures here { result.ago ≡ 0 }
+        ensures there { result.ago ≡ ago }
     {
-        let here = self.ago(0);
+        let there = self.ago(ago);
         Point {
-            ago: 0,
-            place: usize::from(here.best_place),
-            sign: here.best_sign,
+            ago,
+            place: usize::from(there.best_place),
+            sign: there.best_sign,
         }
     }
 

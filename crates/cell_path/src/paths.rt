@@ -4,13 +4,14 @@ ghost use Rattle.std.specs.Prelude.{length};
 ghost use Rattle.cell_path.specs.declared.cell.Cell.{Cell};
 ghost use Rattle.cell_path.specs.declared.cell.Step.{Step};
 ghost use Rattle.cell_path.specs.declared.lengths.TheConstants.{LENGTHS};
-ghost use Rattle.cell_path.specs.Best.{IsBest};
+ghost use Rattle.cell_path.specs.Best.{IsBest, IsBestOfAll};
 ghost use Rattle.cell_path.specs.KeptMarks.{GoesBack, MarksStandFor};
 ghost use Rattle.cell_path.specs.Lengths.{length_in};
 ghost use Rattle.cell_path.specs.Number.{IsBestEnd};
 ghost use Rattle.cell_path.specs.Paths.{PathsStandFor};
 ghost use Rattle.cell_path.specs.Pending.{steps_of};
 ghost use Rattle.cell_path.specs.Scores.{AreSteps};
+ghost use Rattle.cell_path.specs.Unfinished.{IsBestUnfinished};
 
 use crate::cell::Step;
 use crate::marks::Marks;
@@ -101,7 +102,19 @@ impl Paths {
         ensures place { result.place < 45 }
         ensures here { result.ago ≡ 0 }
     {
-        self.marks.best()
+        self.marks.best(0)
+    }
+
+    /// Where the best unfinished path ends.
+    pub fn unfinished(&self) -> Point
+        ensures best { (steps : List Step) (path : List Cell) → 2_048 ≤ length steps → PathsStandFor self.now steps
+            → IsBestOfAll LENGTHS (drop result.ago steps) path → IsBestUnfinished LENGTHS steps result.ago path }
+        ensures ends { (steps : List Step) → 2_048 ≤ length steps → PathsStandFor self.now steps
+            → (number : ℤ) × IsBestEnd LENGTHS (drop result.ago steps) result.place result.sign number }
+        ensures place { result.place < 45 }
+        ensures latest { result.ago < 96 }
+    {
+        self.marks.best(self.scores.unfinished())
     }
 
     /// The latest cell of the best path that ends in a point, and the end of the cell before it. So, from

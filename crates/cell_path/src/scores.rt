@@ -1,14 +1,19 @@
 //! The best scores of all paths through the sound so far. Read next: `mark`.
-ghost use Rattle.std.specs.Prelude.{◌≡◌, ℕ, ◌<◌, List, [], ◌∷◌};
+ghost use Rattle.std.specs.Prelude.{◌≡◌, ℕ, ◌<◌, ◌≤◌, List, [], ◌∷◌, drop, length};
+ghost use Rattle.cell_path.specs.declared.cell.Cell.{Cell};
 ghost use Rattle.cell_path.specs.declared.cell.Step.{Step};
+ghost use Rattle.cell_path.specs.declared.lengths.TheConstants.{LENGTHS};
+ghost use Rattle.cell_path.specs.Best.{IsBestOfAll};
 ghost use Rattle.cell_path.specs.Marks.{IsMarked};
 ghost use Rattle.cell_path.specs.Scores.{AreSteps, StandsFor};
 ghost use Rattle.cell_path.specs.StandsFor.{steps_at};
 ghost use Rattle.cell_path.specs.Started.{marks_of};
+ghost use Rattle.cell_path.specs.Unfinished.{IsBestUnfinished};
 
 use crate::best::best_of_all;
 use crate::cell::Step;
 use crate::ends::{Ends, best_ends, no_ends};
+use crate::lacks::Lacks;
 use crate::lengths::PLACES;
 use crate::mark::FourMarks;
 use crate::rows::Rows;
@@ -22,6 +27,7 @@ use std::marker::Model;
 pub struct Scores {
     sums: Sums,
     rows: Rows,
+    lacks: Lacks,
     /// Room for the ends of the latest four steps, which is cleared once and not for each.
     ends: Ends,
 }
@@ -32,7 +38,7 @@ impl Model for Scores {
 
     ghost Value = { ScoresState };
 
-    ghost view = { λ s. record { sums = s.sums; rows = s.rows } };
+    ghost view = { λ s. record { sums = s.sums; rows = s.rows; lacks = s.lacks } };
 
     ghost invariant = { λ s. s.rows.next ≡ s.sums.next };
 }
@@ -45,6 +51,7 @@ impl Scores {
         Scores {
             sums: Sums::new(),
             rows: Rows::new(),
+            lacks: Lacks::new(),
             ends: no_ends(),
         }
     }
@@ -65,6 +72,16 @@ impl Scores {
         let mut marks = [[0; 4]; PLACES];
         best_starts(&mut self.rows, &mut marks, &self.ends, best, levels);
         self.rows.turn();
+        self.lacks.push(a, b, c, d, best);
         spread(&marks, best.codes)
+    }
+
+    /// How many steps ago the best unfinished path ends.
+    pub fn unfinished(&self) -> usize
+        ensures latest { result < 96 }
+        ensures best { (steps : List Step) (path : List Cell) → 2_048 ≤ length steps → StandsFor self.now steps
+            → IsBestOfAll LENGTHS (drop result steps) path → IsBestUnfinished LENGTHS steps result path }
+    {
+        self.lacks.least()
     }
 }

@@ -15,7 +15,8 @@ use Rattle.cell_path.specs.declared.lengths.TheConstants.{LENGTHS}
 use Rattle.cell_path.specs.Best.{rank_of_bit, rank_of_sign, rank_of_way, IsBestOfAll, StandsFirst, Wins}
 use Rattle.cell_path.specs.Lengths.{length_in}
 use Rattle.cell_path.specs.Path.{score, IsPath}
-use Rattle.path_truth.specs.Sides.{sum_of_sizes, KeepsItsSides}
+use Rattle.cell_path.specs.Unfinished.{sum_of_sizes}
+use Rattle.path_truth.specs.Sides.{KeepsItsSides}
 use Rattle.path_truth.specs.Tape.{GoOn, HasAZero, IsSteady}
 use Rattle.path_truth.proofs.Exact.{exact}
 use Rattle.path_truth.proofs.NoGreater.{score-most}

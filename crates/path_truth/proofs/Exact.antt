@@ -6,7 +6,7 @@ use Rattle.cell_path.specs.declared.cell.Cell.{Cell}
 use Rattle.cell_path.specs.declared.cell.Step.{Step}
 use Rattle.cell_path.specs.Lengths.{length_in}
 use Rattle.cell_path.specs.Path.{cost, score, signed, sound_in}
-use Rattle.path_truth.specs.Sides.{sum_of_sizes}
+use Rattle.cell_path.specs.Unfinished.{sum_of_sizes}
 use Rattle.path_truth.proofs.NoGreater.{cost-least, score-most, sizes-parts, sound-most}
 
 -- the cell is worth the sizes of its steps, and pays nothing

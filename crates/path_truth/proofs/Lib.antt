@@ -2,6 +2,7 @@ mod Beaten
 mod BestIsTape
 mod Clipping
 mod DecidedSound
+mod DecidedTape
 mod Exact
 mod FairCells
 mod FairFit
@@ -11,15 +12,14 @@ mod MeanSize
 mod MeasuredTape
 mod NoBreak
 mod NoGreater
-mod OnEnds
 mod OnSides
+mod OpenTape
 mod PlainSound
 mod Recorded
 mod Rising
 mod Runs
 mod SameCells
 mod Sections
-mod ShortTape
 mod SoundIntervals
 mod SoundLength
 mod SoundSides

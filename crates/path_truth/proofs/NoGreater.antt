@@ -14,7 +14,7 @@ use Rattle.cell_path.specs.declared.cell.Way.{Way}
 use Rattle.cell_path.specs.declared.lengths.TheConstants.{EARLY}
 use Rattle.cell_path.specs.Lengths.{length_in}
 use Rattle.cell_path.specs.Path.{cost, level_at, opposite, score, signed, sound_in, times_for, total}
-use Rattle.path_truth.specs.Sides.{sum_of_sizes}
+use Rattle.cell_path.specs.Unfinished.{sum_of_sizes}
 
 pub sizes-cons : (step : Step) (steps : List Step)
     → sum_of_sizes (step ∷ steps) ≡ unsigned_abs step.sound + sum_of_sizes steps

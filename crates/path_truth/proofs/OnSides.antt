@@ -10,7 +10,8 @@ use Rattle.cell_path.specs.declared.cell.Sign.{Sign}
 use Rattle.cell_path.specs.declared.cell.Sign.TheVariants.{Plus, Minus}
 use Rattle.cell_path.specs.declared.cell.Step.{Step}
 use Rattle.cell_path.specs.Path.{opposite, signed, sound_in, total}
-use Rattle.path_truth.specs.Sides.{sum_of_sizes, AreOnSide, IsOnSide, KeepsSides}
+use Rattle.cell_path.specs.Unfinished.{sum_of_sizes}
+use Rattle.path_truth.specs.Sides.{AreOnSide, IsOnSide, KeepsSides}
 use Rattle.path_truth.proofs.NoGreater.{signed-add, signed-less, signed-most, signed-zero, sizes-cons, sizes-halves}
 use Rattle.path_truth.proofs.NoGreater.{sizes-nil, total-cons, total-most, total-nil}
 

@@ -37,6 +37,20 @@ rise-apart least (n ∷ more) (suc place) (suc other) all before within =
 pub length_least : (place : ℕ) → place < 45 → 4 ≤ length_in LENGTHS place
 length_least place within = rise-least 4 LENGTHS place refl within
 
+-- each is as long as the longest at most
+abbrev below : List ℕ → Bool
+below [] = true
+below (n ∷ more) = nat_le n 96 && below more
+
+below-most : (lengths : List ℕ) (place : ℕ) → below lengths ≡ true → get_or lengths place 0 ≤ 96
+below-most [] place all = omega arith
+below-most (n ∷ more) zero all =
+    let a = (and_parts (nat_le n 96) (below more) all).0 in grind (arith, nat_tests)
+below-most (n ∷ more) (suc place) all = below-most more place (and_parts (nat_le n 96) (below more) all).1
+
+pub length_most : (place : ℕ) → place < 45 → length_in LENGTHS place ≤ 96
+length_most place within = below-most LENGTHS place refl
+
 pub lengths_apart : (place other : ℕ) → place < other → other < 45
     → length_in LENGTHS place < length_in LENGTHS other
 lengths_apart place other before within = rise-apart 4 LENGTHS place other refl before within

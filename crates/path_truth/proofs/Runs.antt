@@ -114,7 +114,7 @@ before_ends place cell (last ∷ more) goes =
     let same = subst (λ w. Follows w cell.place (sign_before cell.bit cell.sign) (last ∷ more)) goes.way goes.follows in
     same.1
 
-opposite-twice : (sign : Sign) → opposite (opposite sign) ≡ sign
+pub opposite-twice : (sign : Sign) → opposite (opposite sign) ≡ sign
 opposite-twice Plus = refl
 opposite-twice Minus = refl
 

@@ -12,7 +12,8 @@ use Rattle.cell_path.specs.declared.cell.Way.TheVariants.{Same}
 use Rattle.cell_path.specs.declared.lengths.TheConstants.{EARLY, LENGTHS}
 use Rattle.cell_path.specs.Lengths.{length_in}
 use Rattle.cell_path.specs.Path.{cost, level_at, score, signed, sound_in, times_for, IsPath}
-use Rattle.path_truth.specs.Sides.{sum_of_sizes, KeepsItsSides}
+use Rattle.cell_path.specs.Unfinished.{sum_of_sizes}
+use Rattle.path_truth.specs.Sides.{KeepsItsSides}
 use Rattle.path_truth.specs.Tape.{GoOn, GoesOn}
 use Rattle.path_truth.proofs.NoGreater.{sizes-nil, sizes-parts}
 use Rattle.path_truth.proofs.OnSides.{keeps-heard, keeps-long, sides-worth, AreHeard}

@@ -1,6 +1,6 @@
+pub mod Early
 pub mod Intervals
 pub mod Lost
-pub mod OnEnds
 pub mod Sides
 pub mod Sound
 pub mod Tape

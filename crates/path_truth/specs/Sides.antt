@@ -1,5 +1,5 @@
 -- A sound that keeps the sides of a tape. Lists of steps and of cells begin with the latest.
-use Rattle.std.specs.Prelude.{◌≡◌, ℕ, zero, suc, ◌+◌, ◌/◌, ◌%◌, ◌≤◌, pos, ◌<ℤ◌, unsigned_abs}
+use Rattle.std.specs.Prelude.{◌≡◌, ℕ, zero, suc, ◌/◌, ◌%◌, ◌≤◌, pos, ◌<ℤ◌}
 use Rattle.std.specs.Prelude.{List, [], ◌∷◌, length, drop}
 use Rattle.cell_path.specs.declared.cell.Bit.{Bit}
 use Rattle.cell_path.specs.declared.cell.Bit.TheVariants.{Zero, One}
@@ -7,11 +7,6 @@ use Rattle.cell_path.specs.declared.cell.Cell.{Cell}
 use Rattle.cell_path.specs.declared.cell.Sign.{Sign}
 use Rattle.cell_path.specs.declared.cell.Step.{Step}
 use Rattle.cell_path.specs.Path.{opposite, signed}
-
--- the sizes of the sound, summed
-unfoldable pub sum_of_sizes : List Step → ℕ
-sum_of_sizes [] = 0
-sum_of_sizes (step ∷ steps) = unsigned_abs step.sound + sum_of_sizes steps
 
 -- the sound of a step is on this side of zero, and the mean size there is one or more
 pub record IsOnSide (sign : Sign) (step : Step) : Type 0 where

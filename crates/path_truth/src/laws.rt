@@ -1,26 +1,26 @@
 //! What follows from the definitions alone: from a steady tape to its best path.
-ghost use Rattle.std.specs.Prelude.{◌≡◌, ℕ, ◌%◌, ◌==◌, ◌<◌, ◌≤◌, ℤ, pos, ◌+ℤ◌, ◌≤ℤ◌, unsigned_abs};
+ghost use Rattle.std.specs.Prelude.{◌≡◌, ℕ, ◌%◌, ◌<◌, ◌≤◌, ℤ, pos, ◌+ℤ◌, ◌≤ℤ◌, unsigned_abs};
 ghost use Rattle.std.specs.Prelude.{List, [], ◌∷◌, ◌++◌, length};
-ghost use Rattle.std.specs.List.{filter};
 ghost use Rattle.cell_path.specs.declared.cell.Bit.TheVariants.{Zero};
 ghost use Rattle.cell_path.specs.declared.cell.Cell.{Cell};
 ghost use Rattle.cell_path.specs.declared.cell.Sign.{Sign};
 ghost use Rattle.cell_path.specs.declared.cell.Step.{Step};
-ghost use Rattle.cell_path.specs.declared.follow.TheConstants.{EVERY, FIRST};
+ghost use Rattle.cell_path.specs.declared.follow.TheConstants.{FIRST};
 ghost use Rattle.cell_path.specs.declared.lengths.TheConstants.{LENGTHS};
 ghost use Rattle.cell_path.specs.declared.placed.Placed.{Placed};
 ghost use Rattle.cell_path.specs.Best.{IsBestOfAll};
 ghost use Rattle.cell_path.specs.Decided.{placed, AreDecidedInAll};
 ghost use Rattle.cell_path.specs.Lengths.{length_in};
 ghost use Rattle.cell_path.specs.Path.{score, signed, IsPath};
+ghost use Rattle.path_truth.specs.Early.{HasAnEarlyZero};
 ghost use Rattle.path_truth.specs.Lost.{ambiguous, as_a_one, as_zeros, free, free_tape, odd, odd_tape, silent};
 ghost use Rattle.path_truth.specs.Lost.{silent_tape};
-ghost use Rattle.path_truth.specs.OnEnds.{FallOnEnds};
-ghost use Rattle.path_truth.specs.Sides.{sum_of_sizes, IsOnSide, KeepsItsSides};
+ghost use Rattle.cell_path.specs.Unfinished.{sum_of_sizes};
+ghost use Rattle.path_truth.specs.Sides.{IsOnSide, KeepsItsSides};
 ghost use Rattle.path_truth.specs.Tape.{GoOn, IsSteady};
 ghost use Rattle.path_truth.specs.Worked.{noisy, noisy_tape};
 
-use cell_path::laws::{a_short_sound_decides_nothing, cells_are_decided_of_each_sound};
+use cell_path::laws::cells_are_decided_of_each_sound;
 
 /// No score is greater than the sum of the sizes of the sound.
 pub fn no_score_is_greater_than_the_sound()
@@ -55,25 +55,20 @@ pub fn a_short_tape_is_decided()
     ensures { (place : ℕ) (tape : List Cell) (steps : List Step) (all : List Placed) → IsSteady place tape
         → KeepsItsSides (length_in LENGTHS place) steps tape → length steps < FIRST → AreDecidedInAll steps all
         → all ≡ placed (length steps) tape }
-{
-    a_short_sound_decides_nothing();
-}
+{}
 
-/// So are they if each decision falls due where a cell ends, and a zero comes before the first.
-pub fn a_tape_is_decided_where_decisions_fall_on_ends()
+/// So are they of longer sound, if a zero comes before the first decision, wherever in a cell
+/// decisions fall due.
+pub fn a_tape_is_decided()
     ensures { (place : ℕ) (tape : List Cell) (steps : List Step) (all : List Placed) → IsSteady place tape
-        → KeepsItsSides (length_in LENGTHS place) steps tape
-        → FallOnEnds (length_in LENGTHS place) (length steps) tape → AreDecidedInAll steps all
-        → all ≡ placed (length steps) tape }
-{
-    a_short_sound_decides_nothing();
-}
+        → KeepsItsSides (length_in LENGTHS place) steps tape → HasAnEarlyZero (length_in LENGTHS place) tape
+        → AreDecidedInAll steps all → all ≡ placed (length steps) tape }
+{}
 
-/// Decisions fall on the ends of cells of these lengths, and a zero at the front is enough.
-pub fn decisions_fall_on_ends_of_these_cells()
-    ensures lengths { filter (λ n. EVERY % n == 0) LENGTHS ≡ 4 ∷ 8 ∷ 16 ∷ 32 ∷ 64 ∷ [] }
-    ensures front { (n count : ℕ) (first : Cell) (more : List Cell) → 1 ≤ n → EVERY % n ≡ 0 → first.bit ≡ Zero
-        → FallOnEnds n count (more ++ first ∷ []) }
+/// A zero at the front of a tape comes before the first decision.
+pub fn a_zero_at_the_front_is_early()
+    ensures { (place : ℕ) (first : Cell) (more : List Cell) → place < length LENGTHS → first.bit ≡ Zero
+        → HasAnEarlyZero (length_in LENGTHS place) (more ++ first ∷ []) }
 {}
 
 /// Noise that does not reach the size of a step leaves it on its side.

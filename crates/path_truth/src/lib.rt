@@ -21,8 +21,9 @@
 //! - No score of a path is greater than the sum of the sizes of the sound, and the tape has that
 //!   score (`specs/Tape.antt`, `IsSteady`; `specs/Sides.antt`, `sum_of_sizes`, `KeepsItsSides`).
 //! - The best path is the tape (`laws::the_best_path_of_a_steady_tape_is_the_tape`), as in the
-//!   worked sound (`specs/Worked.antt`). If no decision falls due within a cell, all cells of the
-//!   tape are decided, and no others (`specs/OnEnds.antt`, `FallOnEnds`).
+//!   worked sound (`specs/Worked.antt`). Where decisions fall due within a cell, the best unfinished
+//!   path is the tape up to that cell. So all cells of the tape are decided, and no others, if a zero
+//!   comes before the first decision (`specs/Early.antt`, `HasAnEarlyZero`).
 //! - Noise below the size of a step keeps its side, and each tape of an even length has a sound.
 //! - A tape of ones alone is read as zeros of half the length, and each other premise is needed too
 //!   (`specs/Lost.antt`).
@@ -31,10 +32,10 @@
 //!   path, and noise of up to 7/17 its intervals (`specs/Wave.antt`, `specs/Intervals.antt`). The
 //!   front cuts one tick off the first of them.
 //!
-//! Read `specs/Tape.antt`, `Sides`, `OnEnds`, `Worked` and `Lost`, in this order, and `laws` beside
+//! Read `specs/Tape.antt`, `Sides`, `Early`, `Worked` and `Lost`, in this order, and `laws` beside
 //! them; then `specs/Sound.antt`, `Wave` and `Intervals`, and `sound_laws`. The tape begins and
-//! ends with the sound. No law says what is read if noise is greater, if the speed changes, if
-//! samples are summed in a step, or if a decision falls due within a cell. Nothing here runs.
+//! ends with the sound. No law says what is read if noise is greater, if the speed changes, or if
+//! samples are summed in a step. Nothing here runs.
 #![tactic(auto)]
 
 pub mod laws;

@@ -10,18 +10,18 @@ ghost use Rattle.cell_path.specs.Lengths.{length_in};
 ghost use Rattle.path_front.specs.Front.{AreIntervals};
 ghost use Rattle.path_front.specs.Steps.{path_steps, sounds_of};
 ghost use Rattle.path_front.specs.Tiles.{cut};
+ghost use Rattle.path_truth.specs.Early.{HasAnEarlyZero};
 ghost use Rattle.path_truth.specs.Intervals.{intervals_of_tape};
-ghost use Rattle.path_truth.specs.OnEnds.{FallOnEnds};
 ghost use Rattle.path_truth.specs.Sound.{IsSoundOf};
 ghost use Rattle.path_truth.specs.Tape.{IsSteady};
 ghost use Rattle.path_truth.specs.Wave.{square_wave, with_noise};
 ghost use Rattle.path_truth.specs.Worked.{noisy_samples, sampled_tape};
 ghost use Rattle.step_grid.specs.declared.grid.Grid.TheVariants.{Repeat};
 
-use cell_path::laws::{a_short_sound_decides_nothing, cells_are_decided_of_each_sound};
+use cell_path::laws::cells_are_decided_of_each_sound;
 
 /// The best path through the samples of a steady tape is the tape, if no size is greater than 14/3
-/// of another. If no decision falls due within a cell, all its cells are decided, and no others.
+/// of another. If a zero comes before the first decision, all its cells are decided, and no others.
 pub fn the_best_path_of_a_steady_sound_is_its_tape()
     ensures best { (place : ℕ) (tape : List Cell) (repeats least low high : ℕ) (samples : List ℤ)
         → IsSoundOf place tape repeats least low high samples
@@ -31,11 +31,10 @@ pub fn the_best_path_of_a_steady_sound_is_its_tape()
         → IsBestOfAll LENGTHS (path_steps (sounds_of (Repeat repeats) least samples)) path → path ≡ tape }
     ensures decided { (place : ℕ) (tape : List Cell) (repeats least low high : ℕ) (samples : List ℤ)
         (all : List Placed) → IsSoundOf place tape repeats least low high samples
-        → FallOnEnds (length_in LENGTHS place) (length samples * repeats) tape
+        → HasAnEarlyZero (length_in LENGTHS place) tape
         → AreDecidedInAll (path_steps (sounds_of (Repeat repeats) least samples)) all
         → all ≡ placed (length samples * repeats) tape }
 {
-    a_short_sound_decides_nothing();
     cells_are_decided_of_each_sound();
 }
 
@@ -44,16 +43,15 @@ pub fn the_best_path_of_a_steady_sound_is_its_tape()
 pub fn the_intervals_of_a_steady_sound_are_its_tapes()
     ensures are { (place : ℕ) (tape : List Cell) (repeats ticks least low high : ℕ) (samples : List ℤ)
         → IsSoundOf place tape repeats least low high samples → 5 * high ≤ 12 * low → 1 ≤ ticks
-        → FallOnEnds (length_in LENGTHS place) (length samples * repeats) tape
+        → HasAnEarlyZero (length_in LENGTHS place) tape
         → AreIntervals (Repeat repeats) ticks least samples
         (cut true (intervals_of_tape (length_in LENGTHS place * ticks) tape)) }
     ensures only { (place : ℕ) (tape : List Cell) (repeats ticks least low high : ℕ) (samples : List ℤ)
         (intervals : List ℕ) → IsSoundOf place tape repeats least low high samples → 5 * high ≤ 12 * low
-        → 1 ≤ ticks → FallOnEnds (length_in LENGTHS place) (length samples * repeats) tape
+        → 1 ≤ ticks → HasAnEarlyZero (length_in LENGTHS place) tape
         → AreIntervals (Repeat repeats) ticks least samples intervals
         → intervals ≡ cut true (intervals_of_tape (length_in LENGTHS place * ticks) tape) }
 {
-    a_short_sound_decides_nothing();
     cells_are_decided_of_each_sound();
 }
 
@@ -75,6 +73,5 @@ pub fn noisy_samples_are_read()
     ensures sound { IsSoundOf 12 sampled_tape 2 59 59 141 noisy_samples }
     ensures read { AreIntervals (Repeat 2) 100 59 noisy_samples (1 ∷ 1_599 ∷ 800 ∷ 800 ∷ 1_600 ∷ []) }
 {
-    a_short_sound_decides_nothing();
     cells_are_decided_of_each_sound();
 }

@@ -33,15 +33,14 @@ cells-preserved-then-end-delay c =
     let here : IsHere c.args.delay c.args.count many (Some point) = subst (IsHere c.args.delay c.args.count many)
     c.in-Some.is now.here in
     let gathered = subst (λ (at : Option Point). IsGathered c.args.delay c.args.count c.args.done c.args.paths.now
-    c.args.best.place
-    c.args.best.sign at c.cells.waiting) c.in-Some.is now.gathered in
+    c.args.best at c.cells.waiting) c.in-Some.is now.gathered in
     let cell : Placed = record { end = c.args.count - point.ago; cell = back.cell } in
     let old : c.args.delay ≤ point.ago = omega (arith, c.if-end-delay.true, here.1) in
     let more : length (c.cells.waiting ++ cell ∷ []) ≡ many + 1 = length-append c.cells.waiting (cell ∷ []) in
-    let goes : IsGathered c.args.delay c.args.count c.args.done c.args.paths.now c.args.best.place c.args.best.sign
+    let goes : IsGathered c.args.delay c.args.count c.args.done c.args.paths.now c.args.best
     back.before
     (c.cells.waiting ++ cell ∷ []) =
-    gathered-pushed c.args.delay c.args.count c.args.done c.args.paths.now c.args.best.place c.args.best.sign point
+    gathered-pushed c.args.delay c.args.count c.args.done c.args.paths.now c.args.best point
     c.cells.waiting back gathered says.back says.cell before c.if-end-delay.true
     (omega (arith, c.if-end-done.false, long.value)) in
     let spaced : AreSpaced 96 (c.args.count - point.ago) c.cells.waiting =
@@ -56,7 +55,7 @@ cells-preserved-then-end-delay c =
       here : IsHere c.args.delay c.args.count (length w) back.before;
       near : 0 < length w → c.args.count ≤ end_behind c.args.done w + (c.args.delay + 95);
       behind : end_behind c.args.done w ≤ c.args.count;
-      gathered : IsGathered c.args.delay c.args.count c.args.done c.args.paths.now c.args.best.place c.args.best.sign
+      gathered : IsGathered c.args.delay c.args.count c.args.done c.args.paths.now c.args.best
           back.before w;
       spaced : AreSpaced 96 (c.args.count - ago_of c.args.count back.before) w;
       far : AreBehind c.args.done w;
@@ -88,8 +87,7 @@ cells-preserved c =
     let here : IsHere c.args.delay c.args.count many (Some point) = subst (IsHere c.args.delay c.args.count many)
     c.in-Some.is now.here in
     let gathered = subst (λ (at : Option Point). IsGathered c.args.delay c.args.count c.args.done c.args.paths.now
-    c.args.best.place
-    c.args.best.sign at c.cells.waiting) c.in-Some.is now.gathered in
+    c.args.best at c.cells.waiting) c.in-Some.is now.gathered in
     let new : point.ago < c.args.delay = omega (arith, c.if-end-delay.false, here.1) in
     record {
       here = here_skipped c.args.delay c.args.count many c.length_at.result point back.before c.requires.first
@@ -102,8 +100,7 @@ cells-preserved c =
           (c.args.count - ago_of c.args.count back.before)
           c.cells.waiting (omega (arith, new, here.3)) now.spaced;
       far = now.far;
-      gathered = gathered-skipped c.args.delay c.args.count c.args.done c.args.paths.now c.args.best.place
-          c.args.best.sign point
+      gathered = gathered-skipped c.args.delay c.args.count c.args.done c.args.paths.now c.args.best point
           c.cells.waiting back gathered says.back says.cell before (omega (arith, c.if-end-delay.false));
     }
 
@@ -112,16 +109,15 @@ pub returns-then-end-done-clause-decided : goal.returns-then-end-done-clause-dec
 returns-then-end-done-clause-decided c =
     let point = c.in-Some.point in
     let gathered = subst (λ (at : Option Point). IsGathered c.args.delay c.args.count c.args.done c.args.paths.now
-    c.args.best.place
-    c.args.best.sign at c.cells.waiting) c.in-Some.is c.cells.invariant.gathered in
-    all_gathered c.args.delay c.args.count c.args.done c.args.paths.now c.args.best.place c.args.best.sign point
+    c.args.best at c.cells.waiting) c.in-Some.is c.cells.invariant.gathered in
+    all_gathered c.args.delay c.args.count c.args.done c.args.paths.now c.args.best point
     c.cells.waiting
     gathered (omega (arith, c.if-end-done.true, c.length_at.ensures.value))
 
 -- the path has come to the beginning of the sound
 pub returns-in_default-clause-decided : goal.returns-in_default-clause-decided
 returns-in_default-clause-decided c =
-    all_gathered_to_begin c.args.delay c.args.count c.args.done c.args.paths.now c.args.best.place c.args.best.sign
+    all_gathered_to_begin c.args.delay c.args.count c.args.done c.args.paths.now c.args.best
     c.cells.at
     c.cells.waiting c.cells.invariant.gathered c.in_default.is
 

@@ -10,7 +10,7 @@ invariant-cells l = record {
   here : IsHere l.delay l.count (length l.waiting) l.at;
   near : 0 < length l.waiting → l.count ≤ end_behind l.done l.waiting + (l.delay + 95);
   behind : end_behind l.done l.waiting ≤ l.count;
-  gathered : IsGathered l.delay l.count l.done l.paths l.fn.best.place l.fn.best.sign l.at l.waiting;
+  gathered : IsGathered l.delay l.count l.done l.paths l.fn.best l.at l.waiting;
   spaced : AreSpaced 96 (l.count - ago_of l.count l.at) l.waiting;
   far : AreBehind l.done l.waiting;
 }

@@ -1,5 +1,6 @@
-use Rattle.path_truth.proofs.ShortTape.{short_tape}
+use Rattle.path_truth.proofs.DecidedTape.{decided-tape, short-is-early}
 use Rattle.path_truth.proofs.laws.a_short_tape_is_decided.Goals as goal
 
 pub returns : goal.returns
-returns c = short_tape c.a_short_sound_decides_nothing.ensures
+returns c = λ place tape steps all steady keeps short are.
+    decided-tape place tape steps all steady keeps (short-is-early place tape steps steady keeps short) are

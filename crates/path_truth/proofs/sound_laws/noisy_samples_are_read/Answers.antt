@@ -1,4 +1,4 @@
-use Rattle.std.proofs.Common.{◌≡◌, inl, [], ◌∷◌, refl, rules, arith, subst}
+use Rattle.std.proofs.Common.{◌≡◌, [], ◌∷◌, refl, rules, arith, subst}
 use Rattle.step_grid.specs.declared.grid.Grid.TheVariants.{Repeat}
 use Rattle.path_front.specs.Front.{AreIntervals}
 use Rattle.path_truth.specs.Intervals.{intervals_of_tape}
@@ -34,5 +34,4 @@ returns-clause-read c =
     subst (AreIntervals (Repeat 2) 100 59 noisy_samples) spelled
     (intervals-are c.cells_are_decided_of_each_sound.ensures.in_all 12 sampled_tape 2 100 59 59 141 noisy_samples sound
     (omega arith) (omega arith)
-    (decided_sound c.a_short_sound_decides_nothing.ensures 12 sampled_tape 2 59 59 141 noisy_samples sound
-    (inl (omega arith))))
+    (decided_sound 12 sampled_tape 2 59 59 141 noisy_samples sound (search rules)))

@@ -19,6 +19,6 @@ returns-clause-only c = λ place tape path repeats least low high samples is bes
     (sound_keeps place tape repeats least low high samples is) best
 
 pub returns-clause-decided : goal.returns-clause-decided
-returns-clause-decided c = λ place tape repeats least low high samples all is on_ends are.
-    decided_sound c.a_short_sound_decides_nothing.ensures place tape repeats least low high samples is on_ends all are
+returns-clause-decided c = λ place tape repeats least low high samples all is early are.
+    decided_sound place tape repeats least low high samples is early all are
     ∙ ap (λ n. placed n tape) (many-steps repeats least samples)

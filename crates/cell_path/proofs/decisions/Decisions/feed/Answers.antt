@@ -1,7 +1,7 @@
 use Rattle.std.proofs.Common.{◌≡◌, ◌+◌, [], ◌∷◌, ◌++◌, length, ap, subst, sym, ◌∙◌, arith}
 use Rattle.cell_path.specs.Decided.{end_behind, AreDecided}
 use Rattle.cell_path.specs.Decisions.{DecisionsStandFor, DecisionsState}
-use Rattle.cell_path.specs.KeptMarks.{MarksStandFor}
+use Rattle.cell_path.specs.Paths.{PathsStandFor}
 use Rattle.cell_path.proofs.DecidesNext.{due_adds, end_of_all, whole_stands}
 use Rattle.cell_path.proofs.decisions.Decisions.feed.Goals as goal
 
@@ -23,15 +23,23 @@ returns-then-self-eq0-clause-stands c = λ steps given stand_now.
     let done : inside.done ≡ end_behind 0 given = stand.done ∙ ap (λ l. end_behind 0 (l ++ given)) none in
     let stands = c.take.ensures.stands steps c.requires.step stand.stands in
     let whole = c.if-self-eq0.true in
-    let marks : MarksStandFor c.take.new.paths.marks (c.args.step ∷ steps) =
+    let paths : PathsStandFor c.take.new.paths (c.args.step ∷ steps) =
     whole_stands c.take.new.paths c.take.new.pending (inside.count + 1) (c.args.step ∷ steps) whole stands in
     let long : inside.count + 1 ≡ length (c.args.step ∷ steps) = omega (arith, stand.count) in
+    let first = c.if-self-ge-FIRST.true in
+    let end = (c.unfinished-best.ensures.ends (c.args.step ∷ steps) (omega (arith, long, first)) paths).1 in
+    let best = c.unfinished-best.ensures.best (c.args.step ∷ steps) end.path (omega (arith, long, first)) paths
+    end.is_best in
     record {
       stands = stands;
       count = long;
       decided = due_adds c.args.step steps given c.decide.new.waiting (inside.count + 1) inside.done decided long done
-          c.if-self-ge-FIRST.true whole
-          (c.decide.ensures.decided (c.args.step ∷ steps) marks (omega arith));
+          first whole (
+            c.unfinished-best.result.ago,
+            end.path,
+            best,
+            c.decide.ensures.decided (c.args.step ∷ steps) end.path paths.marks end.is_best end.ends,
+          );
       done = c.decide.ensures.done ∙ end_of_all inside.done c.decide.new.waiting given done;
       last = stand.last;
     }

@@ -1,5 +1,7 @@
-use Rattle.std.proofs.Common.{◌≡◌, [], ◌++◌, ◌<◌, ap, subst, sym, ◌∙◌, arith}
-use Rattle.cell_path.specs.Decided.{end_behind, AreDecided}
+use Rattle.std.proofs.Common.{◌≡◌, [], ◌++◌, ◌<◌, drop, ap, subst, sym, ◌∙◌, arith}
+use Rattle.cell_path.specs.declared.lengths.TheConstants.{LENGTHS}
+use Rattle.cell_path.specs.Best.{IsBestOfAll}
+use Rattle.cell_path.specs.Decided.{end_behind, newly, AreDecided}
 use Rattle.cell_path.specs.Decisions.{DecisionsStandFor, DecisionsState}
 use Rattle.cell_path.specs.KeptMarks.{MarksStandFor}
 use Rattle.cell_path.proofs.DecidesNext.{rest_adds}
@@ -26,8 +28,13 @@ returns-then-self-gt0-clause-stands c = λ steps given stand_now.
     let marks : MarksStandFor c.finish.new.self.marks steps =
     subst (MarksStandFor c.finish.new.self.marks) (sym s.steps_are)
     (c.finish.ensures.stands s.before s.waits s.paths) in
+    let end = (c.best-best.ensures.best steps marks (omega (arith, some, stand.count))).1 in
+    let here = c.best-best.ensures.here in
+    let decided_is = subst (λ n. c.decide.new.waiting ≡ newly 0 inside.count n inside.done end.path) here
+    (c.decide.ensures.decided steps end.path marks
+    (subst (λ n. IsBestOfAll LENGTHS (drop n steps) end.path) (sym here) end.is_best) end.ends) in
     record {
       decided = rest_adds steps given c.decide.new.waiting inside.count inside.done decided stand.count done some
-          (c.decide.ensures.decided steps marks (omega (arith, some, stand.count)));
+          (end.path, end.is_best, decided_is);
       last = stand.last;
     }
