@@ -1,4 +1,5 @@
--- What the best paths to two of the latest steps lack lies near: the path to the one is cut off and led on to the other.
+-- What the best paths to two of the latest steps lack lies near: the path to the one is cut off and led on to the
+-- other.
 use Rattle.std.proofs.Common.{◌≡◌, ℕ, zero, suc, ◌+◌, ◌-◌, ◌*◌, ◌^◌, ◌<◌, ◌≤◌, ◌⊎◌, inl, inr, ℤ, pos, ◌+ℤ◌, ◌≤ℤ◌}
 use Rattle.std.proofs.Common.{unsigned_abs, List, [], ◌∷◌, length, drop, refl, ap, subst, sym, ◌∙◌, arith}
 use Rattle.std.proofs.lemmas.Int.{ints}

@@ -273,6 +273,7 @@ unfinished-is-tape place r steps tape ago path steady less keeps part many some 
           let e = length-drop ago steps in
           absurd (not-within place n (r - ago) S tape path long (omega (arith, later)) (omega (arith, less))
           steady.cells steady.zero
-          (part-less place n r ago steps tape (omega (arith, later)) (omega (arith, less)) (part (omega (arith, later))))
+          (part-less place n r ago steps tape (omega (arith, later)) (omega (arith, less))
+          (part (omega (arith, later))))
           (omega (arith, e, many, later)) best.is_best.is_path good.0)
     ]

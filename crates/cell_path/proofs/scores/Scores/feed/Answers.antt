@@ -8,7 +8,8 @@ use Rattle.cell_path.proofs.scores.Scores.feed.Goals as goal
 
 -- what is known at each of the four steps
 starts_of : (c : goal.After-spread) (steps : List Step) → AreSteps (c.args.d ∷ c.args.c ∷ c.args.b ∷ c.args.a ∷ [])
-    → StandsFor (record { sums = c.self.inside.sums; rows = c.self.inside.rows; lacks = c.self.inside.lacks }) steps → (step : ℕ) → step < 4
+    → StandsFor (record { sums = c.self.inside.sums; rows = c.self.inside.rows; lacks = c.self.inside.lacks }) steps
+    → (step : ℕ) → step < 4
     → AreStartsOf c.best_ends.new.ends c.best_of_all-best.result
     (c.args.a.level ∷ c.args.b.level ∷ c.args.c.level ∷ c.args.d.level ∷ [])
     (c.args.d ∷ c.args.c ∷ c.args.b ∷ c.args.a ∷ steps) step
@@ -29,7 +30,11 @@ starts_of c steps four stand step within =
 
 pub returns-clause-stands : goal.returns-clause-stands
 returns-clause-stands c = λ steps four stand_now.
-    let stand : StandsFor (record { sums = c.self.inside.sums; rows = c.self.inside.rows; lacks = c.self.inside.lacks }) steps =
+    let stand : StandsFor (record {
+      sums = c.self.inside.sums;
+      rows = c.self.inside.rows;
+      lacks = c.self.inside.lacks;
+    }) steps =
     subst (λ s. StandsFor s steps) (sym c.self.view_is) stand_now in
     let all = c.args.d ∷ c.args.c ∷ c.args.b ∷ c.args.a ∷ steps in
     record {
@@ -45,7 +50,11 @@ returns-clause-stands c = λ steps four stand_now.
 
 pub returns-clause-marked : goal.returns-clause-marked
 returns-clause-marked c = λ step steps within four stand_now.
-    let stand : StandsFor (record { sums = c.self.inside.sums; rows = c.self.inside.rows; lacks = c.self.inside.lacks }) steps =
+    let stand : StandsFor (record {
+      sums = c.self.inside.sums;
+      rows = c.self.inside.rows;
+      lacks = c.self.inside.lacks;
+    }) steps =
     subst (λ s. StandsFor s steps) (sym c.self.view_is) stand_now in
     let all = c.args.d ∷ c.args.c ∷ c.args.b ∷ c.args.a ∷ steps in
     let known = starts_of c steps four stand step within in
