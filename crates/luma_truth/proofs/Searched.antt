@@ -397,8 +397,8 @@ sum_is_enough word dark swing cell end wide early row is sought =
 -- the search of whole pixels comes out where the drawing is sought
 pub finds_the_pixel : (word dark swing cell end wide early : ℕ) (row : List ℕ) → IsLit word dark swing cell end row
     → IsSought cell end wide early row → IsCoarse row (best_at row wide) (record {
-    first = start (length row) early;
-    last = start (length row) early + distance (length row) wide;
+      first = start (length row) early;
+      last = start (length row) early + distance (length row) wide;
     })
 finds_the_pixel word dark swing cell end wide early row is sought =
     let best = true_best word dark swing cell end wide early row is sought in
