@@ -7,7 +7,14 @@ use Rattle.luma_row.specs.declared.place.Place.{Place}
 use Rattle.luma_row.specs.Light.{fall}
 use Rattle.luma_row.specs.Place.{apart, pair_fall, score}
 use Rattle.luma_truth.proofs.NearPairs.{
-  at_pair, end_of_pair, nine, pair_is, pair_within, room_before, FallsEnough, IsClose,
+  at_pair,
+  end_of_pair,
+  nine,
+  pair_is,
+  pair_within,
+  room_before,
+  FallsEnough,
+  IsClose,
 }
 use Rattle.luma_truth.proofs.OnPixels.{IsLit}
 use Rattle.luma_truth.proofs.Rest.{rest_of}

@@ -2,12 +2,12 @@
 -- that is found all nine fall, since together they fall nearly the most. So it is the earliest, whatever the other bits
 -- of the word are.
 use Rattle.std.proofs.Common.{◌≡◌, ℕ, zero, suc, ◌+◌, ◌-◌, ◌*◌, ◌/◌, ◌<◌, ◌≤◌, ◌⊎◌, inl, inr, Bool, true, false}
-use Rattle.std.proofs.Common.{◌&&◌, leb, List, length, refl, ap, ap₂, sym, subst, arith}
+use Rattle.std.proofs.Common.{◌&&◌, leb, List, length, refl, ap, ap₂, subst, arith}
 use Rattle.std.proofs.Math.Nat.{mul-le-mul_left, mul-le-mul_right}
 use Rattle.std.proofs.lemmas.Bool.Decides.{nat_tests}
 use Rattle.luma_row.specs.declared.light.TheConstants.{EVEN}
 use Rattle.luma_row.specs.declared.place.Place.{Place}
-use Rattle.luma_row.specs.Choice.{all_of, sum_of}
+use Rattle.luma_row.specs.Choice.{all_of}
 use Rattle.luma_row.specs.Earliest.{all_fall, back, falls, falls_enough}
 use Rattle.luma_row.specs.Light.{fall}
 use Rattle.luma_row.specs.Place.{apart, eighth, pair_fall, score}

@@ -1,12 +1,11 @@
 -- The search of whole pixels finds the pixel where the first 1 ends, if it looks there. No nine falls are deeper than
 -- those at the true places; where they are as deep, each place looked at is the end of a cell, and narrower cells miss
 -- one of the ends.
-use Rattle.std.proofs.Common.{◌≡◌, ℕ, zero, suc, ◌+◌, ◌-◌, ◌*◌, ◌/◌, ◌<◌, ◌≤◌, ◌⊎◌, inl, inr, List}
-use Rattle.std.proofs.Common.{length, max, refl, ap, sym, subst, arith}
+use Rattle.std.proofs.Common.{◌≡◌, ℕ, ◌+◌, ◌-◌, ◌*◌, ◌/◌, ◌<◌, ◌≤◌, ◌⊎◌, inl, inr, List}
+use Rattle.std.proofs.Common.{length, refl, ap, sym, subst, arith}
 use Rattle.std.proofs.Math.Nat.{mul-le-mul_left, mul-div-le}
 use Rattle.luma_row.specs.declared.light.TheConstants.{EVEN}
-use Rattle.luma_row.specs.Choice.{greatest, sum_of}
-use Rattle.luma_row.specs.Coarse.{best_at, coarse_fall, coarse_sum, fall_at, pixel_of, step_to, sum_at, IsCoarse}
+use Rattle.luma_row.specs.Coarse.{best_at, coarse_fall, coarse_sum, pixel_of, step_to, sum_at, IsCoarse}
 use Rattle.luma_row.specs.Light.{fall, light}
 use Rattle.luma_row.specs.Width.{distance, distances, earliest, grain, narrowest, start, starts, ten_cells, widest}
 use Rattle.luma_truth.specs.Drawing.{has_bit}
@@ -397,8 +396,8 @@ sum_is_enough word dark swing cell end wide early row is sought =
 -- the search of whole pixels comes out where the drawing is sought
 pub finds_the_pixel : (word dark swing cell end wide early : ℕ) (row : List ℕ) → IsLit word dark swing cell end row
     → IsSought cell end wide early row → IsCoarse row (best_at row wide) (record {
-    first = start (length row) early;
-    last = start (length row) early + distance (length row) wide;
+      first = start (length row) early;
+      last = start (length row) early + distance (length row) wide;
     })
 finds_the_pixel word dark swing cell end wide early row is sought =
     let best = true_best word dark swing cell end wide early row is sought in
