@@ -1,7 +1,7 @@
 -- A drawing on whole pixels is found where the search of whole pixels looks at it: the search comes out there, each move
 -- keeps near, and no earlier place is taken. There the cores lie in their cells, so the row says the word.
 use Rattle.std.proofs.Common.{◌≡◌, ℕ, ◌+◌, ◌-◌, ◌*◌, ◌/◌, ◌<◌, ◌≤◌, ◌⊎◌, inl, inr, true, List, length}
-use Rattle.std.proofs.Common.{◌∷◌, ◌++◌, max, ap, refl, subst, sym, arith}
+use Rattle.std.proofs.Common.{◌∷◌, ◌++◌, max, ap, refl, subst, sym, ◌∙◌, arith}
 use Rattle.std.proofs.Math.Nat.{mul-le-mul_left}
 use Rattle.luma_field.specs.Parts.{whole_parts}
 use Rattle.luma_field.specs.Raster.{RasterSize}
@@ -12,11 +12,11 @@ use Rattle.luma_row.specs.declared.row.CodeRow.{CodeRow}
 use Rattle.luma_row.specs.Coarse.{best_at, IsCoarse}
 use Rattle.luma_row.specs.Levels.{number_of, says_bits}
 use Rattle.luma_row.specs.Light.{darkest, IsRow}
-use Rattle.luma_row.specs.Place.{apart, eighth}
+use Rattle.luma_row.specs.Place.{apart, eighth, score}
 use Rattle.luma_row.specs.Row.{IsCode, LiesAt}
 use Rattle.luma_row.specs.Width.{distance, grain, start}
 use Rattle.luma_truth.specs.Drawing.{Drawing, IsDrawn}
-use Rattle.luma_truth.specs.Whole.{IsBeside, IsLookedAt, IsOnWholePixels}
+use Rattle.luma_truth.specs.Whole.{IsBeside, IsDeep, IsLookedAt, IsOnWholePixels}
 use Rattle.luma_truth.proofs.BesidePairs.{nine_enough, pair_beside, pair_exact}
 use Rattle.luma_truth.proofs.CleanDrawing.{code_at, levels_at, pairs_of}
 use Rattle.luma_truth.proofs.FirstOfAll.{stands_first}
@@ -24,7 +24,7 @@ use Rattle.luma_truth.proofs.InCells.{long_enough}
 use Rattle.luma_truth.proofs.IsCarried.{contrast_is, dark_enough}
 use Rattle.luma_truth.proofs.LineOfAField.{has_the_line_of, OneCode}
 use Rattle.luma_truth.proofs.Kept.{refines_kept, IsKept, IsShort}
-use Rattle.luma_truth.proofs.NearPairs.{HasRoom, IsClose}
+use Rattle.luma_truth.proofs.NearPairs.{pulled, FallsEnough, HasRoom, IsClose}
 use Rattle.luma_truth.proofs.NoLess.{none_before}
 use Rattle.luma_truth.proofs.OfBits.{number_is}
 use Rattle.luma_truth.proofs.OnPixels.{cell_of, edge_at, end_of, is_lit, IsLit}
@@ -300,6 +300,96 @@ lies_there drawing row sum coarse is_row drawn is is_coarse falls besides =
           }
     ]
 
+-- ---- a place with deep falls
+
+half_close : (cell end : ℕ) (first last : ℕ) (apart_is : 2 * first ≤ 2 * end + cell) → 2 * end ≤ 2 * first + cell
+    → 2 * last ≤ 2 * (end + 80 * cell) + cell → 2 * (end + 80 * cell) ≤ 2 * last + cell
+    → IsClose cell end (cell / 2) (record { first = first; last = last })
+half_close cell end first last a b c d = record {
+  first_below = omega (arith, b);
+  first_above = omega (arith, a);
+  last_below = omega (arith, d);
+  last_above = omega (arith, c);
+}
+
+-- it is near the true one, and there is room
+pub record IsDeepThere (drawing : Drawing) (row : List ℕ) (is : IsOnWholePixels drawing) (place : Place) : Type 0 where
+  pub near : ℕ
+  pub room : HasRoom (cell_of drawing is) near
+  pub kept : IsKept drawing.swing (cell_of drawing is) (end_of drawing is) near row place
+
+deep_there : (drawing : Drawing) (row : List ℕ) (place : Place) → IsRow row → IsDrawn drawing row
+    → (is : IsOnWholePixels drawing) → IsDeep drawing row place → IsDeepThere drawing row is place
+deep_there drawing row place is_row drawn is deep =
+    let cell = cell_of drawing is in
+    let end = end_of drawing is in
+    let near = deep.near in
+    let cells = is.cells in
+    let first_is = edge_at drawing 1 is in
+    let last_is = edge_at drawing 81 is in
+    let least = deep.wide in
+    let few = deep.few in
+    let a = deep.first.above in
+    let b = deep.first.below in
+    let c = deep.last.above in
+    let d = deep.last.below in
+    let some : 128 ≤ cell = omega (arith, least, cells) in
+    let close : IsClose cell end (cell / 2) place = half_close cell end place.first place.last
+    (omega (arith, a, first_is, cells)) (omega (arith, b, first_is, cells)) (omega (arith, c, last_is, cells))
+    (omega (arith, d, last_is, cells)) in
+    let deep_falls = deep.falls in
+    let swings = ap (λ (n : ℕ). drawing.swing * n) cells in
+    let falls : FallsEnough drawing.swing cell near (score row place) = omega (arith, deep_falls, swings) in
+    record {
+      near = near;
+      room = record {
+        wide = some;
+        narrow = few_pixels is.pixels (length row) drawing.cell is_row.1 drawn.of_row.wide cells;
+        room = omega (arith, few, cells);
+      };
+      kept = record {
+        close = pulled drawing.word drawing.dark drawing.swing cell end near (cell / 2) row place
+            (is_lit drawing row drawn is) some (omega arith) deep.in_row close falls;
+        front = deep.in_row;
+        falls = falls;
+      };
+    }
+
+-- where the search of whole pixels comes out there
+lies_deep : (drawing : Drawing) (row : List ℕ) (sum : ℕ) (coarse : Place) → IsRow row → IsDrawn drawing row
+    → (is : IsOnWholePixels drawing) → IsCoarse row sum coarse → 9 * EVEN < sum → IsDeep drawing row coarse
+    → LiesThere drawing row is
+lies_deep drawing row sum coarse is_row drawn is is_coarse falls deep =
+    let there = deep_there drawing row coarse is_row drawn is deep in
+    let of_row = drawn.of_row.narrow in
+    let cells = is.cells in
+    record {
+      near = there.near;
+      room = there.room;
+      lies = lies_near drawing.word drawing.dark drawing.swing (cell_of drawing is) (end_of drawing is) there.near row sum
+          coarse (is_lit drawing row drawn is) there.room (omega (arith, of_row, cells)) is_coarse falls there.kept;
+    }
+
+-- and where the moves come to rest there
+lies_at_rest : (drawing : Drawing) (row : List ℕ) (place : Place) → IsRow row → IsDrawn drawing row
+    → (is : IsOnWholePixels drawing) → (lies : LiesAt row place) → IsDeep drawing row lies.deepest
+    → LiesThere drawing row is
+lies_at_rest drawing row place is_row drawn is lies deep =
+    let there = deep_there drawing row lies.deepest is_row drawn is deep in
+    let first = stands_first drawing.word drawing.dark drawing.swing (cell_of drawing is) (end_of drawing is) there.near
+    row lies.deepest (is_lit drawing row drawn is) there.room there.kept in
+    let same : place ≡ lies.deepest = lies.earliest_is ∙ none_before row lies.deepest first in
+    record {
+      near = there.near;
+      room = there.room;
+      lies = record {
+        place = place;
+        lies = lies;
+        kept = subst (IsKept drawing.swing (cell_of drawing is) (end_of drawing is) there.near row) (sym same)
+            there.kept;
+      };
+    }
+
 -- ---- a drawing that is looked at
 
 is_sought : (drawing : Drawing) (row : List ℕ) → IsDrawn drawing row → (is : IsOnWholePixels drawing)
@@ -393,6 +483,20 @@ pub is_found_beside : (drawing : Drawing) (row : List ℕ) (sum : ℕ) (coarse :
 is_found_beside drawing row sum coarse is_row drawn is is_coarse falls besides =
     says_there drawing row is_row drawn is
     (lies_there drawing row sum coarse is_row drawn is is_coarse falls besides)
+
+-- where it comes out at deep falls
+pub is_found_deep : (drawing : Drawing) (row : List ℕ) (sum : ℕ) (coarse : Place) → IsRow row → IsDrawn drawing row
+    → IsOnWholePixels drawing → IsCoarse row sum coarse → 9 * EVEN < sum → IsDeep drawing row coarse
+    → (code : CodeRow) × IsCode row code × (says_bits code.levels ≡ true) × (number_of code.levels ≡ drawing.word)
+is_found_deep drawing row sum coarse is_row drawn is is_coarse falls deep =
+    says_there drawing row is_row drawn is (lies_deep drawing row sum coarse is_row drawn is is_coarse falls deep)
+
+-- and where the moves come to rest at deep falls
+pub is_found_at_rest : (drawing : Drawing) (row : List ℕ) (place : Place) → IsRow row → IsDrawn drawing row
+    → IsOnWholePixels drawing → (lies : LiesAt row place) → IsDeep drawing row lies.deepest
+    → (code : CodeRow) × IsCode row code × (says_bits code.levels ≡ true) × (number_of code.levels ≡ drawing.word)
+is_found_at_rest drawing row place is_row drawn is lies deep =
+    says_there drawing row is_row drawn is (lies_at_rest drawing row place is_row drawn is lies deep)
 
 -- and no other word is
 pub only_its_word : ((row : List ℕ) (a b : CodeRow) → IsCode row a → IsCode row b → a ≡ b)

@@ -14,7 +14,7 @@ ghost use Rattle.luma_truth.specs.Alone.{FallsNoLess, IsSummit, StandsAlone, Sta
 ghost use Rattle.luma_truth.specs.Drawing.{rounded, Drawing, FitsARow, IsDrawn};
 ghost use Rattle.luma_truth.specs.Inside.{core, HasMargin, IsEnough, LiesInside};
 ghost use Rattle.luma_truth.specs.Near.{IsNear};
-ghost use Rattle.luma_truth.specs.Whole.{IsBeside, IsLookedAt, IsOnWholePixels};
+ghost use Rattle.luma_truth.specs.Whole.{IsBeside, IsDeep, IsLookedAt, IsOnWholePixels};
 ghost use Rattle.luma_truth.specs.Worked.{eleven, ten_hours};
 
 use luma_row::laws::a_row_says_one_thing;
@@ -87,6 +87,14 @@ pub fn a_drawing_on_whole_pixels_is_found()
         → SaysLines raster field lines → (first rest : List ℕ) × (lines ≡ first ++ (drawing.word ∷ rest)) }
     ensures beside { (drawing : Drawing) (row : List ℕ) (sum : ℕ) (coarse : Place) → IsRow row → IsDrawn drawing row
         → IsOnWholePixels drawing → IsCoarse row sum coarse → 9 * EVEN < sum → IsBeside drawing coarse
+        → (code : CodeRow) × IsCode row code × (says_bits code.levels ≡ true)
+        × (number_of code.levels ≡ drawing.word) }
+    ensures deep { (drawing : Drawing) (row : List ℕ) (sum : ℕ) (coarse : Place) → IsRow row → IsDrawn drawing row
+        → IsOnWholePixels drawing → IsCoarse row sum coarse → 9 * EVEN < sum → IsDeep drawing row coarse
+        → (code : CodeRow) × IsCode row code × (says_bits code.levels ≡ true)
+        × (number_of code.levels ≡ drawing.word) }
+    ensures at_rest { (drawing : Drawing) (row : List ℕ) (place : Place) → IsRow row → IsDrawn drawing row
+        → IsOnWholePixels drawing → (lies : LiesAt row place) → IsDeep drawing row lies.deepest
         → (code : CodeRow) × IsCode row code × (says_bits code.levels ≡ true)
         × (number_of code.levels ≡ drawing.word) }
     ensures drawn { (drawing : Drawing) (width : ℕ) → FitsARow drawing width → IsOnWholePixels drawing
