@@ -70,11 +70,13 @@ first_falls word dark swing cell end row is some first apart narrow before cases
           elim halves [
             | inl out ↦ out_of_word out
             | inr begun ↦
-                let k = rest_of ((640 * first - 8 * apart) / 640 + cell) end (omega (arith, early, some, wide, before)) in
+                let k = rest_of ((640 * first - 8 * apart) / 640 + cell) end
+                (omega (arith, early, some, wide, before)) in
                 let o = rest_of end (first + cell) begun in
                 let p = k.1 in
                 let q = o.1 in
-                let r = rest_of (first + o.0) ((640 * first + 8 * apart) / 640) (omega (arith, q, some, wide, before)) in
+                let r = rest_of (first + o.0) ((640 * first + 8 * apart) / 640)
+                (omega (arith, q, some, wide, before)) in
                 let s = r.1 in
                 fall_at_begin word dark swing cell end row is ((640 * first - 8 * apart) / 640) k.0 o.0 first r.0
                 ((640 * first + 8 * apart) / 640) (omega (arith, p)) (omega (arith, p, q)) (omega (arith, q, before)) s

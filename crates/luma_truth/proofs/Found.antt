@@ -1,5 +1,6 @@
--- A drawing on whole pixels is found where the search of whole pixels looks at it: the search comes out there, each move
--- keeps near, and no earlier place is taken. There the cores lie in their cells, so the row says the word.
+-- A drawing on whole pixels is found where the search of whole pixels looks at it: the search comes out there, each
+-- move keeps near, and no earlier place is taken. There the cores lie in their cells, but for a part, so the row says
+-- the word.
 use Rattle.std.proofs.Common.{◌≡◌, ℕ, ◌+◌, ◌-◌, ◌*◌, ◌/◌, ◌<◌, ◌≤◌, ◌⊎◌, inl, inr, true, List, length}
 use Rattle.std.proofs.Common.{◌∷◌, ◌++◌, max, ap, refl, subst, sym, ◌∙◌, arith}
 use Rattle.std.proofs.Math.Nat.{mul-le-mul_left}
@@ -291,8 +292,8 @@ lies_there drawing row sum coarse is_row drawn is is_coarse falls besides =
             narrow = few;
             room = omega (arith, room, more);
           } in
-          let kept = kept_rounded word dark swing cell end near row coarse lit (omega (arith, room, more)) few front close
-          in
+          let kept = kept_rounded word dark swing cell end near row coarse lit (omega (arith, room, more)) few front
+          close in
           record {
             near = near + 2;
             room = has;
@@ -366,8 +367,8 @@ lies_deep drawing row sum coarse is_row drawn is is_coarse falls deep =
     record {
       near = there.near;
       room = there.room;
-      lies = lies_near drawing.word drawing.dark drawing.swing (cell_of drawing is) (end_of drawing is) there.near row sum
-          coarse (is_lit drawing row drawn is) there.room (omega (arith, of_row, cells)) is_coarse falls there.kept;
+      lies = lies_near drawing.word drawing.dark drawing.swing (cell_of drawing is) (end_of drawing is) there.near row
+          sum coarse (is_lit drawing row drawn is) there.room (omega (arith, of_row, cells)) is_coarse falls there.kept;
     }
 
 -- and where the moves come to rest there
@@ -463,8 +464,8 @@ says_there drawing row is_row drawn is there =
     let code : IsCode row (code_at row place) = record {
       contrast = contrast_is drawing row 36 drawn is_row (some_margin dark swing drawing.noise is.levels none);
       lies = there.lies.lies;
-      it_counts = spilt_counts word dark swing cell end spill less.0 row place lit pairs drawn.of_row.levels less.1 spilt
-          long;
+      it_counts = spilt_counts word dark swing cell end spill less.0 row place lit pairs drawn.of_row.levels less.1
+          spilt long;
       swing_is = refl;
       heights_are = refl;
     } in

@@ -123,8 +123,8 @@ ends_a_cell word dark swing cell end row is reach pixel far some within full =
                   elim inside [
                     | inl at_end ↦ (bit, at_end)
                     | inr midst ↦
-                        let lit = is.bright bit (16 * pixel) 16 (16 * pixel + 16) h one refl (omega (arith, after)) midst
-                        in
+                        let lit = is.bright bit (16 * pixel) 16 (16 * pixel + 16) h one refl (omega (arith, after))
+                        midst in
                         absurd (not_light word dark swing cell end row is reach (16 * pixel) far within full lit)
                   ]
             ]

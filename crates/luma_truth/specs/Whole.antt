@@ -54,8 +54,8 @@ pub record AreHalf (cell a b : ℕ) : Type 0 where
   pub below : 2 * b ≤ 2 * a + cell
 
 -- A place within half a cell of a drawing with cells of eight pixels or more, where the nine sync pairs fall nearly as
--- deep as they can, by nine cells of the swing. They lack no more than 18 times the swing of some sixteenths of a pixel,
--- and with one more these are at most a 30th of a cell. And the word begins in the row.
+-- deep as they can, by nine cells of the swing. They lack no more than 18 times the swing of some sixteenths of a
+-- pixel, and with one more these are at most a 30th of a cell. And the word begins in the row.
 pub record IsDeep (drawing : Drawing) (row : List ℕ) (place : Place) : Type 0 where
   pub wide : 81920 ≤ drawing.cell
   pub near : ℕ

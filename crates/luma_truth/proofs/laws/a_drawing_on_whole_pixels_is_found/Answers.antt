@@ -1,6 +1,8 @@
 use Rattle.luma_truth.proofs.Eleven.{eleven_fits, eleven_is_looked_at, eleven_is_whole, odd_is_looked_at}
 use Rattle.luma_truth.proofs.Exact.{rounded_is_exact}
-use Rattle.luma_truth.proofs.Found.{has_the_line, is_found, is_found_at_rest, is_found_beside, is_found_deep, only_its_word}
+use Rattle.luma_truth.proofs.Found.{
+  has_the_line, is_found, is_found_at_rest, is_found_beside, is_found_deep, only_its_word,
+}
 use Rattle.luma_truth.proofs.laws.a_drawing_on_whole_pixels_is_found.Goals as goal
 
 pub returns-clause-found : goal.returns-clause-found
