@@ -16,8 +16,8 @@ use Rattle.luma_row.specs.Light.{darkest, IsRow}
 use Rattle.luma_row.specs.Place.{apart, eighth, score}
 use Rattle.luma_row.specs.Row.{IsCode, LiesAt}
 use Rattle.luma_row.specs.Width.{distance, grain, start}
-use Rattle.luma_truth.specs.Drawing.{Drawing, IsDrawn}
-use Rattle.luma_truth.specs.Whole.{IsBeside, IsDeep, IsLookedAt, IsOnWholePixels}
+use Rattle.luma_truth.specs.Drawing.{edge, Drawing, IsDrawn}
+use Rattle.luma_truth.specs.Whole.{AreBeside, AreHalf, IsBeside, IsDeep, IsLookedAt, IsOnWholePixels}
 use Rattle.luma_truth.proofs.BesidePairs.{nine_enough, pair_beside, pair_exact}
 use Rattle.luma_truth.proofs.CleanDrawing.{code_at, levels_at, pairs_of}
 use Rattle.luma_truth.proofs.FirstOfAll.{stands_first}
@@ -35,47 +35,29 @@ use Rattle.luma_truth.proofs.Spilt.{spilt_counts, spilt_says, AreSpilt, IsSpilt}
 
 -- ---- where the search of whole pixels comes out
 
-closer : (cell end near far : ℕ) (place : Place) → near ≤ far → IsClose cell end near place → IsClose cell end far place
-closer cell end near far place le close =
-    let fb = close.first_below in
-    let fa = close.first_above in
-    let lb = close.last_below in
-    let la = close.last_above in
-    record {
-      first_below = omega (arith, fb, le);
-      first_above = omega (arith, fa, le);
-      last_below = omega (arith, lb, le);
-      last_above = omega (arith, la, le);
-    }
-
-kept_exact : (word dark swing cell end near : ℕ) (row : List ℕ) (place : Place) → IsLit word dark swing cell end row
+-- where the distance is that of 80 cells
+falls_exact : (word dark swing cell end near : ℕ) (row : List ℕ) (place : Place) → IsLit word dark swing cell end row
     → near ≤ cell → apart place ≡ 80 * cell → apart place ≤ 80 * place.first → IsClose cell end near place
-    → IsKept swing cell end near row place
-kept_exact word dark swing cell end near row place is short wide front close = record {
-  close = closer cell end near (5 * near + 4) place (omega arith) close;
-  front = front;
-  falls = nine_enough swing cell near row place
-      (pair_exact word dark swing cell end near row place is short wide (omega (arith, wide, front)) close.first_below
-      close.first_above);
-}
+    → FallsEnough swing cell near (score row place)
+falls_exact word dark swing cell end near row place is short wide front close =
+    nine_enough swing cell near row place
+    (pair_exact word dark swing cell end near row place is short wide (omega (arith, wide, front)) close.first_below
+    close.first_above)
 
-kept_rounded : (word dark swing cell end near : ℕ) (row : List ℕ) (place : Place) → IsLit word dark swing cell end row
+-- and where places are rounded
+falls_nearly : (word dark swing cell end near : ℕ) (row : List ℕ) (place : Place) → IsLit word dark swing cell end row
     → 30 * (near + 1) ≤ cell → cell ≤ 768 → apart place ≤ 80 * place.first → IsClose cell end near place
-    → IsKept swing cell end (near + 2) row place
-kept_rounded word dark swing cell end near row place is room narrow front close =
+    → FallsEnough swing cell (near + 2) (score row place)
+falls_nearly word dark swing cell end near row place is room narrow front close =
     let fb = close.first_below in
     let fa = close.first_above in
     let lb = close.last_below in
     let la = close.last_above in
     let begins : cell ≤ place.first + 0 = omega (arith, front, fa, lb, room, narrow) in
-    record {
-      close = closer cell end near (5 * (near + 2) + 4) place (omega arith) close;
-      front = front;
-      falls = nine_enough swing cell (near + 2) row place (λ pair h.
-          let falls = pair_beside word dark swing cell end near 0 1 row place is (omega (arith, room))
-          (omega (arith, room)) (omega (arith, room, narrow)) front begins close pair h in
-          omega (arith, falls));
-    }
+    nine_enough swing cell (near + 2) row place (λ pair h.
+    let falls = pair_beside word dark swing cell end near 0 1 row place is (omega (arith, room)) (omega (arith, room))
+    (omega (arith, room, narrow)) front begins close pair h in
+    omega (arith, falls))
 
 -- ---- the cores
 
@@ -204,102 +186,16 @@ lies_near word dark swing cell end near row sum coarse is room narrow is_coarse 
       kept = found.2;
     }
 
--- ---- a drawing beside which the search of whole pixels comes out
-
--- how far both ends are from the true ones at most, in sixteenths of a pixel
-abbrev beside : ℕ → ℕ → ℕ
-beside a b = (a - b) + (b - a)
-
-abbrev beside_ends : ℕ → ℕ → Place → ℕ
-beside_ends cell end place = max (beside place.first end) (beside place.last (end + 80 * cell))
-
-is_close : (cell end : ℕ) (place : Place) → IsClose cell end (beside_ends cell end place) place
-is_close cell end place = record {
-  first_below = omega arith;
-  first_above = omega arith;
-  last_below = omega arith;
-  last_above = omega arith;
-}
-
 -- where the word of a drawing lies
 pub record LiesThere (drawing : Drawing) (row : List ℕ) (is : IsOnWholePixels drawing) : Type 0 where
   pub near : ℕ
   pub room : HasRoom (cell_of drawing is) near
   pub lies : LiesNear drawing.swing (cell_of drawing is) (end_of drawing is) near row
 
--- how much room there is, with so many sixteenths more
-room_of : (drawing : Drawing) (is : IsOnWholePixels drawing) (place : Place) (besides : IsBeside drawing place)
-    → (near : ℕ) → near ≡ beside_ends (cell_of drawing is) (end_of drawing is) place
-    → 30 * (near + besides.more) ≤ cell_of drawing is
-room_of drawing is place besides near near_is =
-    let cells = is.cells in
-    let first_is = edge_at drawing 1 is in
-    let last_is = edge_at drawing 81 is in
-    let e = besides.first.above in
-    let f = besides.first.below in
-    let g = besides.last.above in
-    let h = besides.last.below in
-    let z : 30 * (beside place.first (end_of drawing is) + besides.more) ≤ cell_of drawing is
-    = omega (arith, first_is, cells, e, f) in
-    let w : 30 * (beside place.last (end_of drawing is + 80 * cell_of drawing is) + besides.more) ≤ cell_of drawing is
-    = omega (arith, last_is, cells, g, h) in
-    omega (arith, near_is, z, w)
-
 -- a row of 4,096 pixels has cells of 44
 few_pixels : (pixels width cell : ℕ) → width ≤ 4096 → 9600 * cell ≤ 105 * (10240 * width) → cell ≡ 10240 * pixels
     → 16 * pixels ≤ 768
 few_pixels pixels width cell most wide is = omega (arith, most, wide, is)
-
-lies_there : (drawing : Drawing) (row : List ℕ) (sum : ℕ) (coarse : Place) → IsRow row → IsDrawn drawing row
-    → (is : IsOnWholePixels drawing) → IsCoarse row sum coarse → 9 * EVEN < sum → IsBeside drawing coarse
-    → LiesThere drawing row is
-lies_there drawing row sum coarse is_row drawn is is_coarse falls besides =
-    let word = drawing.word in
-    let dark = drawing.dark in
-    let swing = drawing.swing in
-    let cell = cell_of drawing is in
-    let end = end_of drawing is in
-    let cells = is.cells in
-    let near = beside_ends cell end coarse in
-    let lit = is_lit drawing row drawn is in
-    let room = room_of drawing is coarse besides near refl in
-    let of_row = drawn.of_row.narrow in
-    let least = besides.wide in
-    let some : 128 ≤ cell = omega (arith, least, cells) in
-    let few : cell ≤ 768 = few_pixels is.pixels (length row) drawing.cell is_row.1 drawn.of_row.wide cells in
-    let narrow : 95 * length row ≤ 600 * cell = omega (arith, of_row, cells) in
-    let front = besides.in_row in
-    let close = is_close cell end coarse in
-    elim besides.enough [
-      | inl exact ↦
-          let more = exact.0 in
-          let wide = exact.1 in
-          let has : HasRoom cell near = record {
-            wide = some;
-            narrow = few;
-            room = omega (arith, room, more);
-          } in
-          let kept = kept_exact word dark swing cell end near row coarse lit (omega (arith, room))
-          (omega (arith, wide, cells)) front close in
-          record {
-            near = near;
-            room = has;
-            lies = lies_near word dark swing cell end near row sum coarse lit has narrow is_coarse falls kept;
-          }
-      | inr more ↦
-          let has : HasRoom cell (near + 2) = record {
-            wide = some;
-            narrow = few;
-            room = omega (arith, room, more);
-          } in
-          let kept = kept_rounded word dark swing cell end near row coarse lit (omega (arith, room, more)) few front
-          close in
-          record {
-            near = near + 2;
-            room = has;
-            lies = lies_near word dark swing cell end (near + 2) row sum coarse lit has narrow is_coarse falls kept;
-          }
-    ]
 
 -- ---- a place with deep falls
 
@@ -391,6 +287,90 @@ lies_at_rest drawing row place is_row drawn is lies deep =
       };
     }
 
+-- ---- a place beside a drawing
+
+-- how far both ends are from the true ones at most, in sixteenths of a pixel
+abbrev beside : ℕ → ℕ → ℕ
+beside a b = (a - b) + (b - a)
+
+abbrev beside_ends : ℕ → ℕ → Place → ℕ
+beside_ends cell end place = max (beside place.first end) (beside place.last (end + 80 * cell))
+
+is_close : (cell end : ℕ) (place : Place) → IsClose cell end (beside_ends cell end place) place
+is_close cell end place = record {
+  first_below = omega arith;
+  first_above = omega arith;
+  last_below = omega arith;
+  last_above = omega arith;
+}
+
+-- how much room there is, with so many sixteenths more
+room_of : (drawing : Drawing) (is : IsOnWholePixels drawing) (place : Place) (besides : IsBeside drawing place)
+    → (near : ℕ) → near ≡ beside_ends (cell_of drawing is) (end_of drawing is) place
+    → 30 * (near + besides.more) ≤ cell_of drawing is
+room_of drawing is place besides near near_is =
+    let cells = is.cells in
+    let first_is = edge_at drawing 1 is in
+    let last_is = edge_at drawing 81 is in
+    let e = besides.first.above in
+    let f = besides.first.below in
+    let g = besides.last.above in
+    let h = besides.last.below in
+    let z : 30 * (beside place.first (end_of drawing is) + besides.more) ≤ cell_of drawing is
+    = omega (arith, first_is, cells, e, f) in
+    let w : 30 * (beside place.last (end_of drawing is + 80 * cell_of drawing is) + besides.more) ≤ cell_of drawing is
+    = omega (arith, last_is, cells, g, h) in
+    omega (arith, near_is, z, w)
+
+half_of : (cell more a b : ℕ) → AreBeside cell more a b → AreHalf cell a b
+half_of cell more a b are =
+    let above = are.above in
+    let below = are.below in
+    record { above = omega (arith, above); below = omega (arith, below) }
+
+-- falls there are deep, by so many sixteenths
+deep_of : (drawing : Drawing) (row : List ℕ) (place : Place) (is : IsOnWholePixels drawing) → IsBeside drawing place
+    → (near : ℕ) → 30 * (near + 1) ≤ cell_of drawing is
+    → FallsEnough drawing.swing (cell_of drawing is) near (score row place) → IsDeep drawing row place
+deep_of drawing row place is besides near room falls =
+    let cells = is.cells in
+    let swings = ap (λ (n : ℕ). drawing.swing * n) cells in
+    record {
+      wide = besides.wide;
+      near = near;
+      few = omega (arith, room, cells);
+      falls = omega (arith, falls, swings);
+      first = half_of drawing.cell besides.more (640 * place.first) (edge drawing 1) besides.first;
+      last = half_of drawing.cell besides.more (640 * place.last) (edge drawing 81) besides.last;
+      in_row = besides.in_row;
+    }
+
+pub beside_is_deep : (drawing : Drawing) (row : List ℕ) (place : Place) → IsRow row → IsDrawn drawing row
+    → IsOnWholePixels drawing → IsBeside drawing place → IsDeep drawing row place
+beside_is_deep drawing row place is_row drawn is besides =
+    let word = drawing.word in
+    let dark = drawing.dark in
+    let swing = drawing.swing in
+    let cell = cell_of drawing is in
+    let end = end_of drawing is in
+    let cells = is.cells in
+    let near = beside_ends cell end place in
+    let lit = is_lit drawing row drawn is in
+    let room = room_of drawing is place besides near refl in
+    let few : cell ≤ 768 = few_pixels is.pixels (length row) drawing.cell is_row.1 drawn.of_row.wide cells in
+    let front = besides.in_row in
+    let close = is_close cell end place in
+    elim besides.enough [
+      | inl exact ↦
+          let more = exact.0 in
+          let wide = exact.1 in
+          deep_of drawing row place is besides near (omega (arith, room, more))
+          (falls_exact word dark swing cell end near row place lit (omega (arith, room)) (omega (arith, wide, cells)) front
+          close)
+      | inr more ↦ deep_of drawing row place is besides (near + 2) (omega (arith, room, more))
+          (falls_nearly word dark swing cell end near row place lit (omega (arith, room, more)) few front close)
+    ]
+
 -- ---- a drawing that is looked at
 
 is_sought : (drawing : Drawing) (row : List ℕ) → IsDrawn drawing row → (is : IsOnWholePixels drawing)
@@ -417,14 +397,15 @@ lies_sought : (drawing : Drawing) (row : List ℕ) → IsRow row → IsDrawn dra
 lies_sought drawing row is_row drawn is sought =
     let lit = is_lit drawing row drawn is in
     let there = is_sought drawing row drawn is sought in
-    lies_there drawing row (best_at row sought.wide) (record {
+    let coarse : Place = record {
       first = start (length row) sought.early;
       last = start (length row) sought.early + distance (length row) sought.wide;
-    }) is_row drawn is
+    } in
+    lies_deep drawing row (best_at row sought.wide) coarse is_row drawn is
     (finds_the_pixel drawing.word drawing.dark drawing.swing (cell_of drawing is) (end_of drawing is) sought.wide
     sought.early row lit there)
     (sum_is_enough drawing.word drawing.dark drawing.swing (cell_of drawing is) (end_of drawing is) sought.wide
-    sought.early row lit there) sought.beside
+    sought.early row lit there) (beside_is_deep drawing row coarse is_row drawn is sought.beside)
 
 -- ---- and says its word
 
@@ -476,14 +457,6 @@ pub is_found : (drawing : Drawing) (row : List ℕ) → IsRow row → IsDrawn dr
     → (code : CodeRow) × IsCode row code × (says_bits code.levels ≡ true) × (number_of code.levels ≡ drawing.word)
 is_found drawing row is_row drawn is sought =
     says_there drawing row is_row drawn is (lies_sought drawing row is_row drawn is sought)
-
--- where the search comes out beside it
-pub is_found_beside : (drawing : Drawing) (row : List ℕ) (sum : ℕ) (coarse : Place) → IsRow row → IsDrawn drawing row
-    → IsOnWholePixels drawing → IsCoarse row sum coarse → 9 * EVEN < sum → IsBeside drawing coarse
-    → (code : CodeRow) × IsCode row code × (says_bits code.levels ≡ true) × (number_of code.levels ≡ drawing.word)
-is_found_beside drawing row sum coarse is_row drawn is is_coarse falls besides =
-    says_there drawing row is_row drawn is
-    (lies_there drawing row sum coarse is_row drawn is is_coarse falls besides)
 
 -- where it comes out at deep falls
 pub is_found_deep : (drawing : Drawing) (row : List ℕ) (sum : ℕ) (coarse : Place) → IsRow row → IsDrawn drawing row

@@ -1,7 +1,7 @@
 use Rattle.luma_truth.proofs.Eleven.{eleven_fits, eleven_is_looked_at, eleven_is_whole, odd_is_looked_at}
 use Rattle.luma_truth.proofs.Exact.{rounded_is_exact}
 use Rattle.luma_truth.proofs.Found.{
-  has_the_line, is_found, is_found_at_rest, is_found_beside, is_found_deep, only_its_word,
+  beside_is_deep, has_the_line, is_found, is_found_at_rest, is_found_deep, only_its_word,
 }
 use Rattle.luma_truth.proofs.laws.a_drawing_on_whole_pixels_is_found.Goals as goal
 
@@ -12,7 +12,7 @@ pub returns-clause-only : goal.returns-clause-only
 returns-clause-only c = only_its_word c.a_row_says_one_thing.ensures.code
 
 pub returns-clause-beside : goal.returns-clause-beside
-returns-clause-beside c = is_found_beside
+returns-clause-beside c = beside_is_deep
 
 pub returns-clause-deep : goal.returns-clause-deep
 returns-clause-deep c = is_found_deep
