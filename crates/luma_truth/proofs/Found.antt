@@ -287,6 +287,17 @@ lies_at_rest drawing row place is_row drawn is lies deep =
       };
     }
 
+-- and where the place that is found has deep falls
+lies_found : (drawing : Drawing) (row : List ℕ) (place : Place) → IsRow row → IsDrawn drawing row
+    → (is : IsOnWholePixels drawing) → LiesAt row place → IsDeep drawing row place → LiesThere drawing row is
+lies_found drawing row place is_row drawn is lies deep =
+    let there = deep_there drawing row place is_row drawn is deep in
+    record {
+      near = there.near;
+      room = there.room;
+      lies = record { place = place; lies = lies; kept = there.kept };
+    }
+
 -- ---- a place beside a drawing
 
 -- how far both ends are from the true ones at most, in sixteenths of a pixel
@@ -471,6 +482,13 @@ pub is_found_at_rest : (drawing : Drawing) (row : List ℕ) (place : Place) → 
     → (code : CodeRow) × IsCode row code × (says_bits code.levels ≡ true) × (number_of code.levels ≡ drawing.word)
 is_found_at_rest drawing row place is_row drawn is lies deep =
     says_there drawing row is_row drawn is (lies_at_rest drawing row place is_row drawn is lies deep)
+
+-- and where the place that is found has deep falls
+pub is_found_there : (drawing : Drawing) (row : List ℕ) (place : Place) → IsRow row → IsDrawn drawing row
+    → IsOnWholePixels drawing → LiesAt row place → IsDeep drawing row place
+    → (code : CodeRow) × IsCode row code × (says_bits code.levels ≡ true) × (number_of code.levels ≡ drawing.word)
+is_found_there drawing row place is_row drawn is lies deep =
+    says_there drawing row is_row drawn is (lies_found drawing row place is_row drawn is lies deep)
 
 -- and no other word is
 pub only_its_word : ((row : List ℕ) (a b : CodeRow) → IsCode row a → IsCode row b → a ≡ b)

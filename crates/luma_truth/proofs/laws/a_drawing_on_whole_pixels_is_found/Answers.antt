@@ -1,7 +1,13 @@
 use Rattle.luma_truth.proofs.Eleven.{eleven_fits, eleven_is_looked_at, eleven_is_whole, odd_is_looked_at}
 use Rattle.luma_truth.proofs.Exact.{rounded_is_exact}
 use Rattle.luma_truth.proofs.Found.{
-  beside_is_deep, has_the_line, is_found, is_found_at_rest, is_found_deep, only_its_word,
+  beside_is_deep,
+  has_the_line,
+  is_found,
+  is_found_at_rest,
+  is_found_deep,
+  is_found_there,
+  only_its_word,
 }
 use Rattle.luma_truth.proofs.laws.a_drawing_on_whole_pixels_is_found.Goals as goal
 
@@ -19,6 +25,9 @@ returns-clause-deep c = is_found_deep
 
 pub returns-clause-at_rest : goal.returns-clause-at_rest
 returns-clause-at_rest c = is_found_at_rest
+
+pub returns-clause-there : goal.returns-clause-there
+returns-clause-there c = is_found_there
 
 pub returns-clause-drawn : goal.returns-clause-drawn
 returns-clause-drawn c = rounded_is_exact
