@@ -24,7 +24,8 @@
 //!   looks at it (`specs/Whole.antt`, `IsOnWholePixels` and `IsLookedAt`; `laws::a_drawing_on_whole_pixels_is_found`).
 //!   In a row of 1,440 pixels it looks at each that begins an odd number of pixels behind the begin of the row.
 //! - It is found too where the search comes out, or the moves come to rest, within half a cell of it and at falls that
-//!   are nearly the deepest (`IsDeep`), as they are at each place beside it (`IsBeside`).
+//!   are nearly the deepest (`IsDeep`), as they are at each place beside it (`IsBeside`). And it says its word if the
+//!   place that is found is such a one.
 //! - The worked row of 720 pixels is found and read (`laws::the_worked_row_is_read`).
 //!
 //! Read `specs/Drawing.antt`, `Inside`, `Near`, `Alone`, `Whole` and `Worked`, in this order, and `laws` beside them.
