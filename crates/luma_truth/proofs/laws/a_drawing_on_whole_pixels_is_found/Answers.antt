@@ -1,7 +1,7 @@
+use Rattle.luma_truth.proofs.BesideDeep.{beside_is_deep}
 use Rattle.luma_truth.proofs.Eleven.{eleven_fits, eleven_is_looked_at, eleven_is_whole, odd_is_looked_at}
 use Rattle.luma_truth.proofs.Exact.{rounded_is_exact}
 use Rattle.luma_truth.proofs.Found.{
-  beside_is_deep,
   has_the_line,
   is_found,
   is_found_at_rest,
