@@ -111,8 +111,8 @@ beside_is_deep drawing row place is_row drawn is besides =
           let more = exact.0 in
           let wide = exact.1 in
           deep_of drawing row place is besides near (omega (arith, room, more))
-          (falls_exact word dark swing cell end near row place lit (omega (arith, room)) (omega (arith, wide, cells)) front
-          close)
+          (falls_exact word dark swing cell end near row place lit (omega (arith, room)) (omega (arith, wide, cells))
+          front close)
       | inr more ↦ deep_of drawing row place is besides (near + 2) (omega (arith, room, more))
           (falls_nearly word dark swing cell end near row place lit (omega (arith, room, more)) few front close)
     ]

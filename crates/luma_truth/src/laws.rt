@@ -73,9 +73,9 @@ pub fn a_drawing_that_stands_alone_is_found()
 
 /// A drawing on whole pixels is found where the search of whole pixels looks at it, and the row says its word, whatever
 /// the word is. Such a row says nothing else, and a field has its line. So it is where the search comes out at deep
-/// falls, as they are at each place beside the drawing, where the moves come to rest at such, or where the place that is
-/// found has such. Rounding its pixels changes nothing. In a row of 1,440 pixels the search looks at each drawing that
-/// begins an odd number of pixels behind the begin of the row.
+/// falls, as they are at each place beside the drawing, where the moves come to rest at such, or where the place that
+/// is found has such. Rounding its pixels changes nothing. In a row of 1,440 pixels the search looks at each drawing
+/// that begins an odd number of pixels behind the begin of the row.
 pub fn a_drawing_on_whole_pixels_is_found()
     ensures found { (drawing : Drawing) (row : List ℕ) → IsRow row → IsDrawn drawing row → IsOnWholePixels drawing
         → IsLookedAt drawing (length row) → (code : CodeRow) × IsCode row code × (says_bits code.levels ≡ true)
