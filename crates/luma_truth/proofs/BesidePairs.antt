@@ -49,8 +49,8 @@ falls_early word dark swing cell end row is pair h before k o cut place behind a
     let two = is.bright (10 * pair) (before + rest.0) k place (omega (arith, h)) (is.ones pair h)
     (omega (arith, a, whole, p)) (omega (arith, a, b, p)) (omega (arith, b)) in
     let three = is.most place o true_end b (omega (arith, within)) in
-    let four = is.dim (10 * pair + 1) true_end k behind (omega (arith, h)) (is.zeros pair h) (omega (arith, b, c, whole))
-    (omega arith) (omega (arith, b, c)) in
+    let four = is.dim (10 * pair + 1) true_end k behind (omega (arith, h)) (is.zeros pair h)
+    (omega (arith, b, c, whole)) (omega arith) (omega (arith, b, c)) in
     let dark_is = ap (λ (n : ℕ). dark * n) p in
     omega (arith, one, two, three, four, dark_is)
 

@@ -1,5 +1,5 @@
 -- The worked drawing on whole pixels has its sync pairs, as can be counted; and the search of whole pixels looks at it.
-use Rattle.std.proofs.Common.{ℕ, ◌+◌, ◌*◌, ◌/◌, ◌%◌, Bool, true, not, ◌≡◌, ◌<◌, inl, refl, ap, arith}
+use Rattle.std.proofs.Common.{ℕ, ◌+◌, ◌*◌, ◌/◌, ◌%◌, Bool, true, not, ◌≡◌, inl, refl, ap, arith}
 use Rattle.luma_row.specs.Choice.{all_of}
 use Rattle.luma_truth.specs.Drawing.{has_bit, Drawing, FitsARow}
 use Rattle.luma_truth.specs.Whole.{IsLookedAt, IsOnWholePixels}

@@ -44,7 +44,10 @@ in_cell drawing pixel bit h all =
 bit_below : (pixels bit rest n : ℕ) → pixels * bit + rest ≡ n → n < 90 * pixels → bit < 90
 bit_below pixels bit rest n all few =
     let cases : (bit < 90) ⊎ (90 ≤ bit) = grind arith in
-    elim cases [ inl below ↦ below | inr more ↦ let m = mul-le-mul_left pixels more in absurd (omega (arith, m, all, few)) ]
+    elim cases [
+      | inl below ↦ below
+      | inr more ↦ let m = mul-le-mul_left pixels more in absurd (omega (arith, m, all, few))
+    ]
 
 some_pixels : (drawing : Drawing) (width : ℕ) → FitsARow drawing width → 0 < width → (is : IsOnWholePixels drawing)
     → 0 < is.pixels

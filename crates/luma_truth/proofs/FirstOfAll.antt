@@ -2,12 +2,12 @@
 -- that is found all nine fall, since together they fall nearly the most. So it is the earliest, whatever the other bits
 -- of the word are.
 use Rattle.std.proofs.Common.{◌≡◌, ℕ, zero, suc, ◌+◌, ◌-◌, ◌*◌, ◌/◌, ◌<◌, ◌≤◌, ◌⊎◌, inl, inr, Bool, true, false}
-use Rattle.std.proofs.Common.{◌&&◌, leb, List, length, refl, ap, ap₂, sym, subst, arith}
+use Rattle.std.proofs.Common.{◌&&◌, leb, List, length, refl, ap, ap₂, subst, arith}
 use Rattle.std.proofs.Math.Nat.{mul-le-mul_left, mul-le-mul_right}
 use Rattle.std.proofs.lemmas.Bool.Decides.{nat_tests}
 use Rattle.luma_row.specs.declared.light.TheConstants.{EVEN}
 use Rattle.luma_row.specs.declared.place.Place.{Place}
-use Rattle.luma_row.specs.Choice.{all_of, sum_of}
+use Rattle.luma_row.specs.Choice.{all_of}
 use Rattle.luma_row.specs.Earliest.{all_fall, back, falls, falls_enough}
 use Rattle.luma_row.specs.Light.{fall}
 use Rattle.luma_row.specs.Place.{apart, eighth, pair_fall, score}
@@ -70,11 +70,13 @@ first_falls word dark swing cell end row is some first apart narrow before cases
           elim halves [
             | inl out ↦ out_of_word out
             | inr begun ↦
-                let k = rest_of ((640 * first - 8 * apart) / 640 + cell) end (omega (arith, early, some, wide, before)) in
+                let k = rest_of ((640 * first - 8 * apart) / 640 + cell) end
+                (omega (arith, early, some, wide, before)) in
                 let o = rest_of end (first + cell) begun in
                 let p = k.1 in
                 let q = o.1 in
-                let r = rest_of (first + o.0) ((640 * first + 8 * apart) / 640) (omega (arith, q, some, wide, before)) in
+                let r = rest_of (first + o.0) ((640 * first + 8 * apart) / 640)
+                (omega (arith, q, some, wide, before)) in
                 let s = r.1 in
                 fall_at_begin word dark swing cell end row is ((640 * first - 8 * apart) / 640) k.0 o.0 first r.0
                 ((640 * first + 8 * apart) / 640) (omega (arith, p)) (omega (arith, p, q)) (omega (arith, q, before)) s

@@ -82,7 +82,8 @@ length_of place bit begin end h begin_is end_is =
     (e, cases)
 
 -- the light of a cell in the list of all
-pub cell_is : (row : List ℕ) (place : Place) (bit : ℕ) → bit < 90 → get_or (cells_of row place) bit 0 ≡ cell row place bit
+pub cell_is : (row : List ℕ) (place : Place) (bit : ℕ) → bit < 90
+    → get_or (cells_of row place) bit 0 ≡ cell row place bit
 cell_is row place bit h = get_or-map-range_with_len (cell row place) 0 90 bit bit 0 h (omega arith)
 
 -- how light the cells are

@@ -1,7 +1,10 @@
 mod AllSay
+mod BesideDeep
 mod BesidePairs
 mod BothEnds
 mod CleanDrawing
+mod CoresSpill
+mod DeepFalls
 mod Eleven
 mod Exact
 mod FirstOfAll

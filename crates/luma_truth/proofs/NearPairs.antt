@@ -73,8 +73,8 @@ pub record IsWorth (dark swing cell end pair fall at apart k : ℕ) : Type 0 whe
   pub early : 640 * k + 640 * end_of_pair cell end pair ≤ at + 8 * apart + 639
 
 -- the pairs end in the row
-pub pair_within : (word dark swing cell end : ℕ) (row : List ℕ) → IsLit word dark swing cell end row → (pair : ℕ) → pair < 9
-    → end_of_pair cell end pair + 9 * cell ≤ 16 * length row
+pub pair_within : (word dark swing cell end : ℕ) (row : List ℕ) → IsLit word dark swing cell end row → (pair : ℕ)
+    → pair < 9 → end_of_pair cell end pair + 9 * cell ≤ 16 * length row
 pair_within word dark swing cell end row is pair h =
     let within = is.within in
     let few : pair ≤ 8 = omega (arith, h) in

@@ -1,12 +1,11 @@
 -- The search of whole pixels finds the pixel where the first 1 ends, if it looks there. No nine falls are deeper than
 -- those at the true places; where they are as deep, each place looked at is the end of a cell, and narrower cells miss
 -- one of the ends.
-use Rattle.std.proofs.Common.{◌≡◌, ℕ, zero, suc, ◌+◌, ◌-◌, ◌*◌, ◌/◌, ◌<◌, ◌≤◌, ◌⊎◌, inl, inr, List}
-use Rattle.std.proofs.Common.{length, max, refl, ap, sym, subst, arith}
+use Rattle.std.proofs.Common.{◌≡◌, ℕ, ◌+◌, ◌-◌, ◌*◌, ◌/◌, ◌<◌, ◌≤◌, ◌⊎◌, inl, inr, List}
+use Rattle.std.proofs.Common.{length, refl, ap, sym, subst, arith}
 use Rattle.std.proofs.Math.Nat.{mul-le-mul_left, mul-div-le}
 use Rattle.luma_row.specs.declared.light.TheConstants.{EVEN}
-use Rattle.luma_row.specs.Choice.{greatest, sum_of}
-use Rattle.luma_row.specs.Coarse.{best_at, coarse_fall, coarse_sum, fall_at, pixel_of, step_to, sum_at, IsCoarse}
+use Rattle.luma_row.specs.Coarse.{best_at, coarse_fall, coarse_sum, pixel_of, step_to, sum_at, IsCoarse}
 use Rattle.luma_row.specs.Light.{fall, light}
 use Rattle.luma_row.specs.Width.{distance, distances, earliest, grain, narrowest, start, starts, ten_cells, widest}
 use Rattle.luma_truth.specs.Drawing.{has_bit}
@@ -124,8 +123,8 @@ ends_a_cell word dark swing cell end row is reach pixel far some within full =
                   elim inside [
                     | inl at_end ↦ (bit, at_end)
                     | inr midst ↦
-                        let lit = is.bright bit (16 * pixel) 16 (16 * pixel + 16) h one refl (omega (arith, after)) midst
-                        in
+                        let lit = is.bright bit (16 * pixel) 16 (16 * pixel + 16) h one refl (omega (arith, after))
+                        midst in
                         absurd (not_light word dark swing cell end row is reach (16 * pixel) far within full lit)
                   ]
             ]

@@ -1,7 +1,7 @@
 -- A word on whole pixels is read where some of each core lies in the neighbour of its cell: at one of its ends, and not
 -- too much of it.
-use Rattle.std.proofs.Common.{◌≡◌, ℕ, ◌+◌, ◌-◌, ◌*◌, ◌/◌, ◌%◌, ◌<◌, ◌≤◌, ◌⊎◌, inl, inr, true, false, List, length, get_or}
-use Rattle.std.proofs.Common.{ap, refl, subst, sym, arith}
+use Rattle.std.proofs.Common.{◌≡◌, ℕ, ◌+◌, ◌-◌, ◌*◌, ◌/◌, ◌%◌, ◌<◌, ◌≤◌, ◌⊎◌, inl, inr, true, false, List}
+use Rattle.std.proofs.Common.{length, get_or, ap, refl, arith}
 use Rattle.std.proofs.Math.Nat.{mul-le-mul_left, mul-le-mul_right}
 use Rattle.std.proofs.lemmas.List.{get_or_past, take_all}
 use Rattle.luma_row.specs.declared.place.Place.{Place}

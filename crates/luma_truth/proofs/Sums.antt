@@ -1,5 +1,5 @@
 -- Sums of some numbers between bounds, and the greatest of them.
-use Rattle.std.proofs.Common.{◌≡◌, ℕ, zero, suc, ◌+◌, ◌*◌, ◌<◌, ◌≤◌, ◌⊎◌, inl, inr, max, sym, subst, arith}
+use Rattle.std.proofs.Common.{◌≡◌, ℕ, zero, suc, ◌*◌, ◌<◌, ◌≤◌, ◌⊎◌, inl, inr, max, sym, subst, arith}
 use Rattle.luma_row.specs.Choice.{greatest, sum_of}
 
 pub sum_within : (n most : ℕ) (f : ℕ → ℕ) → ((k : ℕ) → k < n → f k ≤ most) → sum_of n f ≤ n * most

@@ -1,8 +1,9 @@
 -- Drawings on whole pixels, and which of them the search of whole pixels looks at.
-use Rattle.std.specs.Prelude.{◌≡◌, ℕ, ◌+◌, ◌*◌, ◌<◌, ◌≤◌, ◌⊎◌}
+use Rattle.std.specs.Prelude.{◌≡◌, ℕ, ◌+◌, ◌*◌, ◌<◌, ◌≤◌, ◌⊎◌, List}
+use Rattle.luma_row.specs.declared.light.TheConstants.{EVEN}
 use Rattle.luma_row.specs.declared.place.Place.{Place}
 use Rattle.luma_row.specs.Coarse.{pixel_of, step_to}
-use Rattle.luma_row.specs.Place.{apart}
+use Rattle.luma_row.specs.Place.{apart, score}
 use Rattle.luma_row.specs.Width.{distance, distances, start, starts}
 use Rattle.luma_truth.specs.Drawing.{edge, Drawing}
 
@@ -46,3 +47,21 @@ pub record IsLookedAt (drawing : Drawing) (width : ℕ) : Type 0 where
       → 10240 * (pixel_of (start width early) + step_to (distance width wide) pair) ≡ edge drawing (10 * pair + 1)
   pub beside : IsBeside drawing
       (record { first = start width early; last = start width early + distance width wide })
+
+-- two places, within half a cell
+pub record AreHalf (cell a b : ℕ) : Type 0 where
+  pub above : 2 * a ≤ 2 * b + cell
+  pub below : 2 * b ≤ 2 * a + cell
+
+-- A place within half a cell of a drawing with cells of eight pixels or more, where the nine sync pairs fall nearly as
+-- deep as they can, by nine cells of the swing. They lack no more than 18 times the swing of some sixteenths of a
+-- pixel, and with one more these are at most a 30th of a cell. And the word begins in the row.
+pub record IsDeep (drawing : Drawing) (row : List ℕ) (place : Place) : Type 0 where
+  pub wide : 81920 ≤ drawing.cell
+  pub near : ℕ
+  pub few : 30 * (640 * near + 640) ≤ drawing.cell
+  pub falls : 640 * (9 * EVEN) + 9 * (drawing.swing * drawing.cell)
+      ≤ 640 * score row place + 640 * (18 * (drawing.swing * near))
+  pub first : AreHalf drawing.cell (640 * place.first) (edge drawing 1)
+  pub last : AreHalf drawing.cell (640 * place.last) (edge drawing 81)
+  pub in_row : apart place ≤ 80 * place.first

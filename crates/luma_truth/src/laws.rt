@@ -14,7 +14,7 @@ ghost use Rattle.luma_truth.specs.Alone.{FallsNoLess, IsSummit, StandsAlone, Sta
 ghost use Rattle.luma_truth.specs.Drawing.{rounded, Drawing, FitsARow, IsDrawn};
 ghost use Rattle.luma_truth.specs.Inside.{core, HasMargin, IsEnough, LiesInside};
 ghost use Rattle.luma_truth.specs.Near.{IsNear};
-ghost use Rattle.luma_truth.specs.Whole.{IsBeside, IsLookedAt, IsOnWholePixels};
+ghost use Rattle.luma_truth.specs.Whole.{IsBeside, IsDeep, IsLookedAt, IsOnWholePixels};
 ghost use Rattle.luma_truth.specs.Worked.{eleven, ten_hours};
 
 use luma_row::laws::a_row_says_one_thing;
@@ -72,8 +72,10 @@ pub fn a_drawing_that_stands_alone_is_found()
 {}
 
 /// A drawing on whole pixels is found where the search of whole pixels looks at it, and the row says its word, whatever
-/// the word is. Such a row says nothing else, and a field has its line. Rounding its pixels changes nothing. In a row of
-/// 1,440 pixels the search looks at each drawing that begins an odd number of pixels behind the begin of the row.
+/// the word is. Such a row says nothing else, and a field has its line. So it is where the search comes out at deep
+/// falls, as they are at each place beside the drawing, where the moves come to rest at such, or where the place that
+/// is found has such. Rounding its pixels changes nothing. In a row of 1,440 pixels the search looks at each drawing
+/// that begins an odd number of pixels behind the begin of the row.
 pub fn a_drawing_on_whole_pixels_is_found()
     ensures found { (drawing : Drawing) (row : List ℕ) → IsRow row → IsDrawn drawing row → IsOnWholePixels drawing
         → IsLookedAt drawing (length row) → (code : CodeRow) × IsCode row code × (says_bits code.levels ≡ true)
@@ -85,10 +87,19 @@ pub fn a_drawing_on_whole_pixels_is_found()
         → IsRow row → IsDrawn drawing row → IsOnWholePixels drawing → IsLookedAt drawing (length row)
         → looked_at raster (whole_parts raster.width field) ≡ before ++ (row ∷ behind) → length before < 20
         → SaysLines raster field lines → (first rest : List ℕ) × (lines ≡ first ++ (drawing.word ∷ rest)) }
-    ensures beside { (drawing : Drawing) (row : List ℕ) (sum : ℕ) (coarse : Place) → IsRow row → IsDrawn drawing row
-        → IsOnWholePixels drawing → IsCoarse row sum coarse → 9 * EVEN < sum → IsBeside drawing coarse
+    ensures deep { (drawing : Drawing) (row : List ℕ) (sum : ℕ) (coarse : Place) → IsRow row → IsDrawn drawing row
+        → IsOnWholePixels drawing → IsCoarse row sum coarse → 9 * EVEN < sum → IsDeep drawing row coarse
         → (code : CodeRow) × IsCode row code × (says_bits code.levels ≡ true)
         × (number_of code.levels ≡ drawing.word) }
+    ensures at_rest { (drawing : Drawing) (row : List ℕ) (place : Place) → IsRow row → IsDrawn drawing row
+        → IsOnWholePixels drawing → (lies : LiesAt row place) → IsDeep drawing row lies.deepest
+        → (code : CodeRow) × IsCode row code × (says_bits code.levels ≡ true)
+        × (number_of code.levels ≡ drawing.word) }
+    ensures there { (drawing : Drawing) (row : List ℕ) (place : Place) → IsRow row → IsDrawn drawing row
+        → IsOnWholePixels drawing → LiesAt row place → IsDeep drawing row place → (code : CodeRow) × IsCode row code
+        × (says_bits code.levels ≡ true) × (number_of code.levels ≡ drawing.word) }
+    ensures beside { (drawing : Drawing) (row : List ℕ) (place : Place) → IsRow row → IsDrawn drawing row
+        → IsOnWholePixels drawing → IsBeside drawing place → IsDeep drawing row place }
     ensures drawn { (drawing : Drawing) (width : ℕ) → FitsARow drawing width → IsOnWholePixels drawing
         → IsDrawn drawing (rounded drawing width) }
     ensures odd { (drawing : Drawing) (whole : IsOnWholePixels drawing) → FitsARow drawing 1_440

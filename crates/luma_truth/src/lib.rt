@@ -21,9 +21,11 @@
 //! - The place that is found lies in the drawing where it is a summit, and each summit that falls no less than
 //!   the coarse place does (`specs/Alone.antt`, `IsSummit` and `StandsAlone`).
 //! - A drawing on whole pixels is found and says its word, whatever the word is, where the search of whole pixels
-//!   looks at it, or comes out beside it (`specs/Whole.antt`, `IsOnWholePixels`, `IsLookedAt` and `IsBeside`;
-//!   `laws::a_drawing_on_whole_pixels_is_found`). In a row of 1,440 pixels it looks at each that begins an odd number
-//!   of pixels behind the begin of the row.
+//!   looks at it (`specs/Whole.antt`, `IsOnWholePixels` and `IsLookedAt`; `laws::a_drawing_on_whole_pixels_is_found`).
+//!   In a row of 1,440 pixels it looks at each that begins an odd number of pixels behind the begin of the row.
+//! - It is found too where the search comes out, or the moves come to rest, within half a cell of it and at falls that
+//!   are nearly the deepest (`IsDeep`), as they are at each place beside it (`IsBeside`). And it says its word if the
+//!   place that is found is such a one.
 //! - The worked row of 720 pixels is found and read (`laws::the_worked_row_is_read`).
 //!
 //! Read `specs/Drawing.antt`, `Inside`, `Near`, `Alone`, `Whole` and `Worked`, in this order, and `laws` beside them.
