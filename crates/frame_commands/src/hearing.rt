@@ -34,6 +34,9 @@ pub(crate) trait Hearing: Drop {
     /// What was brought are these events.
     ghost tells: { Self → Self.Brought → List Event → Type 0 };
 
+    /// What was brought is nothing.
+    ghost nothing: { Self.Brought → Type 0 };
+
     /// This may be brought, of a tick or later.
     ghost may: { Self → Self.Brought → ℕ → Type 0 };
 
@@ -56,7 +59,8 @@ pub(crate) trait Hearing: Drop {
 
     /// Whether the interval brought nothing.
     fn is_nothing(brought: &Self::Brought) -> bool
-        ensures { IsTrue result → (reader : Self) → tells reader brought.now [] };
+        ensures none { IsTrue result → (reader : Self) → tells reader brought.now [] }
+        ensures only { nothing brought.now → IsTrue result };
 
     /// The words of what the latest interval brought. Nearly every interval brings none, and those are not to pay
     /// for the room of an answer.
@@ -129,6 +133,7 @@ pub(crate) fn step_aside<R: Hearing>(reader: &mut R, x: u32) -> R::Brought
 
 impl Hearing for DirectionReader {
     ghost use Rattle.std.specs.Prelude.{◌≡◌, ◌≤◌};
+    ghost use Rattle.direction_reader.specs.declared.brought.Brought.TheVariants.{Nothing};
     ghost use Rattle.tc_job.specs.declared.witness.Witness.TheVariants.{NotAsked};
     ghost use Rattle.frame_commands.specs.KeptHearing.{hearer_of_all, tells_all, MayTellFrom};
 
@@ -139,6 +144,8 @@ impl Hearing for DirectionReader {
     ghost hearer = { λ r. hearer_of_all r };
 
     ghost tells = { λ r brought own. tells_all r brought own };
+
+    ghost nothing = { λ brought. brought ≡ Nothing };
 
     ghost may = { λ r brought from. MayTellFrom r brought from };
 
@@ -194,7 +201,8 @@ impl Hearing for DirectionReader {
 }
 
 impl Hearing for FirmReader {
-    ghost use Rattle.std.specs.Prelude.{◌≡◌, ◌≤◌};
+    ghost use Rattle.std.specs.Prelude.{◌≡◌, ◌≤◌, []};
+    ghost use Rattle.direction_reader.specs.FirmStep.{firm_list};
     ghost use Rattle.tc_job.specs.declared.witness.Witness.TheVariants.{Asked};
     ghost use Rattle.frame_commands.specs.KeptHearing.{hearer_of_firm, tells_firm, MayTellFirmFrom};
 
@@ -205,6 +213,8 @@ impl Hearing for FirmReader {
     ghost hearer = { λ r. hearer_of_firm r };
 
     ghost tells = { λ r brought own. tells_firm brought own };
+
+    ghost nothing = { λ told. firm_list told ≡ [] };
 
     ghost may = { λ r brought from. MayTellFirmFrom r brought from };
 

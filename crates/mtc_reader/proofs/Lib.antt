@@ -1,6 +1,7 @@
 pub mod AlongTheBytes
 pub mod CarriedEvents
 pub mod EightNeighbours
+pub mod EndOfEvents
 pub mod Examples
 pub mod Labels
 pub mod LatestEight

@@ -1,12 +1,13 @@
 -- Which lists of bytes a reader stands for. What it keeps of the message on its way and of the row of quarter frames
 -- is tied to the list here.
-use Rattle.std.specs.Prelude.{◌≡◌, ◌⊎◌, ◌<◌, ℕ, ◌/◌, ◌%◌, ◌^◌, Bool, ◌==◌, ◌&&◌, ◌||◌, List, [], ◌∷◌, ◌++◌, take}
-use Rattle.std.specs.Prelude.{length, reverse}
+use Rattle.std.specs.Prelude.{◌≡◌, ◌⊎◌, ⊤, ◌<◌, ℕ, ◌+◌, ◌/◌, ◌%◌, ◌^◌, Bool, ◌==◌, ◌&&◌, ◌||◌, List, [], ◌∷◌, ◌++◌}
+use Rattle.std.specs.Prelude.{length, reverse, take}
 use Rattle.std.specs.Prelude.{slice_index, Option, Some, None}
 use Rattle.mtc_reader.specs.declared.current.CurrentMessage.{CurrentMessage}
 use Rattle.mtc_reader.specs.declared.eight.EightQuarters.{EightQuarters}
 use Rattle.mtc_reader.specs.declared.eight.TheConstants.{NO_QUARTER}
 use Rattle.mtc_reader.specs.declared.event.MtcEvent.{MtcEvent}
+use Rattle.mtc_reader.specs.declared.event.MtcEvent.TheVariants as events
 use Rattle.mtc_reader.specs.declared.message.Message.{Message}
 use Rattle.mtc_reader.specs.declared.message.MessageKind.{MessageKind}
 use Rattle.mtc_reader.specs.declared.message.MessageKind.TheVariants.{Quarter, Exclusive, Other}
@@ -67,3 +68,15 @@ pub record StandsFor (reader : MtcReader) (bytes : List ℕ) : Type 0 where
 abbrev pub events_of : Option MtcEvent → List MtcEvent
 events_of None = []
 events_of (Some event) = event ∷ []
+
+-- the byte place at which an event is complete
+abbrev pub place_of : MtcEvent → ℕ
+place_of (events.Full label place) = place
+place_of (events.Quarter direction label place) = place
+place_of (events.RefusedFull fault place) = place
+place_of (events.RefusedQuarter direction fault place) = place
+
+-- the event, if there is one, is complete with the last of this many bytes
+abbrev pub IsCompleteWith : ℕ → Option MtcEvent → Type 0
+IsCompleteWith bytes None = ⊤
+IsCompleteWith bytes (Some event) = place_of event + 1 ≡ bytes

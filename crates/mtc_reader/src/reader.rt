@@ -2,7 +2,7 @@
 ghost use Rattle.std.specs.Prelude.{◌≡◌, ◌<◌, ◌≤◌, ◌+◌, ◌^◌, ◌++◌, ℕ, List, [], ◌∷◌, None, true, false, length};
 ghost use Rattle.std.specs.Prelude.{take, IfSome};
 ghost use Rattle.mtc_reader.specs.Events.{events_in};
-ghost use Rattle.mtc_reader.specs.StandsFor.{StandsFor, events_of};
+ghost use Rattle.mtc_reader.specs.StandsFor.{events_of, IsCompleteWith, StandsFor};
 
 use crate::address::quarter;
 use crate::current::{CurrentMessage, STATUS};
@@ -54,6 +54,7 @@ impl MtcReader {
         ensures stands { (bytes : List ℕ) → StandsFor self.old bytes → StandsFor self.new (bytes ++ byte ∷ []) }
         ensures gives { (bytes : List ℕ) → StandsFor self.old bytes
             → events_in (bytes ++ byte ∷ []) ≡ events_in bytes ++ events_of result }
+        ensures place { IsCompleteWith self.new.bytes result }
     {
         let place = self.bytes;
         self.bytes = place + 1;
@@ -78,6 +79,7 @@ impl MtcReader {
             → StandsFor self.new (front ++ take result.0 bytes.now) }
         ensures gives { (front : List ℕ) → StandsFor self.old front
             → events_in (front ++ take result.0 bytes.now) ≡ events_in front ++ events_of result.1 }
+        ensures place { IsCompleteWith self.new.bytes result.1 }
     {
         if let Some(event) = self.window(bytes) {
             return (16, Some(event));
@@ -107,6 +109,7 @@ impl MtcReader {
         ensures takes { IfSome result (λ event. (front : List ℕ) → StandsFor self.old front
             → StandsFor self.new (front ++ take 16 bytes.now)
             × (events_in (front ++ take 16 bytes.now) ≡ events_in front ++ event ∷ [])) }
+        ensures place { IsCompleteWith self.new.bytes result }
         ensures stays { result ≡ None → self.new ≡ self.old }
     {
         let Some(eight) = EightQuarters::rising(bytes) else {
@@ -134,6 +137,7 @@ impl MtcReader {
             → StandsFor self.new (front ++ take result.0 bytes.now) }
         ensures gives { (front : List ℕ) → StandsFor self.old front
             → events_in (front ++ take result.0 bytes.now) ≡ events_in front ++ events_of result.1 }
+        ensures place { IsCompleteWith self.new.bytes result.1 }
     {
         match bytes {
             [QUARTER_FRAME, number, ..] => (2, self.both(*number)),
@@ -150,6 +154,7 @@ impl MtcReader {
             → StandsFor self.new (front ++ 0xf1 ∷ number ∷ []) }
         ensures gives { (front : List ℕ) → StandsFor self.old front
             → events_in (front ++ 0xf1 ∷ number ∷ []) ≡ events_in front ++ events_of result }
+        ensures place { IsCompleteWith self.new.bytes result }
     {
         let _none = self.byte(QUARTER_FRAME);
         self.byte(number)

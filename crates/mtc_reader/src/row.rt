@@ -1,10 +1,10 @@
 //! The row of quarter frames that goes on (`eight`). Read next: `address`, with eight of them.
-ghost use Rattle.std.specs.Prelude.{◌≡◌, ℕ, List, [], ◌∷◌, None, true, false, bytes_eq, map};
+ghost use Rattle.std.specs.Prelude.{◌≡◌, ℕ, ◌+◌, List, [], ◌∷◌, None, true, false, bytes_eq, map};
 ghost use Rattle.std.specs.Prelude.{reverse, slice_index};
 ghost use Rattle.mtc_reader.specs.declared.message.Message.{Message};
 ghost use Rattle.mtc_reader.specs.declared.message.Message.TheVariants.{QuarterFrame};
 ghost use Rattle.mtc_reader.specs.Events.{event_of, latest_eight, piece_of, pieces, window_event};
-ghost use Rattle.mtc_reader.specs.StandsFor.{eight_in, KeepsRow};
+ghost use Rattle.mtc_reader.specs.StandsFor.{eight_in, IsCompleteWith, KeepsRow};
 
 use crate::address::{full, quarter};
 use crate::eight::EightQuarters;
@@ -33,6 +33,7 @@ impl Row {
     pub fn take(&mut self, message: Message, place: u64) -> Option<MtcEvent>
         ensures keeps { (before : List Message) → KeepsRow self.old before → KeepsRow self.new (message ∷ before) }
         ensures gives { (before : List Message) → KeepsRow self.old before → result ≡ event_of message before place }
+        ensures place { IsCompleteWith (place + 1) result }
     {
         match message {
             Message::QuarterFrame(quarter) => {

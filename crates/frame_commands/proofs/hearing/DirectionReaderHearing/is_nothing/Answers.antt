@@ -3,5 +3,5 @@ use Rattle.direction_reader.specs.Events.{no_events}
 use Rattle.frame_commands.proofs.hearing.DirectionReaderHearing.is_nothing.Goals as goal
 
 -- nothing is no event
-pub returns-in-Nothing : goal.returns-in-Nothing
-returns-in-Nothing c = λ is reader. rw c.in-Nothing.is (no_events, refl, refl)
+pub returns-in-Nothing-clause-none : goal.returns-in-Nothing-clause-none
+returns-in-Nothing-clause-none c = λ is reader. rw c.in-Nothing.is (no_events, refl, refl)
