@@ -1,4 +1,4 @@
--- Unfinished paths: they end some steps before the sound so far does, where its latest cell may go on. Lists of steps
+-- Unfinished paths: they end with one of the latest steps, and the cell behind their end may still go on. Lists of steps
 -- and of cells begin with the latest.
 use Rattle.std.specs.Prelude.{◌≡◌, ℕ, ◌+◌, ◌<◌, ◌≤◌, ℤ, pos, ◌-ℤ◌, ◌<ℤ◌, ◌⊎◌, unsigned_abs, List, [], ◌∷◌, length, drop}
 use Rattle.cell_path.specs.declared.cell.Cell.{Cell}
@@ -16,13 +16,13 @@ sum_of_sizes (step ∷ steps) = unsigned_abs step.sound + sum_of_sizes steps
 abbrev pub lack : List ℕ → List Step → List Cell → ℤ
 lack lengths steps path = pos (sum_of_sizes steps) -ℤ score lengths steps path
 
--- the path ends so many steps ago, with one of the latest
+-- the path ended so many steps ago, with one of the latest
 pub record IsUnfinished (lengths : List ℕ) (steps : List Step) (ago : ℕ) (path : List Cell) : Type 0 where
   pub latest : ago < LATEST
   pub within : ago < length steps
   pub is_path : IsPath lengths (drop ago steps) path
 
--- one that lacks less wins over the other, and of two that lack as much the one that does not end earlier
+-- a path that lacks less wins over another, and of two that lack as much the one that does not end earlier
 abbrev pub LacksLess : ℤ → ℕ → ℤ → ℕ → Type 0
 LacksLess less ago more other = (less <ℤ more) ⊎ ((less ≡ more) × (ago ≤ other))
 

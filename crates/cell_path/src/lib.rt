@@ -35,8 +35,8 @@
 //!
 //! Read `lengths` and `cell` with `specs/Path.antt` and `specs/Best.antt`, then `scores` with
 //! `specs/Number.antt` and `specs/StandsFor.antt`, `paths` with `specs/KeptMarks.antt`, and `decisions`
-//! with `specs/Unfinished.antt` and `specs/Decided.antt`; below them are `four` and `ring`, `end`, `best`
-//! and `start`, which try one length each, and `follow`. Lists of steps and of cells begin with the latest.
+//! with `specs/Unfinished.antt` and `specs/Decided.antt`; below them are `four` and `ring`, `end`, `best` and
+//! `start`, which try one length each, `lacks` and `follow`. Lists of steps and of cells begin with the latest.
 //! Nothing here allocates or refuses. What makes the steps of samples, and what separates cells from noise, is in
 //! path_front.
 #![tactic(auto)]

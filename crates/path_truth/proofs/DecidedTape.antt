@@ -1,11 +1,13 @@
--- Each decision decides the earliest cells of the tape, and the end of the sound decides the others.
+-- Each decision decides the cells of the tape that ended long enough ago, and the end of the sound
+-- decides the others.
 use Rattle.std.proofs.Common.{◌≡◌, ℕ, zero, suc, ◌+◌, ◌-◌, ◌*◌, ◌/◌, ◌%◌, ◌==◌, ◌<◌, ◌≤◌, ◌⊎◌, inl, inr}
 use Rattle.std.proofs.Common.{Bool, true, false}
-use Rattle.std.proofs.Common.{◌&&◌, leb, List, [], ◌∷◌, ◌++◌, length, drop, refl, ap, ap₂, subst, sym, ◌∙◌, arith}
+use Rattle.std.proofs.Common.{◌&&◌, cond, leb, List, [], ◌∷◌, ◌++◌, length, drop, refl, ap, ap₂, subst, sym, ◌∙◌, arith}
 use Rattle.std.specs.List.{filter}
-use Rattle.std.proofs.Math.Seq.{drop-length}
 use Rattle.std.proofs.Math.Nat.{le-div_iff_mul-le, suc-mul}
+use Rattle.std.proofs.lemmas.Bool.{false≢true}
 use Rattle.std.proofs.lemmas.Bool.Decides.{nat_tests}
+use Rattle.std.proofs.lemmas.List.{length-drop}
 use Rattle.cell_path.specs.declared.cell.Cell.{Cell}
 use Rattle.cell_path.specs.declared.cell.Step.{Step}
 use Rattle.cell_path.specs.declared.follow.TheConstants.{DELAY, FIRST}
@@ -16,11 +18,13 @@ use Rattle.cell_path.specs.Lengths.{length_in}
 use Rattle.cell_path.specs.Unfinished.{IsBestUnfinished}
 use Rattle.path_truth.specs.Early.{HasAnEarlyZero}
 use Rattle.path_truth.specs.Sides.{KeepsItsSides}
+use Rattle.path_truth.specs.SoFar.{ended_in_time, latest_decision}
 use Rattle.path_truth.specs.Tape.{GoOn, HasAZero, IsSteady}
 use Rattle.path_truth.proofs.BestIsTape.{best_is_tape}
 use Rattle.path_truth.proofs.OpenTape.{cells-many, part-less, unfinished-is-tape, IsPart}
 use Rattle.path_truth.proofs.Rising.{length_least}
-use Rattle.path_truth.proofs.Sections.{all-decided, placed-front, some-decided, AreCells}
+use Rattle.path_truth.proofs.Sections.{all-decided, later-behind, new-waits, none-old, old, old-decided, old-end}
+use Rattle.path_truth.proofs.Sections.{AreCells}
 
 -- ---- when a decision falls due
 
@@ -29,11 +33,67 @@ both-of true true is = (refl, refl)
 both-of true false is = absurd cc
 both-of false b is = absurd cc
 
+is-zero : (a : ℕ) → (a == 0) ≡ true → a ≡ 0
+is-zero a is = grind (arith, nat_tests)
+
 is-most : (a b : ℕ) → leb a b ≡ true → a ≤ b
 is-most a b is = grind (arith, nat_tests)
 
 due-first : (count : ℕ) → is_due count ≡ true → FIRST ≤ count
 due-first count is = is-most FIRST count (both-of (leb FIRST count) (count % 1_024 == 0) is).0
+
+due-every : (count : ℕ) → is_due count ≡ true → count % 1_024 ≡ 0
+due-every count is = is-zero (count % 1_024) (both-of (leb FIRST count) (count % 1_024 == 0) is).1
+
+-- ---- the latest decision
+
+at-most : (a b : ℕ) → a ≤ b → leb a b ≡ true
+at-most a b is = grind (arith, nat_tests)
+
+above : (a b : ℕ) → b < a → leb a b ≡ false
+above a b is = grind (arith, nat_tests)
+
+latest-late : (count : ℕ) → 2_048 ≤ count → latest_decision count ≡ count - count % 1_024
+latest-late count late = ap (λ (b : Bool). cond b (count - count % 1_024) 0) (at-most 2_048 count late)
+
+latest-early : (count : ℕ) → count < 2_048 → latest_decision count ≡ 0
+latest-early count early = ap (λ (b : Bool). cond b (count - count % 1_024) 0) (above 2_048 count early)
+
+early-or-late : (count : ℕ) → (2_048 ≤ count) ⊎ (count < 2_048)
+early-or-late count = grind arith
+
+latest-due : (count : ℕ) → is_due count ≡ true → latest_decision count ≡ count
+latest-due count is =
+    let every = due-every count is in
+    let all : count - count % 1_024 ≡ count = omega (arith, every) in
+    latest-late count (due-first count is) ∙ all
+
+latest-most : (count : ℕ) → latest_decision count ≤ count
+latest-most count = elim (early-or-late count) [
+  | inl late ↦ subst (λ n. n ≤ count) (sym (latest-late count late)) (omega arith)
+  | inr early ↦ subst (λ n. n ≤ count) (sym (latest-early count early)) (omega arith)
+]
+
+not-every : (count : ℕ) → 2_048 ≤ count → is_due count ≡ false → count % 1_024 ≡ 0 → ⊥
+not-every count late is every =
+    let test : (count % 1_024 == 0) ≡ true = grind (arith, nat_tests) in
+    false≢true (sym is ∙ ap₂ (λ a b. a && b) (at-most 2_048 count late) test)
+
+some-rest : (count : ℕ) → 2_048 ≤ count → is_due count ≡ false → 0 < count % 1_024
+some-rest count late is =
+    let cases : (count % 1_024 ≡ 0) ⊎ (0 < count % 1_024) = grind arith in
+    elim cases [ inl every ↦ absurd (not-every count late is every) | inr some ↦ some ]
+
+-- it stays where none falls due
+latest-stays : (count : ℕ) → is_due (suc count) ≡ false → latest_decision (suc count) ≡ latest_decision count
+latest-stays count is = elim (early-or-late (suc count)) [
+  | inl late ↦
+      let some = some-rest (suc count) late is in
+      let still : 2_048 ≤ count = omega (arith, late, some) in
+      let same : suc count - suc count % 1_024 ≡ count - count % 1_024 = omega (arith, some) in
+      latest-late (suc count) late ∙ same ∙ sym (latest-late count still)
+  | inr early ↦ latest-early (suc count) early ∙ sym (latest-early count (omega (arith, early)))
+]
 
 -- ---- the cells so far
 
@@ -108,20 +168,20 @@ step-behind place n m step steps cell before is are = record {
   zero = zero-before n cell before are.zero;
 }
 
--- what is decided are the earliest cells
-abbrev AreEarliest : ℕ → List Cell → List Placed → Type 0
-AreEarliest n tape all = (p : ℕ) × (all ≡ drop p (placed (length tape * n) tape))
+-- what is decided are the cells that ended in time
+abbrev AreInTime : ℕ → ℕ → List Cell → List Placed → Type 0
+AreInTime n count tape all = all ≡ ended_in_time count (placed (length tape * n) tape)
 
-earlier : (place n : ℕ) (cell : Cell) (before : List Cell) (all : List Placed)
-    → AreCells place n (length (cell ∷ before) * n) (cell ∷ before) → AreEarliest n before all
-    → AreEarliest n (cell ∷ before) all
-earlier place n cell before all are is =
+-- also with a cell more, which has just ended
+in-time-more : (place n count : ℕ) (cell : Cell) (before : List Cell) (all : List Placed)
+    → AreCells place n (length (cell ∷ before) * n) (cell ∷ before) → count ≤ length (cell ∷ before) * n
+    → AreInTime n count before all → AreInTime n count (cell ∷ before) all
+in-time-more place n count cell before all are within is =
     let e = length (cell ∷ before) * n in
-    let less : length before * n ≡ e - n = omega (arith, suc-mul (length before) n) in (
-      suc is.0,
-      is.1 ∙ ap (λ k. drop is.0 (placed k before)) less
-          ∙ sym (ap (drop (suc is.0)) (placed-front place n e cell before are)),
-    )
+    let less : length before * n ≡ e - n = omega (arith, suc-mul (length before) n) in
+    let most = latest-most count in
+    is ∙ ap (λ k. ended_in_time count (placed k before)) less
+    ∙ sym (new-waits place n e 800 (latest_decision count) cell before are (omega (arith, most, within)))
 
 -- the path at a decision is the tape so far
 enough-cells : (n r count cells : ℕ) → 1 ≤ n → r < n → count ≡ cells * n + r → FIRST ≤ count → FIRST / n ≤ cells
@@ -157,47 +217,54 @@ abbrev newly-at : ℕ → ℕ → ℕ → ℕ → ℕ → List Cell → List Pla
 newly-at delay count p end e tape =
     filter (is_decided delay count (end_behind 0 (drop p (placed e tape)))) (placed end tape) ++ drop p (placed e tape)
 
-decided-now : (place n r delay count ago : ℕ) (tape path : List Cell) (before all : List Placed)
-    → AreCells place n (length tape * n) tape → count ≡ length tape * n + r → (ago ≡ r) × (path ≡ tape)
-    → AreEarliest n tape before
-    → all ≡ newly delay count ago (end_behind 0 before) path ++ before → AreEarliest n tape all
-decided-now place n r delay count ago tape path before all are long is so_far adds =
+decided-now : (place n r count now ago : ℕ) (tape path : List Cell) (before all : List Placed)
+    → AreCells place n (length tape * n) tape → now ≡ length tape * n + r → latest_decision count ≤ now
+    → latest_decision now ≡ now → (ago ≡ r) × (path ≡ tape) → AreInTime n count tape before
+    → all ≡ newly DELAY now ago (end_behind 0 before) path ++ before → AreInTime n now tape all
+decided-now place n r count now ago tape path before all are long order due is so_far adds =
     let e = length tape * n in
-    let end : count - r ≡ e = omega (arith, long) in
-    let more = some-decided place n e so_far.0 delay count tape are in (
-      more.0,
-      adds ∙ ap (λ k. newly delay count k (end_behind 0 before) path ++ before) is.0
-          ∙ ap₂ (λ p b. newly delay count r (end_behind 0 b) p ++ b) is.1 so_far.1
-          ∙ ap (λ k. newly-at delay count so_far.0 k e tape) end ∙ more.1,
-    )
+    let end : now - r ≡ e = omega (arith, long) in
+    let last = old-end place n e DELAY (latest_decision count) tape are in
+    let was : before ≡ drop last.p (placed e tape) = so_far ∙ last.is in
+    adds ∙ ap (λ k. newly DELAY now k (end_behind 0 before) path ++ before) is.0
+    ∙ ap₂ (λ p b. newly DELAY now r (end_behind 0 b) p ++ b) is.1 was
+    ∙ ap (λ k. newly-at DELAY now last.p k e tape) end
+    ∙ old-decided place n e last.p DELAY now tape are
+    (later-behind n e last.p DELAY (latest_decision count) now tape order last.behind)
+    ∙ ap (λ k. filter (old DELAY k) (placed e tape)) (sym due)
 
-add : (due : Bool) (place n r : ℕ) (steps : List Step) (tape : List Cell) (before all : List Placed)
-    → AreSoFar place n r steps tape → is_due (length steps) ≡ due → AreEarliest n tape before
-    → Adds steps before all → AreEarliest n tape all
-add false place n r steps tape before all are is so_far adds = (so_far.0, adds.idle is ∙ so_far.1)
-add true place n r steps tape before all are is so_far adds =
+add : (due : Bool) (place n r : ℕ) (step : Step) (steps : List Step) (tape : List Cell) (before all : List Placed)
+    → AreSoFar place n r (step ∷ steps) tape → is_due (length (step ∷ steps)) ≡ due
+    → AreInTime n (length steps) tape before → Adds (step ∷ steps) before all
+    → AreInTime n (length (step ∷ steps)) tape all
+add false place n r step steps tape before all are is so_far adds =
+    adds.idle is ∙ so_far
+    ∙ ap (λ k. filter (old DELAY k) (placed (length tape * n) tape)) (sym (latest-stays (length steps) is))
+add true place n r step steps tape before all are is so_far adds =
     let now = adds.due is in
-    decided-now place n r DELAY (length steps) now.0 tape now.1 before all (are-cells place n r steps tape are) are.long
-    (path-so-far place n r steps tape now.0 now.1 are (due-first (length steps) is) now.2) so_far now.3
+    let count = length (step ∷ steps) in
+    let most = latest-most (length steps) in
+    decided-now place n r (length steps) count now.0 tape now.1 before all (are-cells place n r (step ∷ steps) tape are)
+    are.long (omega (arith, most)) (latest-due count is)
+    (path-so-far place n r (step ∷ steps) tape now.0 now.1 are (due-first count is) now.2) so_far now.3
 
 one_fewer : (n : ℕ) → 1 ≤ n → n ≡ suc (n - 1)
 one_fewer n some = omega arith
 
-nothing : (n : ℕ) (tape : List Cell) → AreEarliest n tape []
-nothing n tape = (length (placed (length tape * n) tape), sym (drop-length (placed (length tape * n) tape)))
-
 so-far : (place n r : ℕ) (steps : List Step) (tape : List Cell) (all : List Placed)
-    → AreSoFar place n r steps tape → AreDecided steps all → AreEarliest n tape all
-so-far place n r [] tape all are decided = subst (AreEarliest n tape) (sym decided) (nothing n tape)
+    → AreSoFar place n r steps tape → AreDecided steps all → AreInTime n (length steps) tape all
+so-far place n r [] tape all are decided =
+    decided ∙ sym (none-old place n (length tape * n) 800 0 tape (are-cells place n r [] tape are) (omega arith))
 so-far place n (suc r) (step ∷ steps) tape all are decided =
     let more = so-far place n r steps tape decided.0 (step-within place n r step steps tape are) decided.1 in
-    add (is_due (length (step ∷ steps))) place n (suc r) (step ∷ steps) tape decided.0 all are refl more decided.2
+    add (is_due (length (step ∷ steps))) place n (suc r) step steps tape decided.0 all are refl more decided.2
 so-far place n zero (step ∷ steps) [] all are decided = absurd (omega (arith, are.long))
 so-far place n zero (step ∷ steps) (cell ∷ before) all are decided =
     let next = step-behind place n (n - 1) step steps cell before (one_fewer n are.some) are in
     let more = so-far place n (n - 1) steps before decided.0 next decided.1 in
-    add (is_due (length (step ∷ steps))) place n 0 (step ∷ steps) (cell ∷ before) decided.0 all are refl
-    (earlier place n cell before decided.0 (are-cells place n 0 (step ∷ steps) (cell ∷ before) are) more) decided.2
+    add (is_due (length (step ∷ steps))) place n 0 step steps (cell ∷ before) decided.0 all are refl
+    (in-time-more place n (length steps) cell before decided.0
+    (are-cells place n 0 (step ∷ steps) (cell ∷ before) are) (omega (arith, are.long)) more) decided.2
 
 -- ---- the whole sound
 
@@ -212,22 +279,25 @@ whole place n (step ∷ steps) tape all has are decided =
     let e = length tape * n in
     let long : count ≡ e = omega (arith, are.long) in
     let end : count - 0 ≡ e = omega (arith, are.long) in
-    let so_far = so-far place n 0 now tape decided.0 are decided.1 in
+    let cells = are-cells place n 0 now tape are in
+    let last = old-end place n e DELAY (latest_decision count) tape cells in
+    let so_far : decided.0 ≡ drop last.p (placed e tape) =
+    so-far place n 0 now tape decided.0 are decided.1 ∙ last.is in
     let steady : IsSteady place tape = record { in_list = are.in_list; cells = are.go; zero = has } in
     let path = best_is_tape place tape decided.2 now steady
     (subst (λ k. KeepsItsSides k now tape) (sym are.length_is) are.keeps) decided.3 in
-    decided.4 ∙ ap₂ (λ p b. newly 0 count 0 (end_behind 0 b) p ++ b) path so_far.1
-    ∙ ap (λ k. newly-at 0 count so_far.0 k e tape) end
-    ∙ all-decided place n e so_far.0 0 count tape (are-cells place n 0 now tape are) (omega (arith, long))
+    decided.4 ∙ ap₂ (λ p b. newly 0 count 0 (end_behind 0 b) p ++ b) path so_far
+    ∙ ap (λ k. newly-at 0 count last.p k e tape) end
+    ∙ all-decided place n e last.p 0 count tape cells (omega (arith, long))
     ∙ ap (λ k. placed k tape) (sym long)
 
-pub decided-tape : (place : ℕ) (tape : List Cell) (steps : List Step) (all : List Placed) → IsSteady place tape
+begun : (place : ℕ) (tape : List Cell) (steps : List Step) → IsSteady place tape
     → KeepsItsSides (length_in LENGTHS place) steps tape → HasAnEarlyZero (length_in LENGTHS place) tape
-    → AreDecidedInAll steps all → all ≡ placed (length steps) tape
-decided-tape place tape steps all steady keeps early decided =
+    → AreSoFar place (length_in LENGTHS place) 0 steps tape
+begun place tape steps steady keeps early =
     let n = length_in LENGTHS place in
     let least = length_least place steady.in_list in
-    let are : AreSoFar place n 0 steps tape = record {
+    record {
       in_list = steady.in_list;
       length_is = refl;
       some = omega (arith, least);
@@ -237,8 +307,57 @@ decided-tape place tape steps all steady keeps early decided =
       long = omega (arith, cells-many n steps tape keeps);
       part = λ none. absurd (omega (arith, none));
       zero = λ enough. early;
-    } in
-    whole place n steps tape all steady.zero are decided
+    }
+
+pub decided-tape : (place : ℕ) (tape : List Cell) (steps : List Step) (all : List Placed) → IsSteady place tape
+    → KeepsItsSides (length_in LENGTHS place) steps tape → HasAnEarlyZero (length_in LENGTHS place) tape
+    → AreDecidedInAll steps all → all ≡ placed (length steps) tape
+decided-tape place tape steps all steady keeps early decided =
+    whole place (length_in LENGTHS place) steps tape all steady.zero (begun place tape steps steady keeps early) decided
+
+-- ---- while the sound goes on
+
+-- with fewer of the latest steps there are fewer cells, and those that ended in time are the same
+record Fewer (place n count k : ℕ) (steps : List Step) (tape : List Cell) : Type 0 where
+  rest : ℕ
+  cells : List Cell
+  are : AreSoFar place n rest (drop k steps) cells
+  same : (all : List Placed) → AreInTime n count cells all → AreInTime n count tape all
+
+fewer : (place n r count k : ℕ) (steps : List Step) (tape : List Cell) → AreSoFar place n r steps tape
+    → count ≡ length (drop k steps) → Fewer place n count k steps tape
+fewer place n r count zero steps tape are is =
+    record { rest = r; cells = tape; are = are; same = λ all in_time. in_time }
+fewer place n r count (suc k) [] tape are is =
+    record { rest = r; cells = tape; are = are; same = λ all in_time. in_time }
+fewer place n (suc r) count (suc k) (step ∷ steps) tape are is =
+    let more = fewer place n r count k steps tape (step-within place n r step steps tape are) is in
+    record { rest = more.rest; cells = more.cells; are = more.are; same = more.same }
+fewer place n zero count (suc k) (step ∷ steps) [] are is = absurd (omega (arith, are.long))
+fewer place n zero count (suc k) (step ∷ steps) (cell ∷ before) are is =
+    let next = step-behind place n (n - 1) step steps cell before (one_fewer n are.some) are in
+    let more = fewer place n (n - 1) count k steps before next is in
+    let e = length-drop k steps in
+    record {
+      rest = more.rest;
+      cells = more.cells;
+      are = more.are;
+      same = λ all in_time. in-time-more place n count cell before all
+          (are-cells place n 0 (step ∷ steps) (cell ∷ before) are) (omega (arith, are.long, e, is))
+          (more.same all in_time);
+    }
+
+pub tape-so-far : (place : ℕ) (tape : List Cell) (steps : List Step) (later : ℕ) (all : List Placed)
+    → IsSteady place tape → KeepsItsSides (length_in LENGTHS place) steps tape
+    → HasAnEarlyZero (length_in LENGTHS place) tape → AreDecided (drop later steps) all
+    → all ≡ ended_in_time (length (drop later steps)) (placed (length steps) tape)
+tape-so-far place tape steps later all steady keeps early decided =
+    let n = length_in LENGTHS place in
+    let count = length (drop later steps) in
+    let less = fewer place n 0 count later steps tape (begun place tape steps steady keeps early) refl in
+    let is = less.same all (so-far place n less.rest (drop later steps) less.cells all less.are decided) in
+    let long : length tape * n ≡ length steps = sym (cells-many n steps tape keeps) in
+    is ∙ ap (λ k. ended_in_time count (placed k tape)) long
 
 -- if the sound ends before the first decision falls due, all cells have ended then
 pub short-is-early : (place : ℕ) (tape : List Cell) (steps : List Step) → IsSteady place tape

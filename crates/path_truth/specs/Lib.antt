@@ -2,6 +2,7 @@ pub mod Early
 pub mod Intervals
 pub mod Lost
 pub mod Sides
+pub mod SoFar
 pub mod Sound
 pub mod Tape
 pub mod Wave

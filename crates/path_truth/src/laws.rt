@@ -1,6 +1,6 @@
 //! What follows from the definitions alone: from a steady tape to its best path.
 ghost use Rattle.std.specs.Prelude.{◌≡◌, ℕ, ◌%◌, ◌<◌, ◌≤◌, ℤ, pos, ◌+ℤ◌, ◌≤ℤ◌, unsigned_abs};
-ghost use Rattle.std.specs.Prelude.{List, [], ◌∷◌, ◌++◌, length};
+ghost use Rattle.std.specs.Prelude.{List, [], ◌∷◌, ◌++◌, length, drop};
 ghost use Rattle.cell_path.specs.declared.cell.Bit.TheVariants.{Zero};
 ghost use Rattle.cell_path.specs.declared.cell.Cell.{Cell};
 ghost use Rattle.cell_path.specs.declared.cell.Sign.{Sign};
@@ -9,7 +9,7 @@ ghost use Rattle.cell_path.specs.declared.follow.TheConstants.{FIRST};
 ghost use Rattle.cell_path.specs.declared.lengths.TheConstants.{LENGTHS};
 ghost use Rattle.cell_path.specs.declared.placed.Placed.{Placed};
 ghost use Rattle.cell_path.specs.Best.{IsBestOfAll};
-ghost use Rattle.cell_path.specs.Decided.{placed, AreDecidedInAll};
+ghost use Rattle.cell_path.specs.Decided.{placed, AreDecided, AreDecidedInAll};
 ghost use Rattle.cell_path.specs.Lengths.{length_in};
 ghost use Rattle.cell_path.specs.Path.{score, signed, IsPath};
 ghost use Rattle.path_truth.specs.Early.{HasAnEarlyZero};
@@ -17,6 +17,7 @@ ghost use Rattle.path_truth.specs.Lost.{ambiguous, as_a_one, as_zeros, free, fre
 ghost use Rattle.path_truth.specs.Lost.{silent_tape};
 ghost use Rattle.cell_path.specs.Unfinished.{sum_of_sizes};
 ghost use Rattle.path_truth.specs.Sides.{IsOnSide, KeepsItsSides};
+ghost use Rattle.path_truth.specs.SoFar.{ended_in_time};
 ghost use Rattle.path_truth.specs.Tape.{GoOn, IsSteady};
 ghost use Rattle.path_truth.specs.Worked.{noisy, noisy_tape};
 
@@ -63,6 +64,15 @@ pub fn a_tape_is_decided()
     ensures { (place : ℕ) (tape : List Cell) (steps : List Step) (all : List Placed) → IsSteady place tape
         → KeepsItsSides (length_in LENGTHS place) steps tape → HasAnEarlyZero (length_in LENGTHS place) tape
         → AreDecidedInAll steps all → all ≡ placed (length steps) tape }
+{}
+
+/// While the sound of such a tape goes on, those cells are decided that ended long enough before the latest decision,
+/// and no others.
+pub fn a_tape_is_decided_as_it_goes_on()
+    ensures { (place : ℕ) (tape : List Cell) (steps : List Step) (later : ℕ) (all : List Placed)
+        → IsSteady place tape → KeepsItsSides (length_in LENGTHS place) steps tape
+        → HasAnEarlyZero (length_in LENGTHS place) tape → AreDecided (drop later steps) all
+        → all ≡ ended_in_time (length (drop later steps)) (placed (length steps) tape) }
 {}
 
 /// A zero at the front of a tape comes before the first decision.

@@ -23,7 +23,8 @@
 //! - The best path is the tape (`laws::the_best_path_of_a_steady_tape_is_the_tape`), as in the
 //!   worked sound (`specs/Worked.antt`). Where decisions fall due within a cell, the best unfinished
 //!   path is the tape up to that cell. So all cells of the tape are decided, and no others, if a zero
-//!   comes before the first decision (`specs/Early.antt`, `HasAnEarlyZero`).
+//!   comes before the first decision (`specs/Early.antt`, `HasAnEarlyZero`). While the sound goes on,
+//!   those are that had ended in time (`specs/SoFar.antt`, `ended_in_time`).
 //! - Noise below the size of a step keeps its side, and each tape of an even length has a sound.
 //! - A tape of ones alone is read as zeros of half the length, and each other premise is needed too
 //!   (`specs/Lost.antt`).
@@ -32,7 +33,7 @@
 //!   path, and noise of up to 7/17 its intervals (`specs/Wave.antt`, `specs/Intervals.antt`). The
 //!   front cuts one tick off the first of them.
 //!
-//! Read `specs/Tape.antt`, `Sides`, `Early`, `Worked` and `Lost`, in this order, and `laws` beside
+//! Read `specs/Tape.antt`, `Sides`, `Early`, `SoFar`, `Worked` and `Lost`, in this order, and `laws` beside
 //! them; then `specs/Sound.antt`, `Wave` and `Intervals`, and `sound_laws`. The tape begins and
 //! ends with the sound. No law says what is read if noise is greater, if the speed changes, or if
 //! samples are summed in a step. Nothing here runs.
