@@ -1,5 +1,5 @@
--- Unfinished paths: they end with one of the latest steps, and the cell behind their end may still go on. Lists of steps
--- and of cells begin with the latest.
+-- Unfinished paths: they end with one of the latest steps, and the cell behind their end may still go on. Lists of
+-- steps and of cells begin with the latest.
 use Rattle.std.specs.Prelude.{◌≡◌, ℕ, ◌+◌, ◌<◌, ◌≤◌, ℤ, pos, ◌-ℤ◌, ◌<ℤ◌, ◌⊎◌, unsigned_abs, List, [], ◌∷◌, length, drop}
 use Rattle.cell_path.specs.declared.cell.Cell.{Cell}
 use Rattle.cell_path.specs.declared.cell.Step.{Step}

@@ -6,7 +6,8 @@ use Rattle.tc_address.specs.declared.direction.Direction.{Direction}
 use Rattle.tc_address.specs.declared.direction.Direction.TheVariants.{Forward, Backward}
 use Rattle.tc_address.specs.Label.{Address, is_label}
 use Rattle.mtc_reader.specs.declared.event.MtcEvent.TheVariants.{Full, Quarter, RefusedFull, RefusedQuarter}
-use Rattle.mtc_reader.specs.Events.{fault_of, full_event, piece_of, pieces, quarter_address, quarter_event, window_event}
+use Rattle.mtc_reader.specs.Events.{fault_of, full_event, piece_of, pieces, quarter_address, quarter_event}
+use Rattle.mtc_reader.specs.Events.{window_event}
 use Rattle.mtc_reader.specs.StandsFor.{place_of, IsCompleteWith}
 
 full_by : (b : Bool) (a : Address) (place : ℕ)
@@ -24,7 +25,8 @@ quarter_by true direction a place = refl
 quarter_by false direction a place = refl
 
 -- that of eight quarter frames
-pub quarter_place : (direction : Direction) (a : Address) (place : ℕ) → place_of (quarter_event direction a place) ≡ place
+pub quarter_place : (direction : Direction) (a : Address) (place : ℕ)
+    → place_of (quarter_event direction a place) ≡ place
 quarter_place direction a place = quarter_by (is_label a) direction a place
 
 window_by : (rises falls : Bool) (a b : Address) (place : ℕ) → IsCompleteWith (place + 1)

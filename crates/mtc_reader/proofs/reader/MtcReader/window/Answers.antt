@@ -22,5 +22,6 @@ returns-clause-takes c = λ front stands.
 -- with the last of them
 pub returns-clause-place : goal.returns-clause-place
 returns-clause-place c =
-    let place = ap place_of c.quarter.ensures ∙ quarter_place Forward (quarter_address c.numbers.result) (c.args.self.now.bytes + 15) in
+    let place = ap place_of c.quarter.ensures
+    ∙ quarter_place Forward (quarter_address c.numbers.result) (c.args.self.now.bytes + 15) in
     omega (arith, place)
