@@ -1,5 +1,5 @@
 -- What a reader of a tape keeps, and which intervals it stands for, with what it has told of them.
-use Rattle.std.specs.Prelude.{◌≡◌, ℕ, nat_le, ◌&&◌, not, Bool, true, false, List, [], ◌∷◌, ◌++◌, map}
+use Rattle.std.specs.Prelude.{◌≡◌, ℕ, ◌-◌, ◌≤◌, nat_le, ◌&&◌, not, Bool, true, false, List, [], ◌∷◌, ◌++◌, map, take}
 use Rattle.biphase.specs.declared.profile.Profile.{Profile}
 use Rattle.direction_reader.specs.declared.event.Event.{Event}
 use Rattle.direction_reader.specs.declared.firm_event.FirmEvent.{FirmEvent}
@@ -52,6 +52,11 @@ StandsFor (Firm r) intervals told = FirmStandsFor r intervals told
 abbrev pub Brings : TapeReader → TapeReader → List ℕ → List FirmEvent → Type 0
 Brings old new intervals own = (front : List ℕ) (told : List FirmEvent) → StandsFor old front told
     → StandsFor new (front ++ intervals) (told ++ own)
+
+-- of these first intervals none but the latest brought an event
+abbrev pub NoneButTheLatestTells : TapeReader → ℕ → List ℕ → Type 0
+NoneButTheLatestTells old count intervals =
+    (before : TapeReader) × (1 ≤ count) × Brings old before (take (count - 1) intervals) []
 
 -- the events of a list of intervals: where words are asked for a witness, as they are judged
 abbrev pub AreEventsAsked : Bool → System → Profile → List ℕ → List FirmEvent → Type 0

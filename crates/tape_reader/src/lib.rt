@@ -10,7 +10,7 @@
 //!   `brings` of `read`). With what `last` tells they are the events of the list (clause `all` of `last`;
 //!   `specs/Tape.antt`, `AreTapeEvents`).
 //! - Where `read` tells nothing it has taken all intervals up to the first number that is none, unless it is
-//!   full (clause `all`).
+//!   full (clause `some`), and where it tells events it has taken none behind the one that brought them (`latest`).
 //!
 //! Read `settings` and `reader`, in this order, and `specs/Tape.antt` beside them. `tc_c` makes functions for C
 //! of it. Nothing here allocates or fails.

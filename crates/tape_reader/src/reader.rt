@@ -8,7 +8,7 @@ ghost use Rattle.direction_reader.specs.Events.{event_list, listed};
 ghost use Rattle.direction_reader.specs.FirmStep.{firm_list, firm_listed, nothing_told};
 ghost use Rattle.limits.specs.declared.recording.TheConstants.{MAX_INTERVAL, MAX_INTERVALS};
 ghost use Rattle.tape_reader.specs.Tape.{begins_with_none, is_full, is_interval, settings_of};
-ghost use Rattle.tape_reader.specs.Tape.{AreTapeEvents, Brings, StandsFor};
+ghost use Rattle.tape_reader.specs.Tape.{AreTapeEvents, Brings, NoneButTheLatestTells, StandsFor};
 
 use crate::settings::TapeSettings;
 use direction_reader::laws::a_reader_gives_the_events_of_its_list;
@@ -61,6 +61,7 @@ impl TapeReader {
         ensures within { result.0 ≤ length intervals.now }
         ensures settings { settings_of self.new ≡ settings_of self.old }
         ensures brings { Brings self.old self.new (take result.0 intervals.now) (firm_list result.1) }
+        ensures latest { ¬ (result.1 ≡ nothing_told) → NoneButTheLatestTells self.old result.0 intervals.now }
         ensures some { result.1 ≡ nothing_told → is_full self.new ≡ false
             → begins_with_none (drop result.0 intervals.now) ≡ false → result.0 ≡ length intervals.now }
     {
