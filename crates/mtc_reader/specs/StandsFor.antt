@@ -46,6 +46,10 @@ have_ends window =
     let last = piece_of (slice_index window 7) in
     (first == 0) && (last == 7) || (first == 7) && (last == 0)
 
+-- one more quarter frame behind eight may end eight others that carry an address
+abbrev pub may_end : List ℕ → ℕ → Bool
+may_end window quarter = have_ends (latest_eight (window ++ quarter ∷ []))
+
 -- the data bytes of four quarter frames in a number, each with both its bytes, the first one highest
 abbrev pub four_in : ℕ → List ℕ
 four_in four = (four / 2 ^ 48 % 256) ∷ (four / 2 ^ 32 % 256) ∷ (four / 2 ^ 16 % 256) ∷ (four % 256) ∷ []

@@ -1,10 +1,10 @@
 //! The row of quarter frames that goes on (`eight`). Read next: `address`, with eight of them.
-ghost use Rattle.std.specs.Prelude.{◌≡◌, ℕ, ◌+◌, List, [], ◌∷◌, None, true, false, bytes_eq, map};
+ghost use Rattle.std.specs.Prelude.{◌≡◌, ℕ, ◌+◌, List, [], ◌∷◌, None, true, false, not, bytes_eq, map};
 ghost use Rattle.std.specs.Prelude.{reverse, slice_index};
 ghost use Rattle.mtc_reader.specs.declared.message.Message.{Message};
 ghost use Rattle.mtc_reader.specs.declared.message.Message.TheVariants.{QuarterFrame};
 ghost use Rattle.mtc_reader.specs.Events.{event_of, latest_eight, piece_of, pieces, window_event};
-ghost use Rattle.mtc_reader.specs.StandsFor.{eight_in, IsCompleteWith, KeepsRow};
+ghost use Rattle.mtc_reader.specs.StandsFor.{eight_in, may_end, IsCompleteWith, KeepsRow};
 
 use crate::address::{full, quarter};
 use crate::eight::EightQuarters;
@@ -60,6 +60,7 @@ impl Row {
         ensures none { result ≡ true → (before : List Message) (place : ℕ) → KeepsRow self.old before
             → event_of (QuarterFrame quarter) before place ≡ None }
         ensures stays { result ≡ false → self.new ≡ self.old }
+        ensures takes { result ≡ not (may_end (eight_in self.old.latest) quarter) }
     {
         let latest = self.latest.next(quarter);
         if latest.may_carry() {
@@ -77,6 +78,7 @@ impl Row {
         ensures none { result ≡ true → (before : List Message) (place : ℕ) → KeepsRow self.old before
             → event_of (QuarterFrame (slice_index (eight_in eight) 0)) before place ≡ None }
         ensures stays { result ≡ false → self.new ≡ self.old }
+        ensures takes { result ≡ not (may_end (eight_in self.old.latest) (slice_index (eight_in eight) 0)) }
     {
         if !self.pass(eight.numbers()[0]) {
             return false;

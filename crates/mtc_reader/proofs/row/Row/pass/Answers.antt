@@ -1,5 +1,6 @@
-use Rattle.std.proofs.Common.{◌++◌, ◌∷◌, ◌∙◌, [], ap, arith, sym}
-use Rattle.mtc_reader.specs.StandsFor.{eight_in, padded}
+use Rattle.std.proofs.Common.{◌++◌, ◌∷◌, ◌∙◌, [], ap, arith, refl, sym}
+use Rattle.std.specs.Prelude.{not}
+use Rattle.mtc_reader.specs.StandsFor.{eight_in, have_ends, padded}
 use Rattle.mtc_reader.specs.Events.{row_in, window_event}
 use Rattle.mtc_reader.proofs.LatestEight.{padded_event}
 use Rattle.mtc_reader.proofs.PackedRow.{no_ends}
@@ -16,3 +17,14 @@ returns-clause-none c = λ _ before place keeps.
     sym (padded_event row place)
     ∙ ap (λ l. window_event l place) (sym (c.next-latest.ensures (padded (row_in before)) (omega arith) keeps))
     ∙ no_ends (eight_in c.next-latest.result) place (sym c.may_carry.ensures ∙ c.if-may_carry.false)
+
+-- it is taken exactly where the latest eight with it do not begin and end so
+pub returns-then-may_carry-clause-takes : goal.returns-then-may_carry-clause-takes
+returns-then-may_carry-clause-takes c =
+    ap not (sym c.if-may_carry.true ∙ c.may_carry.ensures
+    ∙ ap have_ends (c.next-latest.ensures (eight_in c.args.self.now.latest) (omega arith) refl))
+
+pub returns-clause-takes : goal.returns-clause-takes
+returns-clause-takes c =
+    ap not (sym c.if-may_carry.false ∙ c.may_carry.ensures
+    ∙ ap have_ends (c.next-latest.ensures (eight_in c.args.self.now.latest) (omega arith) refl))
