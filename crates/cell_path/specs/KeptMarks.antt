@@ -27,6 +27,10 @@ no_marks = record { marks = []; best_place = 0; best_sign = Plus }
 abbrev pub marks_ago : MarksState → ℕ → StepMarks
 marks_ago marks ago = get_or marks.ring ((marks.count + 4_096 - ago) % 4_096) no_marks
 
+-- the same without the marks of so many of the latest steps
+abbrev pub without_latest : ℕ → MarksState → MarksState
+without_latest count marks = record { ring = marks.ring; count = marks.count - count }
+
 -- the ring has 4,096 marks, at most 2^40 steps have come and four more, and each best place is one of the 45 lengths
 pub record AreMarks (marks : MarksState) : Type 0 where
   pub long : length marks.ring ≡ 4_096

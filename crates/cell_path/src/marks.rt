@@ -4,7 +4,7 @@ ghost use Rattle.cell_path.specs.declared.cell.Cell.{Cell};
 ghost use Rattle.cell_path.specs.declared.cell.Step.{Step};
 ghost use Rattle.cell_path.specs.declared.lengths.TheConstants.{LENGTHS};
 ghost use Rattle.cell_path.specs.Best.{IsBest};
-ghost use Rattle.cell_path.specs.KeptMarks.{marks_ago, GoesBack, MarksStandFor};
+ghost use Rattle.cell_path.specs.KeptMarks.{marks_ago, without_latest, GoesBack, MarksStandFor};
 ghost use Rattle.cell_path.specs.Lengths.{length_in};
 ghost use Rattle.cell_path.specs.Marks.{IsMarked};
 ghost use Rattle.cell_path.specs.Number.{IsBestEnd};
@@ -68,7 +68,7 @@ impl Marks {
     /// Takes back the marks of some steps.
     pub(crate) fn undo(&mut self, count: u64)
         requires { count ≤ self.old.count }
-        ensures { self.new.count ≡ self.old.count - count }
+        ensures { self.new ≡ without_latest count self.old }
     {
         self.count -= count;
     }

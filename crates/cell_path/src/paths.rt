@@ -5,7 +5,7 @@ ghost use Rattle.cell_path.specs.declared.cell.Cell.{Cell};
 ghost use Rattle.cell_path.specs.declared.cell.Step.{Step};
 ghost use Rattle.cell_path.specs.declared.lengths.TheConstants.{LENGTHS};
 ghost use Rattle.cell_path.specs.Best.{IsBest, IsBestOfAll};
-ghost use Rattle.cell_path.specs.KeptMarks.{GoesBack, MarksStandFor};
+ghost use Rattle.cell_path.specs.KeptMarks.{without_latest, GoesBack, MarksStandFor};
 ghost use Rattle.cell_path.specs.Lengths.{length_in};
 ghost use Rattle.cell_path.specs.Number.{IsBestEnd};
 ghost use Rattle.cell_path.specs.Paths.{PathsStandFor};
@@ -90,7 +90,7 @@ impl Paths {
     /// Takes back the last steps of a sound, of which only the marks are left.
     pub fn undo(&mut self, count: u64)
         requires { count ≤ self.old.marks.count }
-        ensures { self.new.marks.count ≡ self.old.marks.count - count }
+        ensures { self.new ≡ record self.old { marks = without_latest count self.old.marks } }
     {
         self.marks.undo(count);
     }
