@@ -29,7 +29,11 @@ ramp 2.5 0.4 | noisy 48000 20 > "$room/now" && row "from 2.5 to 0.4, noise at -2
 hurt 48000 reverse < "$room/hiss" > "$room/now" && row "noise at -14 dB, backward" 48000
 "$room/sound" drop 60 < "$room/tape" | noisy 48000 30 > "$room/now" && row "60 dropouts, noise at -30 dB" 48000
 "$room/sound" click 600 < "$room/tape" > "$room/now" && row "600 clicks" 48000
-"$room/sound" cut 60 < "$room/own_tape" > "$room/now" && row "60 cuts inside words" 48000
+# (in this row only words count that are whole)
+"$room/sound" cut 60 "$frames" < "$room/own_tape" > "$room/now" 2> "$room/whole"
+awk 'NR == FNR { whole[$1]; next } !(FNR in whole)' "$room/whole" "$room/own_words" > "$room/shortened"
+row "60 cuts, $(wc -l < "$room/whole") words whole" 48000
+: > "$room/shortened"
 hurt 48000 highpass 3000 < "$room/tape" > "$room/now" && row "a coupling capacitor: high-pass at 3000 Hz" 48000
 hurt 48000 highpass 3000 < "$room/tape" | noisy 48000 26 > "$room/now" && row "the same, noise at -26 dB" 48000
 # shellcheck disable=SC2046

@@ -195,6 +195,18 @@ def mean(cells):
     return sum(cell.level for cell in cells) // len(cells)
 
 
+def bends(cells, place):
+    """Whether the path bends at a cell."""
+    if not 8 <= place < len(cells) - 8:
+        return False
+    usual, own = cells[place - 8].length, cells[place].length
+    if any(sum(cell.length != usual for cell in cells[first:first + 6]) > 1 for first in (place - 8, place + 3)):
+        return False
+    times = 1 if own > usual else -1
+    far, near, it, next_one, last = (max(0, times * (cell.length - usual)) for cell in cells[place - 2:place + 3])
+    return near > 0 and next_one > 0 and max(far, near) < it and max(next_one, last) <= it
+
+
 def broken(cells, threshold):
     """Each cell, and whether code breaks in front of it."""
     slow = usual = None
@@ -216,7 +228,7 @@ def broken(cells, threshold):
                 usual = (max(spread, 1), outside) if usual is None else (
                     (31 * usual[0] + min(spread, 4 * usual[0])) // 32,
                     (31 * usual[1] + min(outside, 4 * high * high)) // 32)
-        yield cell, breaks
+        yield cell, breaks or bends(cells, place)
 
 
 def intervals(samples, system, rate, threshold, fineness, ended):

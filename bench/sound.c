@@ -4,9 +4,11 @@
  *                            frames from 01:00:00:00 or the address on, and the address and user bits of each, a line each; with `own` no two
  *                            frames have the same user bits, so that a word which two of them make together at a cut is none that was made
  *     sound fall DB < SAMPLES > SAMPLES                    a level that falls evenly by DB decibels, from the first sample to the last
- *     sound drop|click|cut PLACES < SAMPLES > SAMPLES
- *                            at PLACES random places: silence of 10 to 100 ms at 48,000 samples a second, one to six samples at full scale, or
- *                            1 to 800 samples left out
+ *     sound drop|click PLACES < SAMPLES > SAMPLES
+ *                            at PLACES random places: silence of 10 to 100 ms at 48,000 samples a second, or one to six samples at full scale
+ *     sound cut PLACES FRAMES < SAMPLES > SAMPLES 2> WORDS
+ *                            at PLACES random places 1 to 800 samples are left out of a sound of FRAMES frames; and which frames are whole, by
+ *                            their places from 1 on, a line each
  *     sound read FPS RATE < SAMPLES > WORDS                what libltc's decoder reads
  *
  * Samples are raw: 16 bits with a sign, little endian, one channel. Build: cc -O2 -o sound sound.c -lltc -lm
@@ -98,7 +100,15 @@ static size_t chance(size_t bound) {
     return state % bound;
 }
 
-static void hurt(const char *how, long places) {
+/* Which of the frames of a sound, one as long as the other, have none of the samples that are gone. */
+static void put_whole(const char *gone, size_t count, size_t frames) {
+    for (size_t frame = 0; frame < frames; frame++) {
+        size_t from = count * frame / frames, to = count * (frame + 1) / frames;
+        if (!memchr(gone + from, 1, to - from)) fprintf(stderr, "%zu\n", frame + 1);
+    }
+}
+
+static void hurt(const char *how, long places, long frames) {
     size_t count;
     int16_t *samples = all_samples(&count);
     char *gone = calloc(count, 1);
@@ -112,6 +122,7 @@ static void hurt(const char *how, long places) {
             for (size_t many = 1 + chance(6); many > 0; many--) samples[at + many] = level;
         } else memset(gone + at, 1, 1 + chance(800));
     }
+    if (frames > 0) put_whole(gone, count, (size_t)frames);
     for (size_t i = 0; i < count; i++)
         if (!gone[i]) put_sample(samples[i]);
     free(gone);
@@ -141,11 +152,11 @@ int main(int argc, char **argv) {
     if ((argc == 5 || argc == 6 || own) && !strcmp(argv[1], "make"))
         make(atof(argv[2]), atof(argv[3]), atol(argv[4]), argc >= 6 ? argv[5] : "01:00:00:00", own);
     else if (argc == 3 && !strcmp(argv[1], "fall")) fall(atof(argv[2]));
-    else if (argc == 3 && (!strcmp(argv[1], "drop") || !strcmp(argv[1], "click") || !strcmp(argv[1], "cut")))
-        hurt(argv[1], atol(argv[2]));
+    else if (argc == 3 && (!strcmp(argv[1], "drop") || !strcmp(argv[1], "click"))) hurt(argv[1], atol(argv[2]), 0);
+    else if (argc == 4 && !strcmp(argv[1], "cut")) hurt(argv[1], atol(argv[2]), atol(argv[3]));
     else if (argc == 4 && !strcmp(argv[1], "read")) read_words(atof(argv[2]), atof(argv[3]));
     else {
-        fputs("usage: sound make FPS RATE FRAMES [ADDRESS [own]] | sound fall DB | sound drop|click|cut PLACES | sound read FPS RATE\n", stderr);
+        fputs("usage: sound make FPS RATE FRAMES [ADDRESS [own]] | sound fall DB | sound drop|click PLACES | sound cut PLACES FRAMES | sound read FPS RATE\n", stderr);
         return 2;
     }
     return 0;

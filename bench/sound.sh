@@ -46,10 +46,19 @@ noisy() { # RATE DECIBELS [WORDS]
     sox -R -D -m -v 1 $(raw "$rate") "$room/still" -v 1 $(raw "$rate") "$room/noise" $(raw "$rate") -
 }
 
-# How many lines are words that were encoded, and behind a plus sign how many are not.
+# How many lines are words that were encoded, and behind a plus sign how many are not. Those of which a cut took a part
+# are neither.
 counted() {
-    awk 'NR == FNR { encoded[$0] = 1; next } $0 in encoded { good++; next } { false_ones++ }
-        END { printf "%d%s", good, false_ones ? " +" false_ones : "" }' "$room/encoded" -
+    awk -v whole="$room/encoded" -v shortened="$room/shortened" '
+        BEGIN {
+            while ((getline word < whole) > 0) encoded[word] = 1
+            while ((getline word < shortened) > 0) delete encoded[word]; close(shortened)
+            while ((getline word < shortened) > 0) cut[word] = 1
+        }
+        $0 in encoded { good++; next }
+        $0 in cut { next }
+        { false_ones++ }
+        END { printf "%d%s", good, false_ones ? " +" false_ones : "" }'
 }
 
 # The address and the user bits of each word of a report.
@@ -190,7 +199,9 @@ else
     echo "|---|---|---|---|---|---|---|---|---|---|"
 fi
 "$room/sound" make "$fps" 48000 "$frames" > "$room/clean" 2> "$room/encoded"
-"$room/sound" make "$fps" 48000 "$frames" 01:00:00:00 own > "$room/own" 2>> "$room/encoded"
+"$room/sound" make "$fps" 48000 "$frames" 01:00:00:00 own > "$room/own" 2> "$room/own_words"
+cat "$room/own_words" >> "$room/encoded"
+: > "$room/shortened"
 cp "$room/clean" "$room/now" && row "as it was made" 48000
 # The edges of a tape are not square, and it hisses: what follows was hurt so first. Where places of the tape meet that were apart, each frame has
 # user bits of its own.

@@ -1,4 +1,4 @@
-//! Cases of `path`: words, and sound of a tape with noise, hum, silence and clicks.
+//! Cases of `path`: words, and sound of a tape with noise, hum, silence, clicks and cuts.
 use crate::cases::{Case, Form, system, tape_bits, wave_of};
 use crate::draws::Draws;
 use crate::labels::COUNTS;
@@ -55,6 +55,11 @@ fn samples(system: u64, rate: u64, d: &mut Draws) -> Vec<i64> {
         if let Some(click) = made.get_mut(place) {
             *click = d.pick(&[-32_768, 32_767]);
         }
+    }
+    for _ in 0..d.pick(&[0, 0, 4]) {
+        let first = d.below(made.len() as u64 + 1) as usize;
+        let behind = made.len().min(first + 1 + d.below(800) as usize);
+        made.drain(first..behind);
     }
     made
 }

@@ -299,6 +299,23 @@ fn mean(of: &[Measured]) -> i64 {
 /// What is usual of the spreads and outsides of cells.
 type Usual = Option<(i64, i64)>;
 
+/// Whether the path bends at a cell: it is longer, or shorter, than most of the sixteen around it.
+fn bends(cells: &[Measured], place: usize) -> bool {
+    if place < 8 || cells.len() < place + 9 {
+        return false;
+    }
+    let length = |far: isize| cells[(place as isize + far) as usize].cell.length as i64;
+    let usual = length(-8);
+    let strays = |far: std::ops::RangeInclusive<isize>| far.filter(|it| length(*it) != usual).count();
+    let side = if length(0) > usual { 1 } else { -1 };
+    let off = |far: isize| (side * (length(far) - usual)).max(0);
+    strays(-8..=-3) <= 1
+        && strays(3..=8) <= 1
+        && off(-1).min(off(1)) >= 1
+        && off(-1).max(off(-2)) < off(0)
+        && off(1).max(off(2)) <= off(0)
+}
+
 /// Whether code breaks in front of a cell.
 fn breaks(cells: &[Measured], place: usize, slow: i64, usual: &mut Usual, threshold: i64) -> bool {
     let it = &cells[place];
@@ -324,7 +341,7 @@ fn breaks(cells: &[Measured], place: usize, slow: i64, usual: &mut Usual, thresh
             Some(old) => ((31 * old.0 + spread.min(4 * old.0)) / 32, (31 * old.1 + outside.min(4 * high * high)) / 32),
         });
     }
-    it.cell.jumps || is_faint || is_odd
+    it.cell.jumps || is_faint || is_odd || bends(cells, place)
 }
 
 /// The intervals of the best path, or, if more samples may come, those that are written so far.
