@@ -7,12 +7,13 @@ use Rattle.std.specs.Prelude.{get_or, slice_get, IfSome}
 use Rattle.std.specs.List.{All}
 use Rattle.std.proofs.lemmas.Bool.{false≢true, ne_eqb}
 use Rattle.std.proofs.lemmas.List.Elements.{All-cons, All-head, All-tail, All-take}
-use Rattle.std.proofs.lemmas.List.{append_assoc, length-drop, length-take, take_all, take-append-le}
+use Rattle.std.proofs.lemmas.List.{append_assoc, append-nil, length-drop, length-take, take_all, take-append-le}
 use Rattle.std.proofs.lemmas.Option.{none-some}
 use Rattle.path_front.specs.declared.fit.Fit.{Fit}
 use Rattle.path_front.specs.declared.fit.Range.{Range}
 use Rattle.path_front.specs.declared.fit.Usual.{Usual}
 use Rattle.path_front.specs.declared.measured.Measured.{Measured}
+use Rattle.path_front.specs.Bend.{bends}
 use Rattle.path_front.specs.Fit.{fit_of, usual_after, IsUsual}
 use Rattle.path_front.specs.Gate.{does_not_fit, floor_by, long_of, range_by, refuses, usual_by, usual_of, GateState}
 use Rattle.path_front.specs.Gate.{AreGated, GateStandsFor, Judges}
@@ -35,9 +36,10 @@ refused_by : (least long : ℕ) (usual : Option Usual) (previous : Measured) (be
     → refuses least long usual (previous ∷ before) cell behind
     ≡ is_faint previous cell (floor_by least long (previous ∷ before) (take 8 (cell ∷ behind)))
     || does_not_fit usual (range_by (previous ∷ before) behind) (fit_of (range_by (previous ∷ before) behind) cell)
+    || bends (previous ∷ before) cell behind
 refused_by least long usual previous before cell behind few few_behind =
     ap₂ (λ near far. is_faint previous cell (floor_by least long near (take 8 (cell ∷ behind)))
-    || does_not_fit usual (range_by near far) (fit_of (range_by near far) cell))
+    || does_not_fit usual (range_by near far) (fit_of (range_by near far) cell) || bends near cell far)
     (take_all 8 (previous ∷ before) few) (take_all 8 behind few_behind)
 
 -- by the levels, the range and the fit that were computed
@@ -47,7 +49,7 @@ pub refused_is : (least long : ℕ) (usual : Option Usual) (previous : Measured)
     → length before ≤ 8 → length behind ≤ 8 → near ≡ mean_level before → ahead ≡ mean_level (take 8 (cell ∷ behind))
     → floor ≡ max (max (min near ahead / 4) (long / 16)) (16 * least)
     → range ≡ range_by before behind → fit ≡ fit_of range cell
-    → answer ≡ is_faint previous cell floor || does_not_fit usual range fit
+    → answer ≡ is_faint previous cell floor || does_not_fit usual range fit || bends before cell behind
     → answer ≡ refuses least long usual before cell behind
 refused_is least long usual previous [] cell behind near ahead floor range fit answer first few few_behind near_is
     ahead_is floor_is range_is fit_is answer_is =
@@ -64,7 +66,8 @@ refused_is least long usual previous
     let misfit : does_not_fit usual range fit
     ≡ does_not_fit usual (range_by (p ∷ before) behind) (fit_of (range_by (p ∷ before) behind) cell) =
     ap (does_not_fit usual range) fit_is ∙ ap (λ r. does_not_fit usual r (fit_of r cell)) range_is in
-    answer_is ∙ ap₂ (λ a b. a || b) faint misfit ∙ sym (refused_by least long usual p before cell behind few few_behind)
+    answer_is ∙ ap₂ (λ a b. a || b || bends (p ∷ before) cell behind) faint misfit
+    ∙ sym (refused_by least long usual p before cell behind few few_behind)
 
 -- ---- what is usual
 
@@ -123,14 +126,17 @@ refuses_of_eight least long usual [] cell all = refl
 refuses_of_eight least long usual (p ∷ judged) cell all =
     ap (λ a. is_faint p cell (floor_by least long (p ∷ a) (cell ∷ take 7 (take 8 all)))
     || does_not_fit usual (range_by (p ∷ a) (take 8 (take 8 all))) (fit_of (range_by (p ∷ a) (take 8
-    (take 8 all))) cell))
+    (take 8 all))) cell)
+    || bends (p ∷ a) cell (take 8 (take 8 all)))
     (take_twice 7 judged)
     ∙ ap (λ b. is_faint p cell (floor_by least long (p ∷ take 7 judged) (cell ∷ b))
     || does_not_fit usual (range_by (p ∷ take 7 judged) (take 8 (take 8 all)))
-    (fit_of (range_by (p ∷ take 7 judged) (take 8 (take 8 all))) cell))
+    (fit_of (range_by (p ∷ take 7 judged) (take 8 (take 8 all))) cell)
+    || bends (p ∷ take 7 judged) cell (take 8 (take 8 all)))
     (take_fewer 7 all)
     ∙ ap (λ c. is_faint p cell (floor_by least long (p ∷ take 7 judged) (cell ∷ take 7 all))
-    || does_not_fit usual (range_by (p ∷ take 7 judged) c) (fit_of (range_by (p ∷ take 7 judged) c) cell))
+    || does_not_fit usual (range_by (p ∷ take 7 judged) c) (fit_of (range_by (p ∷ take 7 judged) c) cell)
+    || bends (p ∷ take 7 judged) cell c)
     (take_twice 8 all)
 
 usual_of_eight : (usual : Option Usual) (judged : List Measured) (cell : Measured) (all : List Measured)
@@ -249,6 +255,12 @@ pub eight_behind : (ahead more : List Measured) → length ahead ≡ 9 → take 
 eight_behind ahead more nine =
     let long = length-drop 1 ahead in
     take-append-le 8 (drop 1 ahead) more (omega (arith, long)) ∙ take_all 8 (drop 1 ahead) (omega (arith, long))
+
+-- and fewer have all that come
+pub none_behind : (ahead : List Measured) → length ahead ≤ 8 → take 8 (drop 1 ahead ++ []) ≡ drop 1 ahead
+none_behind ahead few =
+    let long = length-drop 1 ahead in
+    ap (take 8) (append-nil (drop 1 ahead)) ∙ take_all 8 (drop 1 ahead) (omega (arith, long, few))
 
 pub pushed_stands : (state : GateState) (cell : Measured) (judged more : List Measured)
     → GateStandsFor state judged (cell ∷ more)

@@ -1,5 +1,7 @@
 pub mod CellsNext
 pub mod EightLevels
+pub mod EighthBefore
+mod Examples
 pub mod FrontNext
 pub mod GateJudges
 pub mod GivenFirst

@@ -18,6 +18,7 @@ use Rattle.path_front.specs.declared.group.Sounds.{Sounds}
 use Rattle.path_front.specs.declared.judging.Phase.{Phase}
 use Rattle.path_front.specs.declared.judging.Phase.TheVariants.{Sound, Rest, Drain}
 use Rattle.path_front.specs.declared.measured.Measured.{Measured}
+use Rattle.path_front.specs.Bend.{bends}
 use Rattle.path_front.specs.Cells.{measured_cells, sounds_in, CellsEndFor, CellsStandFor, EndWithin}
 use Rattle.path_front.specs.Fit.{fit_of, usual_after}
 use Rattle.path_front.specs.Front.{intervals_before, intervals_of_judged, judgements, AreIntervals, AreIntervalsSoFar}
@@ -62,7 +63,8 @@ refuses_near : (least long : ℕ) (usual : Option Usual) (before : List Measured
 refuses_near least long usual [] cell behind other near = refl
 refuses_near least long usual (p ∷ before) cell behind other near =
     ap₂ (λ a b. is_faint p cell (floor_by least long (take 8 (p ∷ before)) b)
-    || does_not_fit usual (range_by (take 8 (p ∷ before)) a) (fit_of (range_by (take 8 (p ∷ before)) a) cell))
+    || does_not_fit usual (range_by (take 8 (p ∷ before)) a) (fit_of (range_by (take 8 (p ∷ before)) a) cell)
+    || bends (take 8 (p ∷ before)) cell a)
     near (near_more cell behind other near)
 
 breaks_near : (least : ℕ) (before : List Measured) (cell : Measured) (behind other : List Measured)

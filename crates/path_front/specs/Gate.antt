@@ -9,6 +9,7 @@ use Rattle.path_front.specs.declared.fit.Usual.{Usual}
 use Rattle.path_front.specs.declared.gate.Judged.{Judged}
 use Rattle.path_front.specs.declared.gate.TheConstants.{NEIGHBOURS}
 use Rattle.path_front.specs.declared.measured.Measured.{Measured}
+use Rattle.path_front.specs.Bend.{bends}
 use Rattle.path_front.specs.Fit.{fit_of, is_misfit, usual_after, IsUsual}
 use Rattle.path_front.specs.Levels.{is_faint, level_of, mean_level, slowly}
 use Rattle.path_front.specs.Measured.{IsMeasured}
@@ -38,7 +39,8 @@ abbrev pub does_not_fit : Option Usual → Range → Fit → Bool
 does_not_fit None range fit = false
 does_not_fit (Some usual) range fit = is_misfit usual range fit
 
--- a cell behind others is too faint, by the long mean with it, or does not fit its eight neighbours on either side
+-- a cell behind others is too faint, by the long mean with it, or does not fit its eight neighbours on either side, or
+-- is the middle of a bend
 abbrev pub refuses : ℕ → ℕ → Option Usual → List Measured → Measured → List Measured → Bool
 refuses least long usual [] cell behind = false
 refuses least long usual (previous ∷ before) cell behind =
@@ -46,6 +48,7 @@ refuses least long usual (previous ∷ before) cell behind =
     let range = range_by near (take NEIGHBOURS behind) in
     is_faint previous cell (floor_by least long near (take NEIGHBOURS (cell ∷ behind)))
     || does_not_fit usual range (fit_of range cell)
+    || bends near cell (take NEIGHBOURS behind)
 
 -- what is usual after a cell: one that jumps, and the first, tell nothing
 abbrev pub usual_by : Option Usual → List Measured → Measured → List Measured → Option Usual

@@ -1,3 +1,4 @@
+pub mod Bend
 pub mod Cells
 pub mod Clip
 pub mod Fit

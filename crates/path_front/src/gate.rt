@@ -1,4 +1,4 @@
-//! Which cells are code, and which are noise. Read next: `tile`.
+//! Which cells are code, and which are noise. Read next: `bend`.
 ghost use Rattle.std.specs.Prelude.{◌≡◌, ◌*◌, ◌^◌, ◌<◌, ◌≤◌, ◌/◌, ◌||◌, cond, min, max, IfSome, IfNone, OnSome};
 ghost use Rattle.std.specs.Prelude.{Some, List, [], ◌∷◌, ◌++◌, length, drop, take};
 ghost use Rattle.std.specs.List.{sum_by, All};
@@ -9,6 +9,7 @@ ghost use Rattle.path_front.specs.Measured.{IsMeasured};
 ghost use Rattle.path_front.specs.declared.gate.TheConstants.{NEIGHBOURS};
 ghost use Rattle.path_front.specs.declared.measured.Measured.{Measured};
 
+use crate::bend::bends;
 use crate::fit::{Fit, Range, Usual, fit_of, usual_after};
 use crate::levels::{is_faint, level, levels, mean_level, mean_level_with, slowly};
 use crate::measured::Measured;
@@ -142,7 +143,8 @@ fn weigh(
     let range = range(near, behind, sum);
     let fit = fit_of(range, cell);
     Weighed {
-        refused: is_refused(previous, cell, floor, usual, range, fit),
+        refused: is_refused(previous, cell, floor, usual, range, fit)
+            || bends(before, cell, behind),
         usual: next_usual(usual, cell.jumps, range, fit),
     }
 }

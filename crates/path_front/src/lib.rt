@@ -14,9 +14,10 @@
 //!   `specs/Cells.antt`, `GivesCell`, `GivesLastCell`; `specs/Measured.antt`, `measured_of`), whatever is
 //!   fetched when.
 //! - Each cell is judged by its eight neighbours on either side: the stretch of code breaks in front of
-//!   it if it jumps, if the sound from the middle of the cell before it to its own is too faint, or
-//!   if a half does not fit (`Gate::feed`, `Gate::drain`; `specs/Gate.antt`, `breaks`;
-//!   `specs/Levels.antt`, `specs/Fit.antt`). What cells come behind these neighbours changes nothing.
+//!   it if it jumps, if the sound from the middle of the cell before it to its own is too faint, if
+//!   a half does not fit, or if the path bends there, as at a cut of the tape (`Gate::feed`,
+//!   `Gate::drain`; `specs/Gate.antt`, `breaks`; `specs/Levels.antt`, `specs/Fit.antt`,
+//!   `specs/Bend.antt`). What cells come behind these neighbours changes nothing.
 //! - Samples go in one by one, and the intervals of the best path come out: at the end those of the definition
 //!   over the list of all samples, and before it those of the cells that were judged so far, whenever they are
 //!   fetched (`Front::feed`, `Front::finish`, `Front::next`; `specs/Front.antt`, `AreIntervals`, `FrontStandsFor`).
@@ -26,10 +27,11 @@
 //!   stretch breaks (`tiled`; `specs/Tiles.antt`). Joined again they last as long as the cell (`laws`).
 //!
 //! Read `sizes`, `clip`, `hold`, `group` and `steps`, in this order, then `latest`, `measured`,
-//! `levels`, `fit`, `gate`, `tile`, `cells`, `judging` and `front`, and the file of the same name in `specs/` beside
-//! each. Lists of samples and of steps begin with the latest. Nothing here allocates or fails.
+//! `levels`, `fit`, `gate`, `bend`, `tile`, `cells`, `judging` and `front`, and the file of the same name in
+//! `specs/` beside each. Lists of samples and of steps begin with the latest. Nothing here allocates or fails.
 #![tactic(auto)]
 
+mod bend;
 mod cells;
 mod clip;
 mod fit;

@@ -1,11 +1,13 @@
--- Among cells whose samples have sizes between two, the greater of which is 12/5 of the smaller at
+-- Among cells of one length whose samples have sizes between two, the greater of which is 12/5 of the smaller at
 -- most, the gate refuses none.
 use Rattle.std.proofs.Common.{◌≡◌, ℕ, ◌+◌, ◌*◌, ◌/◌, ◌≤◌, min, max, Bool, true, false, ltb, ◌||◌, List, [], ◌∷◌, take}
-use Rattle.std.proofs.Common.{◌+ℤ◌, Option, Some, None, refl, ap₂, sym, subst, arith}
+use Rattle.std.proofs.Common.{zero, suc, leb, ◌==◌, ◌&&◌, length, drop, get_or, ◌+ℤ◌, Option, Some, None, refl, ap, ap₂}
+use Rattle.std.proofs.Common.{sym, subst, ◌∙◌, arith}
 use Rattle.std.proofs.lemmas.Bool.{le-ltb}
 use Rattle.path_front.specs.declared.fit.Range.{Range}
 use Rattle.path_front.specs.declared.fit.Usual.{Usual}
 use Rattle.path_front.specs.declared.measured.Measured.{Measured}
+use Rattle.path_front.specs.Bend.{bends, bends_from, beyond, is_peak, keep_pace, peaks}
 use Rattle.path_front.specs.Fit.{fit_of, half_fit, square_of}
 use Rattle.path_front.specs.Gate.{does_not_fit, floor_by, range_by, refuses}
 use Rattle.path_front.specs.Levels.{above, is_faint, mean_level}
@@ -87,6 +89,46 @@ no-misfit low high n (Some usual) range cell loud near is fits =
     (misfit-by (usual.outside / 2 * 16) (square_of range) fit.first.outside fit.second.outside
     (omega (arith, square, first.outside_is)) (omega (arith, square, second.outside_is)))
 
+-- ---- its length
+
+second-false : (a b c : Bool) → b ≡ false → (a && b && c) ≡ false
+second-false true b c is = ap (λ x. x && c) is
+second-false false b c is = refl
+
+third-false : (a b c : Bool) → c ≡ false → (a && b && c) ≡ false
+third-false true true c is = is
+third-false true false c is = refl
+third-false false b c is = refl
+
+pace-of : (low high n i : ℕ) (cells : List Measured) (other : Measured) → AreFair low high n cells → other.length ≡ n
+    → (get_or cells i other).length ≡ n
+pace-of low high n i [] other are is = is
+pace-of low high n zero (cell ∷ cells) other are is = are.0.length_is
+pace-of low high n (suc i) (cell ∷ cells) other are is = pace-of low high n i cells other are.1 is
+
+not-beyond : (longer : Bool) (pace : ℕ) (cell : Measured) → pace ≡ cell.length → beyond longer pace cell ≡ 0
+not-beyond true pace cell same = omega (arith, same)
+not-beyond false pace cell same = omega (arith, same)
+
+-- a cell as long as the pace is no peak
+no-peak : (earlier last far next later : ℕ) → far ≡ 0 → is_peak earlier last far next later ≡ false
+no-peak earlier last far next later none =
+    second-false (leb 1 (min last next)) (ltb (max earlier last) far) (leb (max next later) far)
+    (le-ltb (max earlier last) far (omega (arith, none)))
+
+no-bend : (low high n : ℕ) (before : List Measured) (cell : Measured) (behind : List Measured)
+    → AreFair low high n before → IsFair low high n cell → bends before cell behind ≡ false
+no-bend low high n before cell behind are is =
+    let pace = (get_or before 7 cell).length in
+    let far = beyond (ltb pace cell.length) pace in
+    let same : pace ≡ cell.length = pace-of low high n 7 before cell are is.length_is ∙ sym is.length_is in
+    third-false (length before == 8) (length behind == 8) (bends_from pace before cell behind)
+    (third-false (keep_pace pace (drop 2 before)) (keep_pace pace (drop 2 behind)) (peaks pace before cell behind)
+    (no-peak (far (get_or before 1 cell)) (far (get_or before 0 cell)) (far cell) (far (get_or behind 0 cell))
+    (far (get_or behind 1 cell)) (not-beyond (ltb pace cell.length) pace cell same)))
+
+-- ---- all of them
+
 pub refuses-none : (least low high n long : ℕ) (usual : Option Usual) (previous : Measured) (before : List Measured)
     (cell : Measured) (behind : List Measured) → 1 ≤ low → least ≤ high → 5 * high ≤ 12 * low → long ≤ 64 * high
     → AreFair low high n (previous ∷ before) → IsFair low high n cell → AreFair low high n behind
@@ -101,6 +143,9 @@ refuses-none least low high n long usual previous before cell behind loud heard 
     let floor = floor_by least long (previous ∷ near_by) both in
     let most = floor-most least high long (mean_level (previous ∷ near_by)) (mean_level both) heard mean
     (mean-level low high n previous near_by last).most in
-    neither (is_faint previous cell floor) (does_not_fit usual range (fit_of range cell))
+    neither (is_faint previous cell floor || does_not_fit usual range (fit_of range cell))
+    (bends (previous ∷ near_by) cell ahead)
+    (neither (is_faint previous cell floor) (does_not_fit usual range (fit_of range cell))
     (not-faint low high n floor previous cell near are.0 is most)
-    (no-misfit low high n usual range cell loud near is (range-of low high n previous near_by ahead last next))
+    (no-misfit low high n usual range cell loud near is (range-of low high n previous near_by ahead last next)))
+    (no-bend low high n (previous ∷ near_by) cell ahead last is)
