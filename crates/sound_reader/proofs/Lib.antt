@@ -1,1 +1,2 @@
+mod OnlyPieces
 mod StepsGoOn

@@ -1,16 +1,17 @@
 -- What a reader of sound keeps, and which samples it stands for, with which events.
-use Rattle.std.specs.Prelude.{◌≡◌, ℕ, ℤ, ◌*◌, ◌≤◌, nat_le, ◌||◌, Bool, List, [], ◌∷◌, ◌++◌}
+use Rattle.std.specs.Prelude.{◌≡◌, ℕ, ℤ, ◌-◌, ◌*◌, ◌≤◌, nat_le, ◌||◌, Bool, List, [], ◌∷◌, ◌++◌, replicate, take}
 use Rattle.direction_reader.specs.declared.brought.Brought.{Brought}
 use Rattle.direction_reader.specs.declared.event.Event.{Event}
 use Rattle.direction_reader.specs.declared.event.Events.{Events}
 use Rattle.direction_reader.specs.Events.{event_list}
+use Rattle.direction_reader.specs.ListEvents.{AreEvents}
 use Rattle.direction_reader.specs.Reader.{ReaderState, Takes}
 use Rattle.direction_reader.specs.StandsFor as reader
 use Rattle.direction_reader.specs.Tracker.{profile_of}
 use Rattle.limits.specs.declared.recording.TheConstants.{MAX_INTERVALS}
 use Rattle.pcm_front.specs.declared.interval.Intervals.{Intervals}
 use Rattle.pcm_front.specs.declared.slicer.Slicer.{Slicer}
-use Rattle.pcm_front.specs.Pace.{intervals_at, intervals_in}
+use Rattle.pcm_front.specs.Pace.{intervals_at, intervals_in, longest}
 use Rattle.pcm_front.specs.StandsFor as slicer
 use Rattle.sound_reader.specs.declared.reader.TheConstants.{MAX_SAMPLES}
 use Rattle.sound_reader.specs.declared.settings.SoundSettings.{SoundSettings}
@@ -70,3 +71,26 @@ pub record Found (old new : SoundState) (samples : List ℤ) (brought : Brought)
   pub may : reader.MayTell new.reader brought
   pub some : 1 ≤ new.reader.intervals
   pub brings : (own : Events) → reader.Tells new.reader brought own → Brings old new samples (event_list own)
+
+-- the intervals of samples, under these settings
+abbrev pub intervals_of : SoundSettings → List ℤ → List ℕ
+intervals_of s samples = intervals_at s.pace (slicing s) samples
+
+-- of these next samples those before the latest bring no interval, but for whole pieces of a distance that passes
+abbrev pub OnlyPass : SoundState → ℕ → List ℤ → Type 0
+OnlyPass s count next = (front : List ℤ) (given : List Event) → StandsFor s front given → (more : ℕ)
+    × (intervals_of s.settings (front ++ take (count - 1) next)
+    ≡ intervals_of s.settings front ++ replicate more (longest s.settings.pace))
+
+-- these are the events of the intervals of samples, but for whole pieces of a distance at their end
+pub record AreEventsSoFar (s : SoundSettings) (samples : List ℤ) (told : List Event) : Type 0 where
+  pub read : List ℕ
+  pub more : ℕ
+  pub all : intervals_of s samples ≡ read ++ replicate more (longest s.pace)
+  pub events : AreEvents s.system s.profile read told
+
+-- of these first samples none but the latest brought an event: those before it have the events that had been given,
+-- but for whole pieces of a distance that passes
+abbrev pub NoneButTheLatestTells : SoundState → ℕ → List ℤ → Type 0
+NoneButTheLatestTells old count samples = (front : List ℤ) (given : List Event) → StandsFor old front given
+    → 1 ≤ count → AreEventsSoFar old.settings (front ++ take (count - 1) samples) given

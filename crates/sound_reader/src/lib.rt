@@ -9,6 +9,8 @@
 //!   once and in order, in whatever pieces they come (`specs/Sound.antt`, `StandsFor` and `Brings`; clause
 //!   `brings` of `read`).
 //! - If it gives no event it has taken all samples, and no interval waits, unless it is full (`all`).
+//! - If it gives events it has taken no sample behind the one that brought them (`latest`). Whole pieces of a
+//!   distance are found with the sample that ends it, or with the last that was given.
 //! - So they are the events of the intervals of the samples, under the settings that it was made with
 //!   (`laws::what_is_given_are_the_events_of_the_samples`).
 //!

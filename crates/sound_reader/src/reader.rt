@@ -5,13 +5,16 @@ ghost use Rattle.direction_reader.specs.Events.{event_list, no_events};
 ghost use Rattle.direction_reader.specs.StandsFor.{MayTell, Tells};
 ghost use Rattle.limits.specs.declared.recording.TheConstants.{MAX_INTERVAL, MAX_INTERVALS};
 ghost use Rattle.sound_reader.specs.Settings.{AreInRange};
-ghost use Rattle.sound_reader.specs.Sound.{is_full, Brings, Found, IsSettled, Reads, StandsFor};
+ghost use Rattle.sound_reader.specs.Sound.{is_full, Brings, Found, IsSettled, NoneButTheLatestTells, OnlyPass, Reads};
+ghost use Rattle.sound_reader.specs.Sound.{StandsFor};
 ghost use Rattle.sound_reader.specs.Waiting.{count_of, is_nothing, AreIntervals};
 
+use crate::laws::what_is_given_are_the_events_of_the_samples;
 use crate::settings::SoundSettings;
 use crate::waiting::{alone, next};
 use direction_reader::{Brought, DirectionReader, Events};
 use limits::{MAX_INTERVAL, MAX_INTERVALS};
+use pcm_front::laws::intervals_of_a_front_come_first;
 use pcm_front::{Intervals, Slicer};
 use std::marker::Model;
 
@@ -92,14 +95,17 @@ impl SoundReader {
 
     /// Takes samples from the front up to the first one that brings an event, or else all of them. Gives how
     /// many these are, and what they brought. An interval that is found may bring an event, and the one
-    /// found with it another: those come with the next calls, which take no sample.
+    /// found with it another: those come with the next calls, which take no sample. Whole pieces of a distance
+    /// are found with the sample that ends it, or with the last of these.
     pub fn read(&mut self, samples: &[i16]) -> (usize, Events)
         ensures within { result.0 ≤ length samples.now }
         ensures settings { self.new.settings ≡ self.old.settings }
         ensures brings { Brings self.old self.new (take result.0 samples.now) (event_list result.1) }
+        ensures latest { ¬ (result.1 ≡ no_events) → NoneButTheLatestTells self.old result.0 samples.now }
         ensures all { result.1 ≡ no_events → is_full self.new ≡ false
             → (result.0 ≡ length samples.now) × IsSettled self.new }
     {
+        what_is_given_are_the_events_of_the_samples();
         let events = self.read_waiting();
         if !are_none(&events) {
             return (0, events);
@@ -209,6 +215,7 @@ impl SoundReader {
         ensures some { 1 ≤ result.0 }
         ensures within { result.0 ≤ length samples.now }
         ensures settings { self.new.settings ≡ self.old.settings }
+        ensures pass { OnlyPass self.old result.0 samples.now }
         ensures waits { result.1 ≡ None → Brings self.old self.new (take result.0 samples.now) [] }
         ensures found { IfSome result.1 (Found self.old self.new (take result.0 samples.now)) }
     {
@@ -235,7 +242,9 @@ impl SoundReader {
         ensures waiting { self.new.waiting ≡ self.old.waiting }
         ensures intervals { AreIntervals result.1 }
         ensures brings { Brings self.old (record self.new { waiting = result.1 }) (take result.0 samples.now) [] }
+        ensures pass { OnlyPass self.old result.0 samples.now }
     {
+        intervals_of_a_front_come_first();
         let room = MAX_SAMPLES - self.samples;
         let most = if samples.len() as u64 <= room {
             samples.len()

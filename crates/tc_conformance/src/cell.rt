@@ -1,5 +1,7 @@
 //! The bytes that a cell of the table says. Read next: `case`.
-ghost use Rattle.std.specs.Prelude.{IfSome, ◌<◌};
+ghost use Rattle.std.specs.Prelude.{◌≡◌, ◌<◌, ℕ, Some, IfSome};
+ghost use Rattle.std.specs.Option.{option_copied};
+ghost use Rattle.tc_conformance.specs.Digit.{character_of};
 
 use crate::trial::{Runner, Trial, words_of};
 use std::alloc::{AllocError, Global};
@@ -101,6 +103,9 @@ fn pairs_of(alloc: Global, digits: &str) -> Result<Option<Vec<u8>>, AllocError> 
 /// The value of a digit.
 fn digit_of(digit: Option<&u8>) -> Option<u8>
     ensures below { IfSome result (λ value. value < 16) }
+    ensures reads { IfSome result (λ value. option_copied digit.entry ≡ Some (character_of value)) }
+    ensures only { (value : ℕ) → value < 16 → option_copied digit.entry ≡ Some (character_of value)
+        → result ≡ Some value }
 {
     match digit {
         Some(b'0'..=b'9') => Some(*digit? - b'0'),

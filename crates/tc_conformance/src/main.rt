@@ -6,8 +6,9 @@
 //! that end early. `data/wrong.tsv` has cases with a wrong expectation, each of which has to be found wrong.
 //!
 //! Read `case`, `sweeps` and then `cell`. The program prints a line for each case, and a last line of counts for
-//! each table. Then it ends as `tc` does with words that name no command: with 2. It has no contracts of its own: what
-//! is proved is that it is safe and ends.
+//! each table. Then it ends as `tc` does with words that name no command: with 2. That it is safe and ends is proved,
+//! and two steps of it are: a run differs unless its status, note and output are those that are wanted
+//! (`specs/Same.antt`), and the digits of a cell are read exactly (`specs/Digit.antt`).
 #![tactic(auto)]
 
 mod case;

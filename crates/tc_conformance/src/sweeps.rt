@@ -1,5 +1,8 @@
 //! What is compared of a case: its run as a whole, in pieces, with calls that fail in turn, with sinks that are
 //! full, and with inputs that end early. Read next: `main`.
+ghost use Rattle.std.specs.Prelude.{◌≡◌, ◌↔◌, None};
+ghost use Rattle.tc_conformance.specs.Same.{IsEndedSo, IsEndedWithFront};
+
 use crate::case::{Case, LONGEST_PULL, READ_FAULT, pull_behind};
 use crate::trial::{Ended, Runner, Trial};
 use std::alloc::AllocError;
@@ -78,7 +81,9 @@ fn where_sinks_are_full(runner: &mut Runner, case: &Case) -> Verdict {
 }
 
 /// Which part of an end differs: its status, its note or its output.
-fn difference(ended: &Ended, status: u8, note: &[u8], output: &[u8]) -> Option<&'static str> {
+fn difference(ended: &Ended, status: u8, note: &[u8], output: &[u8]) -> Option<&'static str>
+    ensures { result ≡ None ↔ IsEndedSo ended.now status note.now output.now }
+{
     if ended.code() != status {
         Some("status")
     } else if ended.note.as_slice() != note {
@@ -91,12 +96,9 @@ fn difference(ended: &Ended, status: u8, note: &[u8], output: &[u8]) -> Option<&
 }
 
 /// The same, if any front of the output may be written.
-fn difference_of_front(
-    ended: &Ended,
-    status: u8,
-    note: &[u8],
-    whole: &[u8],
-) -> Option<&'static str> {
+fn difference_of_front(ended: &Ended, status: u8, note: &[u8], whole: &[u8]) -> Option<&'static str>
+    ensures { result ≡ None ↔ IsEndedWithFront ended.now status note.now whole.now }
+{
     match whole.get(..ended.output.len()) {
         Some(front) => difference(ended, status, note, front),
         None => Some("output"),
@@ -104,7 +106,9 @@ fn difference_of_front(
 }
 
 /// The difference in a run.
-fn told(run: &'static str, number: usize, part: Option<&'static str>) -> Option<Wrong> {
+fn told(run: &'static str, number: usize, part: Option<&'static str>) -> Option<Wrong>
+    ensures { result ≡ None ↔ part.entry ≡ None }
+{
     part.map(|part| Wrong { run, number, part })
 }
 

@@ -1,4 +1,8 @@
 //! One run of the program, over a source and sinks that fail at given calls. Read next: `sweeps`.
+ghost use Rattle.std.specs.Prelude.{◌≡◌, IfOk};
+ghost use Rattle.std.specs.Option.{option_to_list};
+ghost use Rattle.tc_command.specs.Status.{code_of};
+
 use std::alloc::{AllocError, Global};
 use tc_io::{MemorySink, MemorySource};
 use tc_top::{Status, run};
@@ -79,13 +83,17 @@ fn run_failing(
 
 impl Ended {
     /// The number that its status ends with.
-    pub fn code(&self) -> u8 {
+    pub fn code(&self) -> u8
+        ensures { result ≡ code_of self.now.status }
+    {
         self.status.code()
     }
 }
 
 /// The number alone, if there is one.
-fn listed(alloc: Global, number: Option<u64>) -> Result<Vec<u64>, AllocError> {
+fn listed(alloc: Global, number: Option<u64>) -> Result<Vec<u64>, AllocError>
+    ensures { IfOk result (λ numbers. numbers.items ≡ option_to_list number) }
+{
     let mut numbers = Vec::new(alloc);
     if let Some(number) = number {
         numbers.push(number)?;

@@ -1,7 +1,8 @@
-use Rattle.std.proofs.Common.{[], ◌≡◌, ◌+◌, ℤ, List, take, subst, sym, refl}
+use Rattle.std.proofs.Common.{[], ◌≡◌, ◌+◌, ◌-◌, ◌≤◌, ℤ, List, take, subst, sym, refl, arith}
 use Rattle.pcm_front.specs.Pace.{intervals_in}
-use Rattle.sound_reader.specs.Sound.{Brings, SoundState}
+use Rattle.sound_reader.specs.Sound.{Brings, OnlyPass, SoundState}
 use Rattle.sound_reader.specs.contracts.reader.SoundReader.{the_view}
+use Rattle.sound_reader.proofs.OnlyPieces.{passes_in_front, passes_on}
 use Rattle.sound_reader.proofs.StepsGoOn.{front_of_front, sliced_on, within_front}
 use Rattle.sound_reader.proofs.reader.SoundReader.cut.Goals as goal
 
@@ -29,3 +30,23 @@ returns-clause-brings c =
     subst (λ (s : List ℤ). Brings c.args.self.now new s [])
     (front_of_front count most samples (within_front count most samples c.intervals_of_samples-count.ensures.within))
     own
+
+-- and it takes none behind the first that brings a distance
+pub returns-clause-pass : goal.returns-clause-pass
+returns-clause-pass c =
+    let count = c.intervals_of_samples-count.result.0 in
+    let most = c.if-samples-room.most in
+    let samples = c.args.samples.now in
+    let old = the_view c.self.inside in
+    let less : count - 1 ≤ most = omega (
+      arith,
+      within_front count most samples
+          c.intervals_of_samples-count.ensures.within,
+    ) in
+    let pass : OnlyPass old count (take most samples) =
+    passes_on old count c.intervals_of_samples-count.result.1 (take most samples)
+    c.intervals_of_a_front_come_first.ensures c.self.invariant.range.pace
+    c.intervals_of_samples-count.ensures.length c.intervals_of_samples-count.ensures.intervals
+    c.intervals_of_samples-count.ensures.last in
+    subst (λ (s : SoundState). OnlyPass s count samples) c.self.view_is
+    (passes_in_front old count most samples less pass)

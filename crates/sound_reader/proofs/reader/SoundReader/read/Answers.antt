@@ -4,6 +4,7 @@ use Rattle.direction_reader.specs.declared.event.Events.{Events}
 use Rattle.direction_reader.specs.Events.{event_list, no_events}
 use Rattle.direction_reader.specs.StandsFor.{Tells}
 use Rattle.sound_reader.specs.Sound.{Brings, SoundState}
+use Rattle.sound_reader.proofs.OnlyPieces.{none_but_the_latest}
 use Rattle.sound_reader.proofs.StepsGoOn.{brings_over, tells_none, then_waiting}
 use Rattle.sound_reader.proofs.reader.SoundReader.read.Goals as goal
 
@@ -85,3 +86,18 @@ reading-preserved c =
           (c.slice-count.ensures.waits c.in-None.is) waited);
       settled = λ full. c.read_waiting-events-in-None.ensures.settled none full;
     }
+
+-- the samples before the latest brought no event
+pub returns-then-not-are_none-2-clause-latest : goal.returns-then-not-are_none-2-clause-latest
+returns-then-not-are_none-2-clause-latest c = λ told.
+    none_but_the_latest c.args.self.now c.reading.self c.reading.at c.slice-count.result.0 c.args.samples.now
+    c.reading.invariant.settings c.reading.invariant.brings
+    (c.reading.invariant.settled (sym c.if-not-is_full.ensures))
+    c.what_is_given_are_the_events_of_the_samples.ensures c.slice-count.ensures.pass c.slice-count.ensures.some
+
+pub returns-then-not-are_none-3-clause-latest : goal.returns-then-not-are_none-3-clause-latest
+returns-then-not-are_none-3-clause-latest c = λ told.
+    none_but_the_latest c.args.self.now c.reading.self c.reading.at c.slice-count.result.0 c.args.samples.now
+    c.reading.invariant.settings c.reading.invariant.brings
+    (c.reading.invariant.settled (sym c.if-not-is_full.ensures))
+    c.what_is_given_are_the_events_of_the_samples.ensures c.slice-count.ensures.pass c.slice-count.ensures.some
