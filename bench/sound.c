@@ -6,7 +6,7 @@
  *     sound fall DB < SAMPLES > SAMPLES                    a level that falls evenly by DB decibels, from the first sample to the last
  *     sound drop|click PLACES < SAMPLES > SAMPLES
  *                            at PLACES random places: silence of 10 to 100 ms at 48,000 samples a second, or one to six samples at full scale
- *     sound cut PLACES FRAMES < SAMPLES > SAMPLES 2> WORDS
+ *     sound cut PLACES FRAMES [SEED] < SAMPLES > SAMPLES 2> WHOLE
  *                            at PLACES random places 1 to 800 samples are left out of a sound of FRAMES frames; and which frames are whole, by
  *                            their places from 1 on, a line each
  *     sound read FPS RATE < SAMPLES > WORDS                what libltc's decoder reads
@@ -94,8 +94,9 @@ static void fall(double decibels) {
 }
 
 /* The next number of a generator that is the same everywhere, below a bound. */
+static uint64_t state = 20261129;
+
 static size_t chance(size_t bound) {
-    static uint64_t state = 20261129;
     state = state * 16807 % 2147483647;
     return state % bound;
 }
@@ -153,10 +154,13 @@ int main(int argc, char **argv) {
         make(atof(argv[2]), atof(argv[3]), atol(argv[4]), argc >= 6 ? argv[5] : "01:00:00:00", own);
     else if (argc == 3 && !strcmp(argv[1], "fall")) fall(atof(argv[2]));
     else if (argc == 3 && (!strcmp(argv[1], "drop") || !strcmp(argv[1], "click"))) hurt(argv[1], atol(argv[2]), 0);
-    else if (argc == 4 && !strcmp(argv[1], "cut")) hurt(argv[1], atol(argv[2]), atol(argv[3]));
+    else if ((argc == 4 || argc == 5) && !strcmp(argv[1], "cut")) {
+        if (argc == 5) state = (uint64_t)atol(argv[4]);
+        hurt(argv[1], atol(argv[2]), atol(argv[3]));
+    }
     else if (argc == 4 && !strcmp(argv[1], "read")) read_words(atof(argv[2]), atof(argv[3]));
     else {
-        fputs("usage: sound make FPS RATE FRAMES [ADDRESS [own]] | sound fall DB | sound drop|click PLACES | sound cut PLACES FRAMES | sound read FPS RATE\n", stderr);
+        fputs("usage: sound make FPS RATE FRAMES [ADDRESS [own]] | sound fall DB | sound drop|click PLACES | sound cut PLACES FRAMES [SEED] | sound read FPS RATE\n", stderr);
         return 2;
     }
     return 0;
