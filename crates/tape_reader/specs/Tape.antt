@@ -56,7 +56,8 @@ Brings old new intervals own = (front : List ℕ) (told : List FirmEvent) → St
 -- of these first intervals none but the latest brought an event
 abbrev pub NoneButTheLatestTells : TapeReader → ℕ → List ℕ → Type 0
 NoneButTheLatestTells old count intervals =
-    (before : TapeReader) × (1 ≤ count) × Brings old before (take (count - 1) intervals) []
+    (before : TapeReader) × (1 ≤ count) × (settings_of before ≡ settings_of old)
+    × Brings old before (take (count - 1) intervals) []
 
 -- the events of a list of intervals: where words are asked for a witness, as they are judged
 abbrev pub AreEventsAsked : Bool → System → Profile → List ℕ → List FirmEvent → Type 0
