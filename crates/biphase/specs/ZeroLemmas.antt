@@ -1,6 +1,6 @@
 -- A law of chains, for the proofs of the crates above: in the intervals of a chain the greater one of an unequal pair
 -- is a zero. All of this is proved here, and no promise rests on it.
-use Rattle.std.proofs.Common.{◌≡◌, ℕ, zero, suc, ◌+◌, ◌<◌, List, [], ◌∷◌, ◌++◌, length, drop, refl, ap, arith}
+use Rattle.std.proofs.Common.{◌≡◌, ℕ, zero, suc, ◌+◌, ◌<◌, List, [], ◌∷◌, length, drop, refl, ap, arith}
 use Rattle.std.proofs.Common.{length-append}
 use Rattle.std.proofs.Math.Seq.{drop-nil}
 use Rattle.biphase.specs.declared.profile.Profile.{Profile}

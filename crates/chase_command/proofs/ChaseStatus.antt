@@ -1,27 +1,18 @@
 -- A chase answers by why it stopped, and its whole input leaves one status if no call fails, lack of memory aside.
-use Rattle.std.proofs.Common.{◌≡◌, ◌⊎◌, ℕ, ◌+◌, ◌≤◌, List, [], ◌++◌, length, take, Bool, true, false, Some, Ok, Err}
-use Rattle.std.proofs.Common.{refl, sym, ◌∙◌, ap, inl, inr}
+use Rattle.std.proofs.Common.{◌≡◌, ℕ, ◌+◌, ◌≤◌, List, ◌++◌, length, take, Ok, Err}
 use Rattle.std.proofs.Common.{arith, append-nil}
-use Rattle.std.specs.Prelude.{nat_le, IfErr, IsErrAnd}
-use Rattle.std.specs.declared.option.Option.{Option}
+use Rattle.std.specs.Prelude.{IfErr, IsErrAnd}
 use Rattle.std.specs.declared.result.Result.{Result}
-use Rattle.std.proofs.lemmas.List.{length-append, length-take}
-use Rattle.std.specs.Io.KnownBytes.{Consumes}
-use Rattle.tc_io.specs.Source.{Rose}
+use Rattle.std.proofs.lemmas.List.{length-take}
 use Rattle.tc_address.specs.Label.{Address}
-use Rattle.chase_script.specs.declared.row.ScriptRow.{ScriptRow}
-use Rattle.chase_script.specs.Script.{script_in}
 use Rattle.chase_command.specs.declared.chasing.TheConstants.{MAX_SCRIPT}
-use Rattle.tc_command.specs.declared.status.Status.TheVariants as status
 use Rattle.chase_command.specs.declared.stop.ChaseStop.{ChaseStop}
 use Rattle.chase_command.specs.declared.stop.ChaseStop.TheVariants.{Refused, ReadFault, WriteFault, Memory, Limit}
 use Rattle.chase_command.specs.Chase.{ChaseEndsBy}
-use Rattle.tc_command.specs.Causes.{SourceCause, OutCause}
 use Rattle.chase_command.specs.Stop.{status_of}
-use Rattle.chase_command.specs.KeptScript.{IsChaseStop, IsGatherStop, IsPullStop, IsRowStop}
+use Rattle.chase_command.specs.KeptScript.{IsChaseStop, IsGatherStop, IsPullStop}
 use Rattle.tc_command.specs.Exchange.{Exchange}
 use Rattle.chase_command.specs.Stop.{note_of}
-use Rattle.tc_command.specs.KeptWorks.{all_at_end, front_of_all}
 
 -- ---- a chase that stopped ended so
 

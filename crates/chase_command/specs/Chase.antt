@@ -1,6 +1,6 @@
 -- `chase`: a script is read whole, and then the trace of its rows is written. So it is no stream: it takes memory for
 -- its input, and what is refused is a row and a column.
-use Rattle.std.specs.Prelude.{◌≡◌, ◌⊎◌, ℕ, ◌+◌, ◌≤◌, nat_le, List, [], ◌++◌, length, codes, Option, Result, Ok}
+use Rattle.std.specs.Prelude.{◌≡◌, ◌⊎◌, ℕ, ◌+◌, ◌≤◌, nat_le, List, [], length, Option, Ok}
 use Rattle.std.specs.Prelude.{Err, if◌then◌else◌}
 use Rattle.std.specs.Io.KnownBytes.{IsAtEnd}
 use Rattle.tc_io.specs.Sink.{IsFront}

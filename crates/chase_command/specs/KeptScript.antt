@@ -4,7 +4,6 @@ use Rattle.chase_script.specs.Script.{Script}
 use Rattle.chase_command.specs.declared.chasing.TheConstants.{MAX_SCRIPT}
 use Rattle.chase_command.specs.declared.stop.ChaseStop.{ChaseStop}
 use Rattle.chase_command.specs.declared.stop.ChaseStop.TheVariants.{Refused, ReadFault, WriteFault, Memory, Limit}
-use Rattle.std.specs.Io.KnownBytes.{IsAtEnd}
 use Rattle.tc_io.specs.Sink.{IsFront}
 use Rattle.tc_address.specs.Label.{Address}
 use Rattle.chase_script.specs.declared.row.ScriptRow.{ScriptRow}

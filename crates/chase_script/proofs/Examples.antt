@@ -4,7 +4,7 @@ use Rattle.std.proofs.Common.{arith}
 use Rattle.std.specs.Prelude.{codes}
 use Rattle.tc_address.specs.declared.count.Count.TheVariants.{C25}
 use Rattle.tc_address.specs.declared.direction.Direction.TheVariants.{Forward}
-use Rattle.tc_address.specs.Label.{Address, address, addresses, hour_of, labels, minute_of, second_of}
+use Rattle.tc_address.specs.Label.{address, addresses, hour_of, labels, minute_of, second_of}
 use Rattle.tc_address.specs.Numbering.{number_of}
 use Rattle.chase_core.specs.declared.command.Command.{Command}
 use Rattle.chase_core.specs.declared.command.Command.TheVariants.{Play}

@@ -1,26 +1,17 @@
 -- The steps by which the code judges a row. No promise speaks of them: each is a part of a definition of `Script.antt`.
-use Rattle.std.specs.Prelude.{ℕ, ◌<◌, ◌≤◌, ◌==◌, suc, Bool, ◌&&◌, List, [], ◌∷◌, length, Option, Some, None, Result, Ok}
+use Rattle.std.specs.Prelude.{◌==◌, Bool, ◌&&◌, ◌∷◌, length, Option, Some, None, Result, Ok}
 use Rattle.std.specs.Prelude.{Err, if◌then◌else◌, nat_lt}
-use Rattle.std.specs.Prelude.{nat_le, codes}
-use Rattle.std.specs.Prelude.{ℤ, pos, neg_ℤ, unsigned_abs, IfSome}
+use Rattle.std.specs.Prelude.{nat_le}
 use Rattle.std.specs.Char.{is_ascii_digit}
 use Rattle.std.specs.List.{list_all}
-use Rattle.std.specs.Str.{bytes_eq}
-use Rattle.std.specs.Str.Parse.{digits_value}
-use Rattle.csv.specs.Reading.{default_config, records, strip_bom}
 use Rattle.tc_address.specs.declared.count.Count.{Count}
-use Rattle.tc_address.specs.declared.direction.Direction.{Direction}
-use Rattle.tc_address.specs.declared.direction.Direction.TheVariants as directions
 use Rattle.tc_address.specs.Label.{Address}
-use Rattle.tc_address.specs.Numbering.{number_of, day_length}
-use Rattle.tc_address.specs.Spelling.{label_in}
+use Rattle.tc_address.specs.Numbering.{number_of}
 use Rattle.chase_core.specs.declared.command.Command as command
 use Rattle.chase_core.specs.declared.command.Command.TheVariants as commands
 use Rattle.chase_core.specs.declared.command.Master as master
-use Rattle.chase_core.specs.Step.{IsCommandOf}
 use Rattle.chase_script.specs.declared.column.Column as column
 use Rattle.chase_script.specs.declared.column.Column.TheVariants as columns
-use Rattle.chase_script.specs.declared.fault.RowFault.{RowFault}
 use Rattle.chase_script.specs.declared.row.ScriptRow.{ScriptRow}
 use Rattle.chase_script.specs.Script.{Field, Script, and_then, command_in, direction_in, master_in, slip_in}
 

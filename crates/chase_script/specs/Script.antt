@@ -1,6 +1,6 @@
 -- The chase script: a text of comma-separated values, a record a row. The form is this project's own; the records are
 -- those of RFC 4180, as `csv` reads them.
-use Rattle.std.specs.Prelude.{ℕ, ◌<◌, ◌≤◌, ◌==◌, suc, Bool, ◌&&◌, List, [], ◌∷◌, length, Option, Some, None, Result, Ok}
+use Rattle.std.specs.Prelude.{ℕ, ◌<◌, ◌≤◌, ◌==◌, suc, ◌&&◌, List, [], ◌∷◌, length, Option, Some, None, Result, Ok}
 use Rattle.std.specs.Prelude.{Err, if◌then◌else◌, nat_lt}
 use Rattle.std.specs.Prelude.{nat_le, codes}
 use Rattle.std.specs.Prelude.{ℤ, pos, neg_ℤ, unsigned_abs, IfSome}
@@ -13,7 +13,6 @@ use Rattle.line_text.specs.Line.{direction_named}
 use Rattle.csv.specs.Reading.{default_config, records, strip_bom}
 use Rattle.tc_address.specs.declared.count.Count.{Count}
 use Rattle.tc_address.specs.declared.direction.Direction.{Direction}
-use Rattle.tc_address.specs.Label.{Address}
 use Rattle.tc_address.specs.Numbering.{number_of, day_length}
 use Rattle.tc_address.specs.Spelling.{label_in}
 use Rattle.chase_core.specs.declared.command.Command as command

@@ -22,7 +22,7 @@ use Rattle.chase_core.specs.NextRow.{ReadsOn}
 use Rattle.chase_core.specs.declared.report.Loss.{Loss}
 use Rattle.chase_core.specs.declared.report.Loss.TheVariants.{NoCode, Window}
 use Rattle.chase_core.specs.declared.report.State.TheVariants as states
-use Rattle.chase_core.specs.Step.{after_command, error_to, kept, located, outcome_of, pulled, state_of}
+use Rattle.chase_core.specs.Step.{after_command, error_to, kept, located, outcome_of, state_of}
 use Rattle.chase_core.specs.Trace.{AreRowsOf, GoesOn, IsOnTheDay, IsSteadyFromTo, Loop, Row, Traced, after_row}
 use Rattle.chase_core.specs.Trace.{after_rows, lock_bound, loop_at}
 use Rattle.chase_core.specs.Trace.{starts_at, trace, traced}

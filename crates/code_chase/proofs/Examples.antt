@@ -1,5 +1,5 @@
 -- The first slips of three seeds, worked out by Python's whole numbers.
-use Rattle.std.proofs.Common.{◌≡◌, inl, inr, ℕ, zero, suc, ℤ, pos, neg_ℤ, true, false, Some, List, [], ◌∷◌, refl, subst}
+use Rattle.std.proofs.Common.{◌≡◌, inl, inr, ℕ, zero, suc, pos, neg_ℤ, true, false, Some, List, [], ◌∷◌, refl, subst}
 use Rattle.generator.specs.Draw.{drawn}
 use Rattle.tc_address.specs.declared.count.Count.TheVariants.{C25}
 use Rattle.tc_address.specs.declared.direction.Direction.TheVariants.{Forward}

@@ -6,7 +6,6 @@ use Rattle.std.specs.Prelude.{nat_lt, slice_index}
 use Rattle.std.proofs.lemmas.Grind.{common_steps}
 use Rattle.std.proofs.lemmas.List.{map-append, length-map}
 use Rattle.biphase.specs.declared.cell.Cell.{Cell}
-use Rattle.biphase.specs.declared.cell.Cell.TheVariants.{Zero, One}
 use Rattle.biphase.specs.Tolerance.{length_of}
 use Rattle.biphase.specs.Chain.{bit_of, bits}
 use Rattle.tc_address.specs.declared.system.System.{System}

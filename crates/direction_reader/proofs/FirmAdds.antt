@@ -1,6 +1,6 @@
 -- What is kept of some cells, with a word that waits, becomes what is kept of one cell more; and the numbers of what is
 -- given lie within those of the cells.
-use Rattle.std.proofs.Common.{◌≡◌, ◌<◌, ◌≤◌, ℕ, ◌+◌, ◌-◌, Bool, true, false, List, [], ◌∷◌, ◌++◌, length, Option, Some}
+use Rattle.std.proofs.Common.{◌≡◌, ◌≤◌, ℕ, ◌+◌, ◌-◌, Bool, true, false, List, [], ◌∷◌, ◌++◌, length, Option, Some}
 use Rattle.std.proofs.Common.{None, IfSome}
 use Rattle.std.proofs.Common.{ap, sym, ◌∙◌, arith, refl, subst, length-append, append-nil, inl, inr, map}
 use Rattle.std.specs.Prelude.{nat_lt}
@@ -17,7 +17,6 @@ use Rattle.direction_reader.specs.declared.event.Event.{Event}
 use Rattle.direction_reader.specs.declared.event.Event.TheVariants.{Word, Refused, Lost}
 use Rattle.direction_reader.specs.declared.firm_event.FirmEvent.{FirmEvent}
 use Rattle.direction_reader.specs.declared.firm_event.FirmEvent.TheVariants.{Told, Alone}
-use Rattle.direction_reader.specs.declared.waiting.Heard.{Heard}
 use Rattle.direction_reader.specs.declared.waiting.Waiting.{Waiting}
 use Rattle.direction_reader.specs.Beside.{BesideBits, none_beside, beside_with, is_firm_before, is_sync_behind}
 use Rattle.direction_reader.specs.Brings.{IsWordAt}
@@ -27,7 +26,7 @@ use Rattle.direction_reader.specs.FirmStandsFor.{KeptFirm, FirmCellsStandFor, Wa
 use Rattle.direction_reader.specs.FirmStep.{FindsAt, AreWindowCandidates, heard, began, or_else, ended, firm_list}
 use Rattle.direction_reader.specs.FirmStep.{IsWithin, IsToldWithin, firm_listed, until_of}
 use Rattle.direction_reader.specs.declared.firm_event.FirmEvents.{FirmEvents}
-use Rattle.direction_reader.specs.FirmStep.{IsWaitingWithin, WaitsWithin, TellsWithin}
+use Rattle.direction_reader.specs.FirmStep.{WaitsWithin, TellsWithin}
 use Rattle.direction_reader.specs.LatestBits.{after_bit}
 use Rattle.direction_reader.specs.LatestCells.{with_boundary}
 use Rattle.direction_reader.specs.ListEvents.{duration}

@@ -1,24 +1,23 @@
 -- What waits and what was given of some cells becomes what waits and is given of one cell more: a word that is read
 -- backward waits until its sixteen cells are there, and what comes in the meantime comes behind it, one event at most.
-use Rattle.std.proofs.Common.{◌≡◌, ◌<◌, ◌≤◌, ℕ, zero, suc, ◌+◌, ◌-◌, Bool, true, false, List, [], ◌∷◌, ◌++◌, length}
+use Rattle.std.proofs.Common.{◌≡◌, ◌<◌, ◌≤◌, ℕ, ◌+◌, ◌-◌, Bool, true, false, List, [], ◌∷◌, ◌++◌, length}
 use Rattle.std.proofs.Common.{take, drop, map, Option, Some, None}
 use Rattle.std.proofs.Common.{ap, ap₂, sym, ◌∙◌, arith, refl, subst, append_assoc, append-nil, length-append, inl, inr}
 use Rattle.std.proofs.Common.{◌⊎◌}
-use Rattle.std.specs.Prelude.{nat_lt, ◌==◌, ◌||◌}
+use Rattle.std.specs.Prelude.{nat_lt, ◌==◌}
 use Rattle.std.specs.Option.{option_map}
 use Rattle.std.proofs.lemmas.Bool.{cases_lt}
 use Rattle.std.proofs.lemmas.Grind.{common_steps}
 use Rattle.std.proofs.lemmas.List.{take-map, drop-map}
 use Rattle.biphase.specs.declared.cell.Cell.{Cell}
 use Rattle.biphase.specs.Chain.{bit_of, bits}
-use Rattle.ltc_word.specs.Reversal.{reversed_bits, ends_in_sync, EndsInSync}
+use Rattle.ltc_word.specs.Reversal.{reversed_bits, EndsInSync}
 use Rattle.tc_address.specs.declared.direction.Direction.TheVariants.{Forward, Backward}
 use Rattle.tc_address.specs.declared.system.System.{System}
 use Rattle.direction_reader.specs.declared.event.Event.{Event}
 use Rattle.direction_reader.specs.declared.event.Event.TheVariants.{Word, Refused, Lost}
 use Rattle.direction_reader.specs.declared.firm_event.FirmEvent.{FirmEvent}
 use Rattle.direction_reader.specs.declared.firm_event.FirmEvent.TheVariants.{Told}
-use Rattle.direction_reader.specs.declared.waiting.Heard.{Heard}
 use Rattle.direction_reader.specs.declared.waiting.Waiting.{Waiting}
 use Rattle.direction_reader.specs.Events.{listed}
 use Rattle.direction_reader.specs.Firm.{is_firm, judged, candidate_at, firm_candidate_at, firm_events_at}
@@ -31,7 +30,7 @@ use Rattle.direction_reader.proofs.AsLists.{bits_are}
 use Rattle.direction_reader.proofs.FirmWindows.{spans_join, span_one, spans_more, spans_same, spans_none}
 use Rattle.direction_reader.proofs.FirmWindows.{candidate_stays, forward_stays}
 use Rattle.direction_reader.proofs.FirmWindows.{events_stay, needs_stay, not_yet}
-use Rattle.direction_reader.proofs.InSync.{sync_true, sync_false, sync_holds}
+use Rattle.direction_reader.proofs.InSync.{sync_false}
 use Rattle.ltc_word.specs.SyncLemmas.{in_sync_or_not}
 use Rattle.direction_reader.proofs.SyncInTime.{WordLaws, window_bits}
 use Rattle.direction_reader.proofs.SyncsApart.{backwards_apart, forwards_apart}

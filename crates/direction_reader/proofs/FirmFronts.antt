@@ -1,16 +1,15 @@
 -- What is given of the front of a list comes first in what is given of the list, and in its events: a further cell
 -- decides of no window that was given whether it has its witness. And what follows ends later, since the windows of a
 -- list end one after another, with witnesses as without.
-use Rattle.std.proofs.Common.{◌≡◌, ◌<◌, ◌≤◌, ◌⊎◌, ℕ, ◌+◌, ◌-◌, Bool, true, List, [], ◌∷◌, ◌++◌, length, take, drop, map}
+use Rattle.std.proofs.Common.{◌≡◌, ◌<◌, ◌≤◌, ◌⊎◌, ℕ, ◌+◌, ◌-◌, Bool, List, [], ◌∷◌, ◌++◌, length, take, drop, map}
 use Rattle.std.proofs.Common.{sum}
 use Rattle.std.proofs.Common.{Option, Some, None, MatchOption, All, ap, ap₂, sym, ◌∙◌, arith, refl, subst, inl, inr}
-use Rattle.std.proofs.Common.{append_assoc, append-nil, length-append, zero, suc}
+use Rattle.std.proofs.Common.{append_assoc, append-nil, length-append}
 use Rattle.std.specs.List.{flat_map, AllZip}
 use Rattle.std.proofs.lemmas.Bool.{cases_lt}
 use Rattle.std.proofs.lemmas.List.{append_cancel_left, map-append, take-append-drop, take_all}
 use Rattle.std.proofs.lemmas.List.Elements.{All-nil, All-cons, All-append, All-head, All-tail, All-same}
 use Rattle.std.proofs.lemmas.List.Sums.{sum_by-append}
-use Rattle.std.proofs.lemmas.Option.{MatchOption-at_some}
 use Rattle.biphase.specs.declared.cell.Cell.{Cell}
 use Rattle.biphase.specs.declared.profile.Profile.{Profile}
 use Rattle.biphase.specs.Chain.{flat}
@@ -27,7 +26,6 @@ use Rattle.direction_reader.specs.Firm.{firm_events_of_cells, firm_events_of_str
 use Rattle.direction_reader.specs.FirmStandsFor.{spans, NeedsNone}
 use Rattle.direction_reader.specs.FirmTape.{IsJudged}
 use Rattle.direction_reader.specs.FirmTold.{AreTold, AreToldOfCells, AreToldOfStretches, ComesFirst, IsWaiting}
-use Rattle.direction_reader.specs.FirmTold.{end_of_window}
 use Rattle.direction_reader.specs.Gathered.{begin_of}
 use Rattle.direction_reader.specs.ListEvents.{AreEvents, break_events, duration}
 use Rattle.direction_reader.specs.StandsFor.{AreInside, IsInside}
@@ -36,8 +34,8 @@ use Rattle.direction_reader.proofs.FirmCellsGrow.{alone_before, apart, both_ways
 use Rattle.direction_reader.proofs.FirmJudges.{list_judged}
 use Rattle.direction_reader.proofs.FirmSteps.{stretch_stays}
 use Rattle.direction_reader.proofs.FirmTicks.{IsFrom, candidate_from, first_tick, front_lasts, judged_tick, spans_from}
-use Rattle.direction_reader.proofs.FirmToldYet.{some_told, waits_or_not}
-use Rattle.direction_reader.proofs.FirmWindows.{behind_stays, candidate_stays, forward_stays, spans_join, spans_more}
+use Rattle.direction_reader.proofs.FirmToldYet.{waits_or_not}
+use Rattle.direction_reader.proofs.FirmWindows.{behind_stays, candidate_stays, forward_stays, spans_join}
 use Rattle.direction_reader.proofs.FirmWindows.{spans_same}
 use Rattle.direction_reader.proofs.FrontsFirst.{StretchesGoOn, stretch_inside}
 use Rattle.direction_reader.proofs.OneListOfEvents.{HasOneList}

@@ -1,16 +1,14 @@
 -- Each window has the same candidates with and without witnesses, and each of them is judged by itself.
-use Rattle.std.proofs.Common.{◌≡◌, ◌<◌, ◌≤◌, ℕ, zero, suc, ◌+◌, ◌-◌, Bool, true, false, List, [], ◌∷◌, ◌++◌, length}
+use Rattle.std.proofs.Common.{◌≡◌, ◌≤◌, ℕ, zero, suc, ◌+◌, ◌-◌, Bool, true, false, List, [], ◌∷◌, ◌++◌, length}
 use Rattle.std.proofs.Common.{take, drop, map, sum}
 use Rattle.std.proofs.Common.{ap, ap₂, sym, ◌∙◌, arith, refl, subst, append-nil, inl, inr, Some, None, Option, All}
-use Rattle.std.specs.Prelude.{nat_lt, ◌==◌, ◌||◌}
 use Rattle.std.specs.List.{flat_map, range_with_len, AllZip}
-use Rattle.std.proofs.lemmas.Grind.{common_steps}
-use Rattle.std.proofs.lemmas.List.Elements.{All-nil, All-cons, All-append, All-head, All-tail, All-same}
+use Rattle.std.proofs.lemmas.List.Elements.{All-nil, All-cons, All-append, All-head, All-tail}
 use Rattle.biphase.specs.declared.cell.Cell.{Cell}
 use Rattle.biphase.specs.declared.profile.Profile.{Profile}
-use Rattle.cell_tracker.specs.ChainPiece.{IsPiece, cells_from, stretch_of_piece}
-use Rattle.cell_tracker.specs.Lock.{IsLock, HasNoLock}
-use Rattle.cell_tracker.specs.Stretch.{Stretch, AreStretches, AreStretchesFrom}
+use Rattle.cell_tracker.specs.ChainPiece.{cells_from, stretch_of_piece}
+use Rattle.cell_tracker.specs.Lock.{HasNoLock}
+use Rattle.cell_tracker.specs.Stretch.{Stretch, AreStretches}
 use Rattle.ltc_word.specs.Reading.{fault_in, word_in}
 use Rattle.ltc_word.specs.Reversal.{reversed_bits, ends_in_sync}
 use Rattle.tc_address.specs.declared.direction.Direction.{Direction}
@@ -20,7 +18,7 @@ use Rattle.tc_bits.specs.declared.fault.FieldFault.{FieldFault}
 use Rattle.direction_reader.specs.declared.event.Event.{Event}
 use Rattle.direction_reader.specs.declared.event.Event.TheVariants.{Word, Refused, Lost}
 use Rattle.direction_reader.specs.declared.firm_event.FirmEvent.{FirmEvent}
-use Rattle.direction_reader.specs.declared.firm_event.FirmEvent.TheVariants.{Told, Alone}
+use Rattle.direction_reader.specs.declared.firm_event.FirmEvent.TheVariants.{Told}
 use Rattle.direction_reader.specs.Candidate.{event_of, candidate_in}
 use Rattle.direction_reader.specs.Firm.{AreFirmEvents, is_firm, judged, candidate_at, firm_candidate_at, firm_events_at}
 use Rattle.direction_reader.specs.Firm.{firm_events_of_cells}

@@ -3,29 +3,27 @@
 use Rattle.std.proofs.Common.{◌≡◌, ◌<◌, ◌≤◌, ℕ, zero, suc, ◌+◌, ◌-◌, ◌*◌, ◌/◌, ◌%◌, ◌^◌, Bool, true, false, List, []}
 use Rattle.std.proofs.Common.{◌∷◌, ◌++◌, length, take, drop, map}
 use Rattle.std.proofs.Common.{ap, ap₂, sym, ◌∙◌, arith, refl, subst, append_assoc, append-nil, length-append, inl, inr}
-use Rattle.std.proofs.Common.{Option, Some, None, IfSome, replicate, min, mul_assoc}
-use Rattle.std.specs.Prelude.{nat_lt, ◌==◌, ◌||◌, slice_index}
+use Rattle.std.proofs.Common.{replicate, min, mul_assoc}
+use Rattle.std.specs.Prelude.{nat_lt, ◌==◌, slice_index}
 use Rattle.std.specs.Option.{option_map}
 use Rattle.std.proofs.lemmas.Bool.{cases_lt}
 use Rattle.std.proofs.lemmas.Grind.{common_steps}
 use Rattle.std.proofs.lemmas.Nat.{pow-add}
-use Rattle.std.proofs.lemmas.List.{take-append-drop, take_all, length-take, length-drop, length-map, map-append}
+use Rattle.std.proofs.lemmas.List.{take-append-drop, take_all, length-take, length-drop, length-map}
 use Rattle.std.proofs.lemmas.List.{drop-drop, take-map, drop-map}
 use Rattle.biphase.specs.declared.cell.Cell.{Cell}
 use Rattle.biphase.specs.Chain.{bit_of, bits}
-use Rattle.biphase.specs.Tolerance.{length_of}
 use Rattle.tc_address.specs.declared.direction.Direction.TheVariants.{Forward, Backward}
 use Rattle.tc_address.specs.declared.system.System.{System}
 use Rattle.direction_reader.specs.declared.candidates.Candidates.{Candidates}
 use Rattle.direction_reader.specs.declared.event.Event.{Event}
-use Rattle.direction_reader.specs.declared.firm_event.FirmEvent.{FirmEvent}
 use Rattle.direction_reader.specs.declared.latest_bits.LatestBits.{LatestBits}
 use Rattle.direction_reader.specs.declared.latest_bits.LatestBits.TheVariants as latest
 use Rattle.direction_reader.specs.Beside.{BesideBits, none_beside, beside_with, is_firm_before, is_sync_behind}
 use Rattle.direction_reader.specs.Events.{listed}
-use Rattle.direction_reader.specs.Firm.{is_firm, judged, candidate_at, firm_candidate_at, sync_in_time}
+use Rattle.direction_reader.specs.Firm.{is_firm, judged, candidate_at, sync_in_time}
 use Rattle.direction_reader.specs.FirmStandsFor.{beside_of}
-use Rattle.direction_reader.specs.FirmStep.{AreWindowCandidates, AreCandidatesOf, firm_listed, no_candidates}
+use Rattle.direction_reader.specs.FirmStep.{AreWindowCandidates, AreCandidatesOf, no_candidates}
 use Rattle.direction_reader.specs.LatestCells.{Cells}
 use Rattle.direction_reader.specs.ListEvents.{bits_in, duration}
 use Rattle.direction_reader.specs.StandsFor.{BitsStandFor, CellsStandFor}

@@ -2,8 +2,8 @@
 -- word beside it, and that one is at the edge. So a witness changes nothing.
 use Rattle.std.proofs.Common.{◌≡◌, ◌<◌, ◌≤◌, ℕ, zero, suc, ◌+◌, ◌-◌, ◌*◌, ◌/◌, ◌%◌, ◌^◌, Bool, true, false, List, []}
 use Rattle.std.proofs.Common.{◌∷◌, ◌++◌, length, take, drop, map}
-use Rattle.std.proofs.Common.{ap, ap₂, sym, ◌∙◌, arith, refl, subst, length-append, append-nil, inl, inr, ◌⊎◌}
-use Rattle.std.specs.Prelude.{nat_lt, ◌==◌, ◌||◌}
+use Rattle.std.proofs.Common.{ap, ap₂, sym, ◌∙◌, arith, refl, subst, append-nil, inl, inr, ◌⊎◌}
+use Rattle.std.specs.Prelude.{nat_lt}
 use Rattle.std.specs.List.{flat_map, range_with_len}
 use Rattle.std.proofs.lemmas.Bool.{cases_lt}
 use Rattle.std.proofs.lemmas.Grind.{common_steps}
@@ -35,7 +35,7 @@ use Rattle.direction_reader.proofs.FirmKept.{cells_number, number_below, number_
 use Rattle.direction_reader.proofs.FirmWindows.{not_yet}
 use Rattle.ltc_word.specs.SyncLemmas.{in_sync_or_not}
 use Rattle.direction_reader.proofs.SyncsApart.{next_clear, fourteenth_clear, fifteenth_clear}
-use Rattle.direction_reader.proofs.SyncInTime.{WordLaws, Plays, Starts, Twelve, at, window_bits, plays}
+use Rattle.direction_reader.proofs.SyncInTime.{WordLaws, Plays, Twelve, at, window_bits, plays}
 use Rattle.direction_reader.specs.PlayedLemmas.{length-low_bits, length-bits_of_words}
 use Rattle.direction_reader.proofs.SyncInTime.{quiet_forward, quiet_backward, led}
 use Rattle.direction_reader.proofs.SyncInTime.{lead_forward, lead_backward, no_other_way, no_way_forward, backward_ones}

@@ -1,8 +1,8 @@
 -- Each step of the tracker takes the reader that needs witnesses from a list, with what is given of it, to the list
 -- with one interval more.
-use Rattle.std.proofs.Common.{◌≡◌, ◌<◌, ◌≤◌, ℕ, ◌+◌, ◌-◌, List, [], ◌∷◌, ◌++◌, length, take, sum, map, ap, ap₂, sym}
+use Rattle.std.proofs.Common.{◌≡◌, ◌≤◌, ℕ, ◌+◌, ◌-◌, List, [], ◌∷◌, ◌++◌, length, take, sum, map, ap, ap₂, sym}
 use Rattle.std.proofs.Common.{◌∙◌, arith, refl, subst}
-use Rattle.std.proofs.Common.{append-nil, append_assoc, length-append, Some, None, Option, IsSome, Bool, false}
+use Rattle.std.proofs.Common.{append-nil, append_assoc, Some, None, Option, IsSome, Bool, false}
 use Rattle.std.specs.List.{flat_map}
 use Rattle.std.proofs.lemmas.Grind.{flat_map-append}
 use Rattle.std.proofs.lemmas.List.{take-append-le, take_all}

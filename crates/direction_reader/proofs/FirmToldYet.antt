@@ -1,8 +1,8 @@
 -- What a reader has given is what is given of its list while more may follow. At most one word waits, so a list has one
 -- such list of events.
-use Rattle.std.proofs.Common.{◌≡◌, ◌<◌, ◌≤◌, ℕ, zero, suc, ◌+◌, ◌-◌, List, [], ◌∷◌, ◌++◌, length, Some, None, Option}
+use Rattle.std.proofs.Common.{◌≡◌, ◌<◌, ◌≤◌, ℕ, zero, suc, ◌+◌, List, [], ◌∷◌, ◌++◌, length, Some, None, Option}
 use Rattle.std.proofs.Common.{ap, sym, ◌∙◌}
-use Rattle.std.proofs.Common.{arith, refl, subst, append-nil, append_assoc, inl, inr, ◌⊎◌, All, Bool, true, false, map}
+use Rattle.std.proofs.Common.{arith, refl, subst, append-nil, append_assoc, inl, inr, ◌⊎◌, All, true, false, map}
 use Rattle.std.proofs.Common.{take, sum, drop}
 use Rattle.std.proofs.Common.{length-append, MatchOption, IsSome}
 use Rattle.std.specs.List.{flat_map}
@@ -12,18 +12,18 @@ use Rattle.biphase.specs.declared.cell.Cell.{Cell}
 use Rattle.biphase.specs.declared.profile.Profile.{Profile}
 use Rattle.cell_tracker.specs.Stretch.{Stretch, IsBroken, AreStretches, AreStretchesFrom}
 use Rattle.ltc_word.specs.Reversal.{reversed_bits, ends_in_sync}
-use Rattle.tc_address.specs.declared.direction.Direction.TheVariants.{Forward, Backward}
+use Rattle.tc_address.specs.declared.direction.Direction.TheVariants.{Backward}
 use Rattle.tc_address.specs.declared.system.System.{System}
 use Rattle.direction_reader.specs.declared.event.Event.{Event}
 use Rattle.direction_reader.specs.declared.event.Event.TheVariants.{Word, Refused, Lost}
 use Rattle.direction_reader.specs.declared.firm_event.FirmEvent.{FirmEvent}
 use Rattle.direction_reader.specs.declared.firm_event.FirmEvent.TheVariants.{Told, Alone}
 use Rattle.direction_reader.specs.declared.waiting.Waiting.{Waiting}
-use Rattle.direction_reader.specs.Events.{is_word, tick_of}
-use Rattle.direction_reader.specs.Firm.{candidate_at, firm_candidate_at, firm_events_of_cells, judged}
+use Rattle.direction_reader.specs.Events.{is_word}
+use Rattle.direction_reader.specs.Firm.{candidate_at, firm_events_of_cells, judged}
 use Rattle.direction_reader.specs.Firm.{firm_events_of_stretch}
 use Rattle.direction_reader.specs.FirmReader.{FirmState, FirmLatest, FirmStandsFor, told_until}
-use Rattle.direction_reader.specs.FirmStandsFor.{WaitsFor, NeedsNone, spans}
+use Rattle.direction_reader.specs.FirmStandsFor.{WaitsFor, NeedsNone}
 use Rattle.direction_reader.specs.FirmStep.{until_of}
 use Rattle.direction_reader.specs.FirmTold.{IsWaiting, AreToldOfCells, AreToldOfStretches, AreTold, end_of_window}
 use Rattle.direction_reader.specs.Gathered.{begin_of}

@@ -2,10 +2,8 @@
 -- sixteen cells before. So what was given stays.
 use Rattle.std.proofs.Common.{◌≡◌, ◌<◌, ◌≤◌, ℕ, zero, suc, ◌+◌, ◌-◌, Bool, true, false, List, [], ◌∷◌, ◌++◌, length}
 use Rattle.std.proofs.Common.{take, drop, map}
-use Rattle.std.proofs.Common.{ap, ap₂, sym, ◌∙◌, arith, refl, subst, append_assoc, append-nil, length-append, inl, inr}
-use Rattle.std.proofs.Common.{◌⊎◌, ◌≢◌}
-use Rattle.std.specs.Prelude.{nat_lt, ◌==◌, ◌||◌}
-use Rattle.std.specs.List.{flat_map, range_with_len}
+use Rattle.std.proofs.Common.{ap, ap₂, sym, ◌∙◌, arith, refl, append_assoc, append-nil, length-append, inl, inr}
+use Rattle.std.specs.Prelude.{nat_lt}
 use Rattle.std.proofs.lemmas.Bool.{cases_lt}
 use Rattle.std.proofs.lemmas.Grind.{common_steps}
 use Rattle.std.proofs.lemmas.List.{take-append-le, drop-append-le, length-drop}
@@ -15,9 +13,8 @@ use Rattle.tc_address.specs.declared.direction.Direction.TheVariants.{Forward, B
 use Rattle.tc_address.specs.declared.system.System.{System}
 use Rattle.direction_reader.specs.declared.event.Event.{Event}
 use Rattle.direction_reader.specs.declared.firm_event.FirmEvent.{FirmEvent}
-use Rattle.direction_reader.specs.Firm.{is_firm, judged, candidate_at, firm_candidate_at, firm_events_at, sync_in_time}
+use Rattle.direction_reader.specs.Firm.{is_firm, judged, candidate_at, firm_candidate_at, firm_events_at}
 use Rattle.direction_reader.specs.FirmStandsFor.{spans, NeedsNone}
-use Rattle.direction_reader.specs.ListEvents.{bits_in, duration}
 
 -- ---- some windows from a place on
 

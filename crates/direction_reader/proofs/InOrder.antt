@@ -1,11 +1,11 @@
 -- The ticks of events do not fall: windows end one after another, a stretch breaks behind its cells, and the next one
 -- locks there or later.
 use Rattle.std.proofs.Common.{◌≡◌, ◌≤◌, ℕ, zero, suc, ◌+◌, ◌-◌, List, [], ◌∷◌, ◌++◌, length, take, drop, map, sum, All}
-use Rattle.std.proofs.Common.{Option, Some, None, MatchOption, get_or, refl, sym, ◌∙◌, ap, subst, arith, append-nil}
+use Rattle.std.proofs.Common.{Option, Some, None, MatchOption, get_or, refl, sym, ◌∙◌, ap, subst, arith}
 use Rattle.std.specs.List.{flat_map, range_with_len}
 use Rattle.std.proofs.lemmas.List.{map-append}
 use Rattle.std.proofs.lemmas.List.Elements.{All-append, All-head, All-tail}
-use Rattle.std.proofs.lemmas.List.Sums.{sum_by-cons, sum_by-take-le}
+use Rattle.std.proofs.lemmas.List.Sums.{sum_by-take-le}
 use Rattle.biphase.specs.declared.cell.Cell.{Cell}
 use Rattle.biphase.specs.declared.cell.Cell.TheVariants.{Zero}
 use Rattle.biphase.specs.declared.profile.Profile.{Profile}
@@ -14,7 +14,6 @@ use Rattle.cell_tracker.specs.Stretch.{AreStretchesFrom, IsStretch, Stretch, end
 use Rattle.tc_address.specs.declared.direction.Direction.TheVariants.{Forward, Backward}
 use Rattle.tc_address.specs.declared.system.System.{System}
 use Rattle.direction_reader.specs.declared.event.Event.{Event}
-use Rattle.direction_reader.specs.declared.event.Event.TheVariants.{Lost}
 use Rattle.direction_reader.specs.Events.{tick_of}
 use Rattle.direction_reader.specs.Firm.{candidate_at, DoNotFall}
 use Rattle.direction_reader.specs.FirmTold.{end_of_window}

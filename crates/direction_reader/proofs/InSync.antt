@@ -1,5 +1,5 @@
 -- Whether bits end in the sync word, as a test and as a fact; and how the candidate of a window is listed.
-use Rattle.std.proofs.Common.{◌≡◌, ◌↔◌, ℕ, Bool, true, false, IsTrue, List, [], Some, None, IsSomeAnd, inl, inr, refl}
+use Rattle.std.proofs.Common.{◌≡◌, ℕ, true, false, List, inl, inr, refl}
 use Rattle.std.proofs.Common.{◌⊎◌}
 use Rattle.std.proofs.lemmas.Bool.Decides.{eqb_tells}
 use Rattle.ltc_word.specs.declared.places.TheConstants.{SYNC, SYNC_PATTERN}

@@ -6,7 +6,6 @@ use Rattle.std.proofs.Common.{sum, get_or, Option, Some, None, IsSomeAnd}
 use Rattle.std.proofs.Common.{ap, arith, append_assoc, append-nil, length-append, inl, inr, refl, subst, sym, ◌∙◌, All}
 use Rattle.std.specs.List.{AllZip, range_with_len}
 use Rattle.std.proofs.Math.Seq.{take-append_seam}
-use Rattle.std.proofs.lemmas.Bool.{cases_lt}
 use Rattle.std.proofs.lemmas.Grind.{flat_map-append, reverse_onto}
 use Rattle.std.proofs.lemmas.List.{length-reverse, reverse-append, take-append-drop, length-take, length-drop}
 use Rattle.std.proofs.lemmas.List.{get_or-drop}
@@ -42,8 +41,7 @@ use Rattle.direction_reader.proofs.FrontsFirst.{windows_split}
 use Rattle.direction_reader.proofs.LaterEvents.{EndsFrom, Positive, all_later_than, both_windows, front_lasts_longer}
 use Rattle.direction_reader.proofs.LaterEvents.{positive_chain, windows_from}
 use Rattle.direction_reader.proofs.MirroredWindows.{mirror_window, mirrored_windows, sum_reverse}
-use Rattle.direction_reader.proofs.WindowsFromCells.{duration_of, windows_cons, front_longer, front_within}
-use Rattle.direction_reader.proofs.WindowsGrow.{few}
+use Rattle.direction_reader.proofs.WindowsFromCells.{front_within}
 
 -- bits in the other order twice are the bits
 abbrev pub TurnsBack : Type 0

@@ -1,16 +1,13 @@
 -- The bits of a candidate spell one word or have one first fault, so a window has one list of events.
-use Rattle.std.proofs.Common.{◌≡◌, ◌⊎◌, ℕ, ap, ap₂, sym, ◌∙◌, Some, None, IsSomeAnd, inl, inr}
-use Rattle.std.proofs.lemmas.Bool.Decides.{eqb_tells}
+use Rattle.std.proofs.Common.{◌≡◌, ℕ, ap, ap₂, sym, ◌∙◌, Some, None, IsSomeAnd, inl, inr}
 use Rattle.std.specs.declared.option.Option.{Option}
 use Rattle.ltc_word.specs.SyncLemmas.{in_sync_or_not}
 use Rattle.tc_address.specs.declared.system.System.{System}
 use Rattle.tc_address.specs.declared.direction.Direction.{Direction}
 use Rattle.tc_address.specs.declared.direction.Direction.TheVariants.{Forward, Backward}
 use Rattle.ltc_word.specs.declared.word.LtcWord.{LtcWord}
-use Rattle.tc_bits.specs.Register.{number_in}
-use Rattle.ltc_word.specs.declared.places.TheConstants.{SYNC, SYNC_PATTERN}
 use Rattle.ltc_word.specs.Fault.{first_fault}
-use Rattle.ltc_word.specs.Reversal.{EndsInSync, reversed_bits}
+use Rattle.ltc_word.specs.Reversal.{reversed_bits}
 use Rattle.ltc_word.specs.Spelling.{Spells}
 use Rattle.direction_reader.specs.declared.event.Event.{Event}
 use Rattle.direction_reader.specs.declared.event.Event.TheVariants.{Word, Refused, Lost}

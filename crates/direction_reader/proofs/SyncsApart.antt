@@ -2,12 +2,12 @@
 -- one
 -- falls on a zero of the other. So behind a word that is played backward at most one window is a candidate in each
 -- direction, until its witness is there.
-use Rattle.std.proofs.Common.{◌≡◌, ℕ, ◌+◌, ◌-◌, ◌%◌, ◌/◌, ◌^◌, ◌<◌, ◌≤◌, Bool, true, false, List, sym, ap, ◌∙◌, arith}
+use Rattle.std.proofs.Common.{◌≡◌, ℕ, ◌+◌, ◌-◌, ◌%◌, ◌/◌, ◌^◌, ◌<◌, ◌≤◌, Bool, true, false, List, sym, ◌∙◌, arith}
 use Rattle.std.proofs.Common.{inl, inr, subst}
 use Rattle.std.specs.Int.{bit_at}
-use Rattle.std.proofs.lemmas.Bool.{cases_lt, cases_order}
+use Rattle.std.proofs.lemmas.Bool.{cases_lt}
 use Rattle.ltc_word.specs.Reversal.{reversed_bits, EndsInSync}
-use Rattle.direction_reader.proofs.SyncInTime.{WordLaws, at, window_bits, Twelve, sync_bit, clear_78, clear_64, set_79}
+use Rattle.direction_reader.proofs.SyncInTime.{WordLaws, at, window_bits, sync_bit, clear_64, set_79}
 use Rattle.direction_reader.proofs.SyncInTime.{bit_of_window}
 use Rattle.direction_reader.proofs.SyncInTime.{true_of_one, false_of_zero, forward_ones, forward_clear, backward_ones}
 use Rattle.direction_reader.proofs.SyncInTime.{backward_set, true_false}

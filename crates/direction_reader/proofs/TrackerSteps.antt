@@ -5,8 +5,6 @@ use Rattle.biphase.specs.ToleranceLemmas.{last_at_lock, last_next}
 use Rattle.biphase.specs.Latest.{Latest}
 use Rattle.biphase.specs.declared.cell.Cell.TheVariants as cells
 use Rattle.biphase.specs.declared.profile.Profile.{Profile}
-use Rattle.biphase.specs.declared.profile.Profile.TheVariants.{Normal, Worn, Rough}
-use Rattle.biphase.specs.Tolerance.{kept_at_lock, kept_next}
 use Rattle.cell_tracker.specs.Answer.{KeepsOfHunting, KeepsOfAtCell, KeepsOfMidCell}
 use Rattle.cell_tracker.specs.State.{HuntingState, AtCellState, MidCellState, AtCellHeld, MidCellHeld, at_cell_with}
 use Rattle.cell_tracker.specs.State.{mid_cell_with}

@@ -2,10 +2,8 @@
 -- it has given and what `finish` gives are together the events of the list.
 use Rattle.std.specs.Prelude.{◌≡◌, ℕ, ◌+◌, ◌*◌, ◌≤◌, List, [], ◌++◌, length, sum, Option, Some, None, IfSome}
 use Rattle.std.specs.List.{flat_map}
-use Rattle.limits.specs.declared.recording.TheConstants.{MAX_INTERVAL}
 use Rattle.cell_tracker.specs.Stretch.{Stretch}
 use Rattle.tc_address.specs.declared.system.System.{System}
-use Rattle.direction_reader.specs.declared.event.Event.{Event}
 use Rattle.direction_reader.specs.declared.event.Event.TheVariants.{Word, Refused, Lost}
 use Rattle.direction_reader.specs.declared.firm_event.FirmEvent.{FirmEvent}
 use Rattle.direction_reader.specs.declared.firm_event.FirmEvent.TheVariants.{Told, Alone}

@@ -1,7 +1,6 @@
 -- What a cell does to a word that waits for its witness, in numbers. No public clause speaks of it.
-use Rattle.std.specs.Prelude.{◌≡◌, ℕ, ◌+◌, ◌-◌, List, [], ◌∷◌, ◌++◌, Option, Some, None, Bool, true, false, slice_index}
+use Rattle.std.specs.Prelude.{◌≡◌, ℕ, ◌+◌, ◌-◌, List, [], ◌∷◌, ◌++◌, Option, Some, None, Bool, false, slice_index}
 use Rattle.std.specs.Prelude.{nat_lt, if◌then◌else◌, IfSome, ◌≤◌, ◌*◌}
-use Rattle.std.specs.Option.{option_map}
 use Rattle.ltc_word.specs.Reversal.{reversed_bits}
 use Rattle.tc_address.specs.declared.direction.Direction.TheVariants.{Forward, Backward}
 use Rattle.tc_address.specs.declared.system.System.{System}

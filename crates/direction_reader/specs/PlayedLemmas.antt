@@ -2,7 +2,7 @@
 -- promise speaks of it.
 use Rattle.std.proofs.Common.{◌≡◌, ℕ, zero, suc, ◌+◌, ◌-◌, ◌*◌, ◌/◌, ◌%◌, ◌<◌, List, [], ◌∷◌, ◌++◌, length}
 use Rattle.std.proofs.Common.{length-append}
-use Rattle.std.proofs.Common.{ap, ◌∙◌, arith, refl, Bool}
+use Rattle.std.proofs.Common.{ap, ◌∙◌, arith, refl}
 use Rattle.std.specs.Prelude.{◌==◌}
 use Rattle.std.specs.List.{sum}
 use Rattle.std.proofs.lemmas.Grind.{flat_map-append}

@@ -1,12 +1,11 @@
 -- The words of what an interval brought are two at most, and they come in turn.
-use Rattle.std.proofs.Common.{◌≡◌, ℕ, ◌^◌, ◌<◌, ◌≤◌, ◌*◌, ◌+◌, List, [], ◌∷◌, ◌++◌, length, length-append, ◌∙◌, ap}
+use Rattle.std.proofs.Common.{◌≡◌, ℕ, ◌^◌, ◌<◌, ◌≤◌, List, [], ◌∷◌, ◌++◌, length, length-append, ◌∙◌, ap}
 use Rattle.std.proofs.Common.{arith, map, refl}
-use Rattle.std.proofs.Common.{append-nil, false, sym, Bool, true}
+use Rattle.std.proofs.Common.{append-nil, false, true}
 use Rattle.std.specs.Prelude.{IfSome, Some, None, All}
 use Rattle.std.specs.declared.option.Option.{Option}
 use Rattle.std.proofs.lemmas.Grind.{flat_map-append}
 use Rattle.std.proofs.lemmas.List.Elements.{All-nil, All-cons, All-append, All-head, All-tail}
-use Rattle.limits.specs.declared.recording.TheConstants.{MAX_INTERVAL, MAX_INTERVALS}
 use Rattle.direction_reader.specs.declared.event.Event.{Event}
 use Rattle.direction_reader.specs.declared.event.Event.TheVariants as events
 use Rattle.direction_reader.specs.declared.event.Events.{Events}
@@ -14,7 +13,7 @@ use Rattle.direction_reader.specs.declared.firm_event.FirmEvent.{FirmEvent}
 use Rattle.direction_reader.specs.declared.firm_event.FirmEvent.TheVariants.{Told, Alone}
 use Rattle.direction_reader.specs.declared.firm_event.FirmEvents.{FirmEvents}
 use Rattle.direction_reader.specs.Brings.{Brings, IsLatest}
-use Rattle.direction_reader.specs.Events.{event_list, listed, is_word}
+use Rattle.direction_reader.specs.Events.{event_list, listed}
 use Rattle.direction_reader.specs.Firm.{told_tick, DoNotFall}
 use Rattle.direction_reader.specs.FirmReader.{FirmBrings, IsToldBy}
 use Rattle.direction_reader.specs.FirmStep.{firm_list, firm_listed, IsNoWord}

@@ -1,12 +1,12 @@
 -- Behind an interval the counts have room for the frames of two words more, and the words that it brought come behind
 -- those that were heard.
-use Rattle.std.proofs.Common.{◌≡◌, ℕ, ◌+◌, ◌*◌, ◌^◌, ◌<◌, ◌≤◌, List, arith}
+use Rattle.std.proofs.Common.{ℕ, ◌+◌, ◌*◌, ◌^◌, ◌<◌, ◌≤◌, List, arith}
 use Rattle.limits.specs.declared.recording.TheConstants.{MAX_INTERVALS}
 use Rattle.direction_reader.specs.Firm.{DoNotFall}
 use Rattle.flywheel.specs.declared.heard.HeardWord.{HeardWord}
 use Rattle.frame_commands.specs.declared.frames.Frames.{Frames}
 use Rattle.frame_commands.specs.Hearing.{Hearer, HearsOn, word_ticks}
-use Rattle.frame_commands.specs.KeptFlight.{FitsFlight, FitsHearing, FitsSink, HeardBy, IsReady, TakesTurns}
+use Rattle.frame_commands.specs.KeptFlight.{FitsHearing, FitsSink, IsReady, TakesTurns}
 use Rattle.frame_commands.proofs.NextFrame.{heard_later}
 
 pub ready_for : (h now : Hearer) (f : Frames) (words : List HeardWord) (own count x : ℕ) → FitsHearing h f own count

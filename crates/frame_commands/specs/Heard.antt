@@ -1,7 +1,6 @@
 -- Which events are heard of a list of intervals: those of a reading that gives each word, or of one that needs for each
 -- word a witness, without the words that are alone.
-use Rattle.std.specs.Prelude.{◌≡◌, ℕ, ◌+◌, ◌*◌, ◌≤◌, List, [], ◌∷◌, ◌++◌, length, map, sum}
-use Rattle.limits.specs.declared.recording.TheConstants.{MAX_INTERVAL}
+use Rattle.std.specs.Prelude.{◌≡◌, ℕ, List, [], ◌∷◌, sum}
 use Rattle.biphase.specs.declared.profile.Profile.{Profile}
 use Rattle.direction_reader.specs.declared.event.Event.{Event}
 use Rattle.direction_reader.specs.declared.firm_event.FirmEvent.{FirmEvent}

@@ -1,5 +1,5 @@
 -- `ltc-fly`: a line of each frame of a recording.
-use Rattle.std.specs.Prelude.{◌≡◌, ℕ, true, false, List, ◌++◌, length, count_by, sum, map, Some, None}
+use Rattle.std.specs.Prelude.{◌≡◌, ℕ, false, List, ◌++◌, length, count_by, sum, map, Some, None}
 use Rattle.std.specs.List.{flat_map}
 use Rattle.direction_reader.specs.declared.event.Event.{Event}
 use Rattle.flywheel.specs.declared.frame.Frame.{Frame}

@@ -1,5 +1,5 @@
 -- `ltc-jam`: the frames of a recording anew, in cells of one length.
-use Rattle.std.specs.Prelude.{◌≡◌, ℕ, true, false, List, [], Some, None, map}
+use Rattle.std.specs.Prelude.{◌≡◌, ℕ, false, List, [], Some, None, map}
 use Rattle.biphase.specs.Chain.{flat}
 use Rattle.flywheel.specs.declared.frame.Frame.{Frame}
 use Rattle.flywheel.specs.Marked.{AreMarked, word_of, words_in}

@@ -1,5 +1,5 @@
 -- `ltc-spans`: the spans of a recording, from its frames.
-use Rattle.std.specs.Prelude.{◌≡◌, ℕ, true, false, List, ◌++◌, length, sum, map, All, Some, None}
+use Rattle.std.specs.Prelude.{◌≡◌, ℕ, false, List, ◌++◌, length, sum, map, All, Some, None}
 use Rattle.std.specs.List.{flat_map}
 use Rattle.direction_reader.specs.declared.event.Event.{Event}
 use Rattle.flywheel.specs.declared.frame.Frame.{Frame}

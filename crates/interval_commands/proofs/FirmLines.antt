@@ -1,9 +1,7 @@
 -- What was printed grows by the lines of what is given with an interval, and the last line counts all of it. What is
 -- given
 -- of some intervals comes first, whatever intervals follow.
-use Rattle.std.proofs.Common.{◌≡◌, ℕ, ◌+◌, ◌≤◌, List, [], ◌∷◌, ◌++◌, sym, ◌∙◌, ap, refl, subst, append_assoc}
-use Rattle.std.proofs.Common.{append-nil}
-use Rattle.std.proofs.Common.{Option}
+use Rattle.std.proofs.Common.{◌≡◌, ℕ, List, [], ◌∷◌, ◌++◌, sym, ◌∙◌, ap, refl, subst, append_assoc}
 use Rattle.std.proofs.lemmas.Grind.{flat_map-append}
 use Rattle.biphase.specs.declared.profile.Profile.{Profile}
 use Rattle.tc_address.specs.declared.system.System.{System}

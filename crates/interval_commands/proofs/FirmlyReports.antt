@@ -1,6 +1,6 @@
 -- A report under witnesses holds the lines of the events of its recording under witnesses. They are judged one for one,
 -- and those that are judged tell the tape.
-use Rattle.std.proofs.Common.{◌≡◌, ℕ, List, ◌++◌, reverse, Option, Some, None, refl, sym, ◌∙◌, ap₂}
+use Rattle.std.proofs.Common.{◌≡◌, ℕ, List, ◌++◌, Option, Some, None, refl, sym, ◌∙◌, ap₂}
 use Rattle.std.specs.List.{AllZip}
 use Rattle.biphase.specs.declared.profile.Profile.{Profile}
 use Rattle.direction_reader.specs.declared.event.Event.{Event}

@@ -1,6 +1,6 @@
 -- If whole words are played one after another in one direction, each of them has its witness, so a report that needs
 -- witnesses is the one that needs none.
-use Rattle.std.proofs.Common.{◌≡◌, ℕ, ◌+◌, List, [], ◌∷◌, ◌++◌, map, false, true, refl, sym, ◌∙◌, ap, ap₂, Bool, cond}
+use Rattle.std.proofs.Common.{◌≡◌, ℕ, List, [], ◌∷◌, ◌++◌, map, false, true, refl, ◌∙◌, ap, ap₂, Bool, cond}
 use Rattle.std.proofs.Common.{count_by, arith}
 use Rattle.std.specs.Prelude.{drop, take}
 use Rattle.std.proofs.lemmas.List.Sums.{sum_by-cons}
@@ -16,7 +16,7 @@ use Rattle.direction_reader.specs.FirmTape.{AreOneWay}
 use Rattle.direction_reader.specs.ListEvents.{AreEvents, duration}
 use Rattle.direction_reader.specs.Played.{Played, AreSpelled, bits_of_words, events_of_words}
 use Rattle.interval_file.specs.declared.header.IntervalHeader.{IntervalHeader}
-use Rattle.report_text.specs.Texts.{event_line, read_end_line}
+use Rattle.report_text.specs.Texts.{event_line}
 use Rattle.tc_address.specs.declared.direction.Direction.{Direction}
 use Rattle.tc_address.specs.declared.system.System.{System}
 use Rattle.interval_commands.specs.FirmReport.{firm_last_line, firm_lines, IsFirmWhole, tells_lost, tells_refused}

@@ -1,5 +1,5 @@
 -- The truth of a report if each word needs a witness: what the lines of `ltc-rough firm` say of the tape.
-use Rattle.std.specs.Prelude.{◌≡◌, ℕ, true, false, List, reverse, Some}
+use Rattle.std.specs.Prelude.{◌≡◌, ℕ, false, List, reverse, Some}
 use Rattle.std.specs.List.{AllZip}
 use Rattle.biphase.specs.declared.profile.Profile.{Profile}
 use Rattle.direction_reader.specs.declared.event.Event.{Event}

@@ -1,7 +1,6 @@
 -- What a stop says that is passed on, and that no pull failed if none was made.
-use Rattle.std.proofs.Common.{◌≡◌, ap, refl, Ok, Err}
+use Rattle.std.proofs.Common.{◌≡◌, refl, Ok, Err}
 use Rattle.std.specs.Prelude.{IfErr}
-use Rattle.std.specs.Result.{IsErrAnd}
 use Rattle.std.specs.declared.result.Result.{Result}
 use Rattle.tc_command.specs.declared.input_fault.InputFault.{InputFault}
 use Rattle.tc_command.specs.declared.stop.Stop.{Stop}

@@ -1,8 +1,7 @@
 -- What is at the front of bytes behind a file is what they bring to it: no whole interval, an interval in its one
 -- spelling, or one out of range.
-use Rattle.std.proofs.Common.{Fits, w8, suc, ◌≡◌, ◌⊎◌, inl, inr, ℕ, ◌<◌, ◌≤◌, List, [], ◌∷◌, length, get_or, take, refl}
+use Rattle.std.proofs.Common.{◌≡◌, ◌⊎◌, inl, inr, ℕ, ◌<◌, ◌≤◌, List, [], ◌∷◌, length, take, refl}
 use Rattle.std.proofs.Common.{sym, ap, subst, arith}
-use Rattle.std.proofs.Math.Facts.{Fits-lt-pow}
 use Rattle.std.proofs.lemmas.Bool.{cases_lt, le-leb, lt-leb}
 use Rattle.interval_file.specs.declared.fault.IntervalFileFault.TheVariants as fault
 use Rattle.interval_file.specs.declared.header.FileVersion.{FileVersion}

@@ -1,12 +1,11 @@
 -- Each word that is read at a system has a label of it, and a step from a label leads to one of its count, so each
 -- frame has a label of the system.
-use Rattle.std.proofs.Common.{◌≡◌, ◌⊎◌, ℕ, ◌+◌, Bool, true, false, cond, List, [], ◌∷◌, ◌++◌, length, map, Some, None}
+use Rattle.std.proofs.Common.{◌≡◌, ℕ, ◌+◌, Bool, true, false, cond, List, [], ◌∷◌, ◌++◌, length, map, Some, None}
 use Rattle.std.proofs.Common.{inl, inr}
 use Rattle.std.proofs.Common.{refl, sym, subst, ap, ◌∙◌, IsSomeAnd}
 use Rattle.std.specs.Prelude.{ℤ, slice_get}
 use Rattle.std.specs.Option.{unwrap_or}
 use Rattle.std.specs.declared.option.Option.{Option}
-use Rattle.std.proofs.lemmas.Bool.Decides.{eqb_tells}
 use Rattle.ltc_word.specs.SyncLemmas.{in_sync_or_not}
 use Rattle.biphase.specs.declared.profile.Profile.{Profile}
 use Rattle.cell_tracker.specs.Stretch.{Stretch}
@@ -18,9 +17,7 @@ use Rattle.tc_address.specs.Circle.{moved}
 use Rattle.tc_address.specs.Count.{system_with}
 use Rattle.tc_address.specs.Label.{Address, IsLabel, labels}
 use Rattle.tc_address.specs.Numbering.{number_of, step}
-use Rattle.tc_bits.specs.Register.{number_in}
-use Rattle.ltc_word.specs.declared.places.TheConstants.{SYNC, SYNC_PATTERN}
-use Rattle.ltc_word.specs.Reversal.{EndsInSync, reversed_bits}
+use Rattle.ltc_word.specs.Reversal.{reversed_bits}
 use Rattle.direction_reader.specs.declared.event.Event.{Event}
 use Rattle.direction_reader.specs.declared.event.Event.TheVariants.{Word, Refused, Lost}
 use Rattle.direction_reader.specs.declared.event.Events.{Events}

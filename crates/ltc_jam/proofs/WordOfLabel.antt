@@ -1,15 +1,13 @@
 -- The word of a label has its spelling, since its flag agrees with its count.
-use Rattle.std.proofs.Common.{◌≡◌, ◌^◌, ◌<◌, true, refl, lit<}
+use Rattle.std.proofs.Common.{◌^◌, ◌<◌, lit<}
 use Rattle.ltc_jam.specs.WordLemmas.{flag_agrees}
-use Rattle.tc_address.specs.declared.count.Count.{Count}
-use Rattle.tc_address.specs.declared.count.Count.TheVariants.{C24, C25, C30, Drop30}
 use Rattle.tc_address.specs.Count.{system_with}
 use Rattle.tc_address.specs.Label.{Address, IsLabel}
-use Rattle.tc_bits.specs.Fields.{agrees, IsFields}
+use Rattle.tc_bits.specs.Fields.{IsFields}
 use Rattle.ltc_word.specs.declared.word.LtcWord.{LtcWord}
 use Rattle.ltc_word.specs.Spelled.{spelling_of}
 use Rattle.ltc_word.specs.Spelling.{Spells}
-use Rattle.ltc_jam.specs.Word.{drops, word_of}
+use Rattle.ltc_jam.specs.Word.{word_of}
 
 abbrev pub EachIsSpelled : Type 0
 EachIsSpelled = (word : LtcWord) → IsFields word.fields → word.fields.user < 2 ^ 32

@@ -2,7 +2,7 @@
 -- same again.
 use Rattle.std.proofs.Common.{◌≡◌, ℕ, zero, suc, ◌+◌, ◌-◌, ◌*◌, ◌/◌, ◌%◌, ◌^◌, ◌<◌, refl, sym, ap, ◌∙◌, arith}
 use Rattle.std.specs.Int.{bit_at, reverse_bits_onto}
-use Rattle.std.proofs.lemmas.Nat.{pow_pos, shr-shr, shr_high, mod_below, field_of, mod-pow-add}
+use Rattle.std.proofs.lemmas.Nat.{pow_pos, shr_high, mod_below}
 use Rattle.std.proofs.lemmas.Nat.Bits.{same_from_bits_below}
 use Rattle.std.proofs.Math.Nat.{pow-suc, mod-eq_of_lt}
 use Rattle.lemmas.specs.Bits.{halved, bit_at_low}

@@ -2,13 +2,9 @@
 use Rattle.std.proofs.Common.{◌≡◌, ℕ, ◌^◌, ◌<◌, Bool, true, false, refl, sym, ap₂, None}
 use Rattle.std.specs.Prelude.{◌↔◌, IsTrue}
 use Rattle.tc_address.specs.declared.system.System.{System}
-use Rattle.tc_address.specs.declared.count.Count.{Count}
-use Rattle.tc_address.specs.Count.{system_with, rate_of}
-use Rattle.tc_address.specs.Label.{address, is_dropped}
 use Rattle.tc_bits.specs.declared.raw.RawFields.{RawFields}
-use Rattle.tc_bits.specs.declared.flags.Flags.{Flags}
 use Rattle.tc_bits.specs.Fault.{first_field_fault}
-use Rattle.tc_bits.specs.Fields.{FieldValues, field_values, agrees, digits_of, Says}
+use Rattle.tc_bits.specs.Fields.{FieldValues, Says}
 use Rattle.tc_bits.specs.Reading.{raw_in}
 use Rattle.tc_bits.specs.Register.{number_in}
 use Rattle.tc_bits.specs.Spelling.{AreExact}

@@ -1,11 +1,10 @@
 -- The numbers of a word share out its 80 bits, so their sum by weights spells it, and nothing else does.
-use Rattle.std.proofs.Common.{◌≡◌, ℕ, ◌/◌, ◌^◌, ◌<◌, ◌≤◌, true, refl, lit<, arith}
+use Rattle.std.proofs.Common.{◌≡◌, ℕ, ◌/◌, ◌^◌, ◌<◌, true, refl, lit<}
 use Rattle.std.specs.Prelude.{◌↔◌, IsTrue}
 use Rattle.std.proofs.lemmas.Nat.{mod_below}
-use Rattle.tc_address.specs.LabelLemmas.{rate_within}
 use Rattle.tc_address.specs.declared.system.System.{System}
 use Rattle.tc_address.specs.declared.system.System.TheVariants.{F24, F25, F30}
-use Rattle.tc_address.specs.Count.{system_with, rate_of}
+use Rattle.tc_address.specs.Count.{system_with}
 use Rattle.tc_address.specs.Label.{IsLabel}
 use Rattle.tc_bits.specs.Fields.{FieldValues, IsFields}
 use Rattle.tc_bits.specs.Register.{field}

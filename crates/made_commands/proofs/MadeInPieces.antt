@@ -1,11 +1,11 @@
 -- A recording is made cell by cell and frame by frame: what was written and what is still to be made are the whole.
-use Rattle.std.proofs.Common.{◌≡◌, None, ℕ, zero, suc, ◌+◌, ◌-◌, ◌<◌, ◌/◌, ◌%◌, Bool, List, [], ◌∷◌, ◌++◌, refl, sym}
+use Rattle.std.proofs.Common.{◌≡◌, None, ℕ, zero, suc, ◌+◌, Bool, List, [], ◌∷◌, ◌++◌, refl, sym}
 use Rattle.std.proofs.Common.{ap, ap₂, ◌∙◌, append_assoc}
 use Rattle.interval_file.specs.declared.header.FileVersion.TheVariants.{One}
 use Rattle.interval_file.specs.Grammar.{intervals_bytes}
 use Rattle.interval_file.specs.Piece.{spelling}
 use Rattle.std.proofs.Common.{arith, w64, to_z, of_z}
-use Rattle.std.specs.Prelude.{◌==◌, ℤ, pos, ◌+ℤ◌, map}
+use Rattle.std.specs.Prelude.{ℤ, pos, ◌+ℤ◌, map}
 use Rattle.std.specs.declared.option.Option.{Option}
 use Rattle.std.specs.List.{range_with_len}
 use Rattle.std.proofs.lemmas.Int.{ints}

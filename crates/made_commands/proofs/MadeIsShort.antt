@@ -1,7 +1,7 @@
 -- A recording that is made has one interval for its first cell, and two at most for each other, so it is within the
 -- limit of a reading.
-use Rattle.std.proofs.Common.{◌≡◌, ℕ, zero, suc, ◌+◌, ◌*◌, ◌/◌, ◌≤◌, Bool, true, false, List, [], ◌∷◌, length, refl}
-use Rattle.std.proofs.Common.{◌∙◌, ap, arith, length-append}
+use Rattle.std.proofs.Common.{◌≡◌, ℕ, ◌+◌, ◌*◌, ◌≤◌, Bool, true, false, List, [], ◌∷◌, length}
+use Rattle.std.proofs.Common.{◌∙◌, ap, arith}
 use Rattle.std.specs.List.{range_with_len}
 use Rattle.std.proofs.lemmas.List.{length-map}
 use Rattle.std.proofs.lemmas.List.FromFn.{length-range_with_len}
@@ -9,9 +9,8 @@ use Rattle.direction_reader.specs.PlayedLemmas.{length-bits_of_words}
 use Rattle.biphase.specs.declared.cell.Cell.{Cell}
 use Rattle.biphase.specs.declared.cell.Cell.TheVariants.{Zero, One}
 use Rattle.biphase.specs.Chain.{bits, flat}
-use Rattle.direction_reader.specs.Played.{Played, bits_of_words, in_time, low_bits, played_bits}
+use Rattle.direction_reader.specs.Played.{bits_of_words}
 use Rattle.flywheel.specs.Frames.{steps_in}
-use Rattle.ltc_word.specs.Spelled.{spelling_of}
 use Rattle.tc_address.specs.declared.direction.Direction.{Direction}
 use Rattle.tc_address.specs.Label.{Address}
 use Rattle.tc_address.specs.Numbering.{step}

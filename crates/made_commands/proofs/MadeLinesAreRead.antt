@@ -13,12 +13,10 @@ use Rattle.line_file.specs.Grammar.{file_of, AreRuns, AreFields}
 use Rattle.line_file.specs.LineFile.{Reading, reading_of}
 use Rattle.line_file.specs.LineHeader.{IsHeader}
 use Rattle.tc_address.specs.declared.count.Count.{Count}
-use Rattle.tc_address.specs.declared.count.Count.TheVariants.{C24, C25, C30, Drop30}
 use Rattle.tc_address.specs.Count.{system_with}
 use Rattle.tc_address.specs.Label.{Address, IsLabel}
 use Rattle.tc_address.specs.Numbering.{step}
-use Rattle.ltc_jam.specs.Word.{drops}
-use Rattle.tc_bits.specs.Fields.{IsFields, agrees}
+use Rattle.tc_bits.specs.Fields.{IsFields}
 use Rattle.tc_job.specs.LineStripe.{LineStriping, IsLineStripe}
 use Rattle.vitc_line.specs.declared.word.VitcWord.{VitcWord}
 use Rattle.vitc_line.specs.Spelled.{line_of}

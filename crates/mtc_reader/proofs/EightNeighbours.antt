@@ -1,7 +1,7 @@
 -- Eight quarter frames that end in one are eight that begin in another: what each message gives behind those before it
 -- is what each begins before those behind it.
 use Rattle.std.proofs.Common.{◌≡◌, ◌<◌, ◌≤◌, ℕ, zero, suc, ◌+◌, ◌-◌, List, [], ◌∷◌, ◌++◌, length, take, drop, None}
-use Rattle.std.proofs.Common.{inl, inr, refl, sym, ◌∙◌, ap, ap₂, subst, arith, append-nil, append_assoc, length-append}
+use Rattle.std.proofs.Common.{inl, inr, refl, sym, ◌∙◌, ap, ap₂, arith, append-nil, append_assoc, length-append}
 use Rattle.std.specs.Prelude.{cond, nat_lt, Option, Some}
 use Rattle.std.specs.List.{cons_option}
 use Rattle.std.proofs.lemmas.Bool.{cases_lt, le-ltb, lt-ltb}
@@ -10,7 +10,7 @@ use Rattle.mtc_reader.specs.declared.event.MtcEvent.{MtcEvent}
 use Rattle.mtc_reader.specs.declared.message.Message.{Message}
 use Rattle.mtc_reader.specs.declared.message.Message.TheVariants.{QuarterFrame, FullMessage}
 use Rattle.mtc_reader.specs.Events.{full_address, full_event, latest_eight, row_in, window_event}
-use Rattle.mtc_reader.specs.Spelled.{PlacedMessage, carried_by, eight_event, event_begun, last_place, row_of, row_with}
+use Rattle.mtc_reader.specs.Spelled.{PlacedMessage, carried_by, eight_event, last_place, row_of, row_with}
 use Rattle.mtc_reader.specs.StandsFor.{events_of}
 use Rattle.mtc_reader.proofs.LatestEight.{length-latest_eight, no_window}
 use Rattle.mtc_reader.proofs.MessagesAlong.{given_by}

@@ -1,9 +1,9 @@
 -- An address is a label, or has one first fault.
-use Rattle.std.proofs.Common.{◌≡◌, true, false, arith}
+use Rattle.std.proofs.Common.{◌≡◌, false, arith}
 use Rattle.std.proofs.lemmas.Bool.Decides.{nat_tests}
 use Rattle.tc_address.specs.declared.label.LabelFault.{LabelFault}
 use Rattle.tc_address.specs.declared.label.LabelFault.TheVariants.{Hours, Minutes, Seconds, Frames, Dropped}
-use Rattle.tc_address.specs.Label.{Address, IsLabel, is_label, IsFirstFault}
+use Rattle.tc_address.specs.Label.{Address, is_label, IsFirstFault}
 use Rattle.mtc_reader.specs.Events.{fault_of}
 
 pub no_label : (fault : LabelFault) (a : Address) → IsFirstFault fault a → is_label a ≡ false

@@ -1,5 +1,5 @@
 -- What carries a label is read as that label.
-use Rattle.std.proofs.Common.{◌≡◌, ◌≢◌, ◌<◌, ◌≤◌, ◌++◌, length, map, Some, append-nil, ℕ, ◌+◌, ◌*◌, ◌/◌, ◌%◌, List, []}
+use Rattle.std.proofs.Common.{◌≡◌, ◌<◌, ◌≤◌, ◌++◌, map, Some, ℕ, ◌+◌, ◌*◌, ◌/◌, ◌%◌, List, []}
 use Rattle.std.proofs.Common.{◌∷◌, true, refl, ◌∙◌, ap, arith}
 use Rattle.std.proofs.lemmas.Bool.{cond-true}
 use Rattle.std.proofs.lemmas.Bool.Decides.{nat_tests}
@@ -8,14 +8,14 @@ use Rattle.tc_address.specs.declared.count.Count.TheVariants.{C24, C25, C30, Dro
 use Rattle.tc_address.specs.declared.direction.Direction.TheVariants.{Forward, Backward}
 use Rattle.tc_address.specs.Count.{rate_of, system_with}
 use Rattle.tc_address.specs.Label.{Address, IsLabel, is_label}
-use Rattle.mtc_reader.specs.declared.event.MtcEvent.TheVariants.{Full, Quarter, RefusedFull, RefusedQuarter}
+use Rattle.mtc_reader.specs.declared.event.MtcEvent.TheVariants.{Full, RefusedFull}
 use Rattle.mtc_reader.specs.declared.message.Message.{Message}
 use Rattle.mtc_reader.specs.declared.message.Message.TheVariants.{QuarterFrame, FullMessage}
 use Rattle.mtc_reader.specs.declared.message.MessageKind.TheVariants as kinds
-use Rattle.mtc_reader.specs.Events.{events_in, event_of, full_event, full_address, latest_eight, row_in}
+use Rattle.mtc_reader.specs.Events.{events_in, event_of, full_event, full_address}
 use Rattle.mtc_reader.specs.Events.{window_event, quarter_event, quarter_address, count_with, piece_of, fault_of}
-use Rattle.mtc_reader.specs.Laws.{code_of, full_message, quarters, rising, falling}
-use Rattle.mtc_reader.specs.Messages.{Current, current_in, is_data, is_sounding}
+use Rattle.mtc_reader.specs.Laws.{code_of, full_message}
+use Rattle.mtc_reader.specs.Messages.{Current, is_data, is_sounding}
 use Rattle.mtc_reader.specs.StandsFor.{events_of}
 use Rattle.mtc_reader.proofs.AlongTheBytes.{all_along, events_along}
 use Rattle.tc_address.specs.LabelLemmas.{label_is}

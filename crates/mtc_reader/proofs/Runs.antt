@@ -1,6 +1,6 @@
 -- A full message and then pairs of frames, eight quarter frames each, are read pair by pair, whatever bytes came
 -- before. It is said once of both directions: between two pairs no window has its pieces in order.
-use Rattle.std.proofs.Common.{◌≡◌, ◌<◌, ℕ, ◌+◌, ◌*◌, ◌/◌, ◌%◌, List, [], ◌∷◌, ◌++◌, length, slice_index, take}
+use Rattle.std.proofs.Common.{◌≡◌, ◌<◌, ℕ, ◌+◌, ◌*◌, List, [], ◌∷◌, ◌++◌, length, slice_index, take}
 use Rattle.std.proofs.Common.{Some}
 use Rattle.std.proofs.Common.{refl, sym, ◌∙◌, ap, subst, append_assoc, append-nil, arith}
 use Rattle.std.specs.Prelude.{reverse}
@@ -20,8 +20,8 @@ use Rattle.mtc_reader.specs.Events.{quarter_address, quarter_event, row_in, wind
 use Rattle.mtc_reader.specs.Laws.{code_of, full_message, numbers_of, quarter_events, quarters, run_events, AreLabels}
 use Rattle.mtc_reader.specs.Messages.{Current, current_in, messages_in, without_real_time}
 use Rattle.mtc_reader.specs.StandsFor.{events_of, padded}
-use Rattle.mtc_reader.proofs.AlongTheBytes.{all_along, along, events_after, events_along}
-use Rattle.mtc_reader.proofs.ReadBack.{address_back, after, code_below, falling_window, frames_below, full_back}
+use Rattle.mtc_reader.proofs.AlongTheBytes.{all_along, along, events_along}
+use Rattle.mtc_reader.proofs.ReadBack.{address_back, code_below, falling_window, frames_below, full_back}
 use Rattle.mtc_reader.proofs.ReadBack.{full_step, on, rising_window, row_is, IsRow}
 use Rattle.mtc_reader.proofs.SlidingWindow.{numbers_along, current_behind, ends_behind, first_none, given, inner_given}
 use Rattle.mtc_reader.proofs.SlidingWindow.{inner_of}

@@ -1,6 +1,6 @@
 -- Eight quarter frames whose pieces rise give one event, whatever row they come after: the first one may end a row that
 -- falls, and if it does not, only the last one carries anything.
-use Rattle.std.proofs.Common.{◌≡◌, ◌≢◌, ◌<◌, ℕ, ◌+◌, ◌-◌, true, None, List, [], ◌∷◌, ◌++◌, length, map, slice_index}
+use Rattle.std.proofs.Common.{◌≡◌, ◌<◌, ℕ, ◌+◌, true, None, List, [], ◌∷◌, ◌++◌, length, map, slice_index}
 use Rattle.std.proofs.Common.{refl, sym, ◌∙◌, ap, subst, arith}
 use Rattle.std.proofs.Common.{append-nil, length-append}
 use Rattle.std.specs.Prelude.{reverse}
@@ -10,7 +10,6 @@ use Rattle.std.proofs.lemmas.Slice.Eq.{bytes_eq-Decides}
 use Rattle.tc_address.specs.declared.direction.Direction.TheVariants.{Forward}
 use Rattle.mtc_reader.specs.declared.event.MtcEvent.{MtcEvent}
 use Rattle.mtc_reader.specs.declared.message.Message.{Message}
-use Rattle.mtc_reader.specs.declared.message.Message.TheVariants.{QuarterFrame}
 use Rattle.mtc_reader.specs.declared.reader.MtcReader.{MtcReader}
 use Rattle.mtc_reader.specs.Events.{events_in, latest_eight, piece_of, pieces, quarter_address, quarter_event, row_in}
 use Rattle.mtc_reader.specs.Events.{window_event}

@@ -1,7 +1,7 @@
 -- The messages of MIDI Time Code that are spelled in bytes, and what they carry, said without a reader (MIDI 1.0,
 -- "system exclusive messages"; MIDI Time Code, "quarter frame messages" and "full message"). Bytes among which no
 -- system real-time byte comes are a list of such messages, with bytes between them that hold none.
-use Rattle.std.specs.Prelude.{◌≡◌, ◌≢◌, ◌<◌, ℕ, ◌+◌, ◌-◌, List, [], ◌∷◌, ◌++◌, length, take, Option, None, Some}
+use Rattle.std.specs.Prelude.{◌≡◌, ◌≢◌, ◌<◌, ℕ, ◌+◌, ◌-◌, List, [], ◌∷◌, ◌++◌, length, take, Option, Some}
 use Rattle.std.specs.List.{cons_option}
 use Rattle.mtc_reader.specs.declared.event.MtcEvent.{MtcEvent}
 use Rattle.mtc_reader.specs.declared.message.Message.{Message}

@@ -1,7 +1,7 @@
 -- The intervals of samples add up to the ticks from the first moment, or from tick 0, to the last one, and to the whole
 -- pieces that have passed behind it.
-use Rattle.std.proofs.Common.{◌≡◌, ℕ, zero, suc, ◌+◌, ◌-◌, ◌*◌, ◌/◌, ◌<◌, ◌≤◌, ℤ, List, [], ◌∷◌, ◌++◌, replicate, sum}
-use Rattle.std.proofs.Common.{refl, sym, ap, ap₂, ◌∙◌, suc-mul, arith}
+use Rattle.std.proofs.Common.{◌≡◌, ℕ, zero, suc, ◌+◌, ◌-◌, ◌*◌, ◌/◌, ◌<◌, ◌≤◌, ℤ, List, [], ◌∷◌, replicate, sum}
+use Rattle.std.proofs.Common.{refl, sym, ap₂, ◌∙◌, suc-mul, arith}
 use Rattle.std.specs.List.{flat_map, All}
 use Rattle.std.proofs.Math.Nat.{div-mul-le_self, lt-div-mul-add}
 use Rattle.std.proofs.lemmas.List.Elements.{All-head, All-tail}

@@ -1,5 +1,5 @@
 -- The moments of some samples stay if samples follow, and the later ones come behind them; so do their distances.
-use Rattle.std.proofs.Common.{◌≡◌, ℕ, ◌-◌, cond, ℤ, List, [], ◌∷◌, ◌++◌, length, refl, ap, sym, ◌∙◌, append_assoc}
+use Rattle.std.proofs.Common.{◌≡◌, ℕ, cond, ℤ, List, [], ◌∷◌, ◌++◌, length, ap, sym, ◌∙◌, append_assoc}
 use Rattle.std.proofs.Common.{append-nil}
 use Rattle.pcm_front.specs.DistanceLemmas.{gaps_after-front, gaps-front}
 use Rattle.pcm_front.specs.declared.start.Start.{Start}

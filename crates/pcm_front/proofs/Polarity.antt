@@ -1,8 +1,8 @@
 -- Sound that is turned over, each sample into its negative, has the same crossings at the same moments.
 use Rattle.std.proofs.Common.{◌≡◌, ℕ, zero, suc, ◌+◌, ◌-◌, ◌*◌, ◌≤◌, Bool, true, false, cond, ℤ, pos, negsuc, neg_ℤ}
 use Rattle.std.proofs.Common.{◌+ℤ◌, int_le}
-use Rattle.std.proofs.Common.{List, [], ◌∷◌, ◌++◌, length, map, take, drop, get_or, replicate, Option, Some, None}
-use Rattle.std.proofs.Common.{refl, sym, ap, ap₂, ◌∙◌, subst, arith}
+use Rattle.std.proofs.Common.{List, [], ◌∷◌, ◌++◌, length, map, take, drop, replicate, Option, Some, None}
+use Rattle.std.proofs.Common.{refl, sym, ap, ap₂, ◌∙◌, arith}
 use Rattle.std.specs.Prelude.{unsigned_abs}
 use Rattle.std.specs.List.{filter, flat_map, fold, range_with_len}
 use Rattle.std.specs.Option.{option_or}
@@ -16,7 +16,7 @@ use Rattle.pcm_front.specs.declared.threshold.Threshold.{Threshold}
 use Rattle.pcm_front.specs.declared.threshold.Threshold.TheVariants.{Fixed, Follow, Deep}
 use Rattle.pcm_front.specs.declared.start.Start.{Start}
 use Rattle.pcm_front.specs.declared.start.Start.TheVariants.{Crossing, Tick}
-use Rattle.pcm_front.specs.Crossing.{apart, crossings, is_crossing, moment, moments, tick_at, tick_in_step, tick_to}
+use Rattle.pcm_front.specs.Crossing.{crossings, is_crossing, moment, moments, tick_in_step, tick_to}
 use Rattle.pcm_front.specs.Distance.{distances_by, distances_since, gaps, gaps_after, latest_moment, pieces_in}
 use Rattle.pcm_front.specs.Level.{least_of, level_after, level_of, silent, threshold_at, threshold_by}
 use Rattle.pcm_front.specs.Pace.{begun, intervals_at, longest, passed_by, passed_since, ticks_since}

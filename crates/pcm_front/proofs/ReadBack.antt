@@ -1,7 +1,7 @@
 -- A sample is read from its two bytes as it was written, and so are all of them.
 use Rattle.std.proofs.Common.{◌≡◌, ℕ, zero, suc, ◌<◌, ◌^◌, ℤ, pos, List, [], ◌∷◌, ◌++◌, replicate, refl, ap, ap₂, ◌∙◌}
 use Rattle.std.proofs.Common.{arith}
-use Rattle.std.specs.Prelude.{unsigned_abs, negsuc, FitsSigned}
+use Rattle.std.specs.Prelude.{unsigned_abs, FitsSigned}
 use Rattle.std.specs.List.{AllByRecursion}
 use Rattle.std.specs.Int.{w16, cast_signed, cast_unsigned}
 use Rattle.std.proofs.lemmas.Int.{fits_signed_from_abs, to_z-of_z}

@@ -1,15 +1,14 @@
 -- A quotient that is rounded up is the least whole number that is not below it, so a crossing lies within the ticks
 -- of its step.
-use Rattle.std.proofs.Common.{◌≡◌, ℕ, zero, suc, ◌+◌, ◌*◌, ◌/◌, ◌%◌, ◌<◌, ◌≤◌, min, Bool, true, false, cond, ℤ, pos}
-use Rattle.std.proofs.Common.{neg_ℤ, ◌≤ℤ◌, int_le, Some, None}
-use Rattle.std.proofs.Common.{refl, suc-mul, zero-mul, mul-le-mul_left, lt_of_mul-lt-mul_right, mul-pos, mod-lt}
-use Rattle.std.proofs.Common.{div-add-mod', arith}
+use Rattle.std.proofs.Common.{◌≡◌, ℕ, ◌*◌, ◌≤◌, Bool, true, false, cond, ℤ, pos}
+use Rattle.std.proofs.Common.{◌≤ℤ◌, int_le, Some}
+use Rattle.std.proofs.Common.{refl}
+use Rattle.std.proofs.Common.{arith}
 use Rattle.std.specs.Int.{div_ceil}
 use Rattle.std.proofs.lemmas.Int.{ints}
 use Rattle.pcm_front.specs.SideLemmas.{side_above}
 use Rattle.lemmas.specs.Quotients.{quotient_within}
 use Rattle.pcm_front.specs.declared.side.Side.{Side}
-use Rattle.pcm_front.specs.declared.side.Side.TheVariants.{High, Low}
 use Rattle.pcm_front.specs.Side.{side_of, upward}
 use Rattle.pcm_front.specs.Crossing.{apart, tick_in_step, tick_to}
 

@@ -1,5 +1,5 @@
 -- Runs of samples on alternating sides have a crossing at the first sample of each run but the first one.
-use Rattle.std.proofs.Common.{◌≡◌, ℕ, zero, suc, ◌+◌, ◌-◌, ◌*◌, ◌≤◌, true, false, cond, ℤ, pos, neg_ℤ, int_le, List, []}
+use Rattle.std.proofs.Common.{◌≡◌, ℕ, suc, ◌+◌, ◌-◌, ◌*◌, ◌≤◌, true, false, cond, ℤ, pos, neg_ℤ, int_le, List, []}
 use Rattle.std.proofs.Common.{◌∷◌, ◌++◌, length, map, Some}
 use Rattle.std.proofs.Common.{None, refl, ap, ap₂, subst, sym, ◌∙◌, append-nil, append_assoc, add-one, mul-add, one-mul}
 use Rattle.std.proofs.Common.{arith}

@@ -1,6 +1,6 @@
 -- Samples that were taken one after another, and the distance that they brought.
 use Rattle.std.proofs.Common.{◌≡◌, true, ℕ, zero, suc, ◌+◌, ◌*◌, ◌<◌, ◌≤◌, ℤ, pos, List, [], ◌∷◌, ◌++◌, length, take}
-use Rattle.std.proofs.Common.{drop, get_or, ◌^◌, Option, None, Some}
+use Rattle.std.proofs.Common.{drop, get_or, ◌^◌, Option, None}
 use Rattle.std.proofs.Common.{refl, ap, subst, sym, ◌∙◌, append-nil, append_assoc, add-one, mul-add, mul-suc}
 use Rattle.std.proofs.Common.{mul-le-mul_left, arith}
 use Rattle.std.specs.Option.{option_to_list}
@@ -10,7 +10,7 @@ use Rattle.pcm_front.specs.KeptRuns.{RunsTo}
 use Rattle.pcm_front.specs.Level.{threshold_by}
 use Rattle.pcm_front.specs.Side.{side_of, stays}
 use Rattle.pcm_front.specs.StandsFor.{distances_in, Finds, Stand}
-use Rattle.pcm_front.specs.State.{between, distance_at, level_in, state_after, state_of, window_after, FinderState}
+use Rattle.pcm_front.specs.State.{distance_at, level_in, state_after, state_of, window_after, FinderState}
 use Rattle.pcm_front.specs.State.{IsAlone, WindowState}
 use Rattle.pcm_front.specs.Sums.{sums, total}
 use Rattle.pcm_front.proofs.Sides.{stays_apart, stays_there}

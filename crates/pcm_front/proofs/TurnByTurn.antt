@@ -5,7 +5,6 @@ use Rattle.std.specs.Prelude.{◌≢◌, ⊤}
 use Rattle.std.specs.List.{filter, range_with_len, AllByRecursion}
 use Rattle.std.specs.Option.{option_or}
 use Rattle.std.proofs.lemmas.Bool.{cases_lt}
-use Rattle.std.proofs.lemmas.Option.{same_Some}
 use Rattle.pcm_front.specs.declared.side.Side.{Side}
 use Rattle.pcm_front.specs.declared.side.Side.TheVariants.{High, Low}
 use Rattle.pcm_front.specs.declared.threshold.Threshold.{Threshold}

@@ -23,7 +23,7 @@ use Rattle.tc_command.specs.Command.{IsCommand}
 use Rattle.tc_command.specs.Meaning.{IsInput}
 use Rattle.tc_command.specs.Told.{IsLawful, IsTold}
 use Rattle.signal_commands.specs.VitcRead.{along_fields, answer_lines, field_report, last_field_line, told_vitc_read}
-use Rattle.signal_commands.specs.VitcRead.{ReadsTheFields, TellTheFields, TellsTheField}
+use Rattle.signal_commands.specs.VitcRead.{ReadsTheFields, TellTheFields}
 
 -- what is read of the file of a header and fields
 abbrev whole_reading : LineHeader → List (List (List ℕ)) → Reading

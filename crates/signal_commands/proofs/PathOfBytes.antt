@@ -1,11 +1,9 @@
 -- Two bytes are a sample, so what is told of the samples of a best path is told of their bytes.
-use Rattle.std.proofs.Common.{◌≡◌, ℕ, ◌+◌, ◌*◌, ◌≤◌, inl, List, [], ◌∷◌, ◌++◌, length, reverse, take, drop, get_or}
+use Rattle.std.proofs.Common.{◌≡◌, ℕ, ◌+◌, ◌*◌, ◌≤◌, inl, List, [], ◌∷◌, ◌++◌, length, take, drop, get_or}
 use Rattle.std.proofs.Common.{refl, ap, subst, sym, ◌∙◌, append_assoc, arith, ℤ}
 use Rattle.std.specs.declared.option.Option.{Option}
 use Rattle.std.proofs.lemmas.List.{length-append, take-append-le, take_all}
-use Rattle.std.specs.Io.KnownBytes.{Appends}
 use Rattle.std.specs.Option.{option_to_list}
-use Rattle.path_front.specs.Front.{AreIntervalsSoFar}
 use Rattle.pcm_front.specs.Samples.{sample_in, samples_of}
 use Rattle.tc_command.specs.declared.gathered.Gathered.{Gathered}
 use Rattle.tc_command.specs.declared.stop.Stop.{Stop}

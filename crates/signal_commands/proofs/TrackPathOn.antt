@@ -14,9 +14,9 @@ use Rattle.tc_command.specs.declared.stop.Stop.{Stop}
 use Rattle.tc_command.specs.declared.stop.Stop.TheVariants as stops
 use Rattle.tc_command.specs.KeptWorks.{Works, stops_on}
 use Rattle.tc_command.specs.Stops.{IsStop, Stops}
-use Rattle.tc_io.specs.Sink.{AppendsFront, IsFront}
+use Rattle.tc_io.specs.Sink.{AppendsFront}
 use Rattle.tc_io.specs.Verdict.{Verdict, good, refused, past_limit, verdict_as}
-use Rattle.tc_job.specs.TrackPath.{sound_of, SlicesTrackPath}
+use Rattle.tc_job.specs.TrackPath.{SlicesTrackPath}
 use Rattle.wave_file.specs.declared.decoder.Taken.TheVariants as taken
 use Rattle.wave_file.specs.declared.fault.WaveFault.{WaveFault}
 use Rattle.wave_file.specs.declared.format.Asked.{Asked}

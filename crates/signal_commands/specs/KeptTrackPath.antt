@@ -1,7 +1,7 @@
 -- What the engine of `wav-ltc .. path` keeps. No promise speaks of it.
 use Rattle.std.specs.Prelude.{◌≡◌, ⊤, ℕ, ◌≤◌, ℤ, List, [], ◌++◌, Option, Some, None}
 use Rattle.std.specs.Io.KnownBytes.{Appends}
-use Rattle.std.proofs.Common.{◌∙◌, sym, ap, append-nil, refl, subst}
+use Rattle.std.proofs.Common.{◌∙◌, sym, ap, append-nil, subst}
 use Rattle.tc_command.specs.declared.input_fault.InputFault.TheVariants.{Sound}
 use Rattle.tc_command.specs.Meaning.{Meaning, Shows}
 use Rattle.tc_io.specs.Sink.{IsFront}

@@ -4,7 +4,6 @@ use Rattle.std.proofs.Common.{◌≡◌, ℕ, ◌+◌, ◌-◌, ◌*◌, ◌≤�
 use Rattle.std.specs.List.{AllByRecursion}
 use Rattle.biphase.specs.declared.cell.Cell.{Cell}
 use Rattle.biphase.specs.declared.cell.Cell.TheVariants.{Zero, One}
-use Rattle.biphase.specs.Chain.{flat}
 use Rattle.cell_tracker.specs.EvenRun.{AreEvenOnes, IsEvenHalf, IsEvenRun, IsEvenZero}
 use Rattle.tape_sound.specs.EvenTape.{AreEvenOnesFor, IsEvenRunFor}
 use Rattle.tape_sound.specs.Late.{AreFoundAs}

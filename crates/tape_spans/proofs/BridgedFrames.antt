@@ -1,14 +1,14 @@
 -- A frame more in a span: an invented one bridges nothing by itself, and a heard one bridges all that were invented
 -- before it.
 use Rattle.std.proofs.Common.{◌≡◌, ℕ, ◌+◌, Bool, true, false, ◌&&◌, ◌||◌, cond, List, [], ◌∷◌, ◌++◌, refl}
-use Rattle.std.proofs.Common.{sym, ◌∙◌, ap, arith, count_by}
+use Rattle.std.proofs.Common.{sym, ◌∙◌, ap, count_by}
 use Rattle.std.specs.List.{list_any}
 use Rattle.std.proofs.lemmas.List.Folds.{list_any-append}
 use Rattle.std.proofs.lemmas.List.Sums.{sum_by-cons}
 use Rattle.tc_address.specs.declared.direction.Direction.{Direction}
 use Rattle.tc_address.specs.Label.{Address}
 use Rattle.flywheel.specs.declared.frame.Frame.{Frame}
-use Rattle.flywheel.specs.declared.frame.Frame.TheVariants.{Heard, Invented, Gone}
+use Rattle.flywheel.specs.declared.frame.Frame.TheVariants.{Heard, Invented}
 use Rattle.tape_spans.specs.Spans.{bridged_in}
 use Rattle.flywheel.specs.Kinds.{is_heard, is_invented}
 

@@ -1,6 +1,6 @@
 -- The lines that are final are those of the spans that have ended, and that of the gap before the open one. So a
 -- frame adds what it completes.
-use Rattle.std.proofs.Common.{◌≡◌, ℕ, ◌+◌, Bool, true, false, cond, List, [], ◌∷◌, ◌++◌, fold, map, length, Option}
+use Rattle.std.proofs.Common.{◌≡◌, ℕ, ◌+◌, Bool, true, false, cond, List, [], ◌∷◌, ◌++◌, map, length, Option}
 use Rattle.std.proofs.Common.{Some, None, refl}
 use Rattle.std.proofs.Common.{sym, ◌∙◌, ap, ap₂, subst, append_assoc, append-nil, arith}
 use Rattle.std.specs.List.{flat_map, sum_by}
@@ -12,7 +12,6 @@ use Rattle.tc_address.specs.declared.system.System.{System}
 use Rattle.tc_address.specs.Label.{Address}
 use Rattle.flywheel.specs.declared.frame.Frame.{Frame}
 use Rattle.flywheel.specs.declared.frame.Frame.TheVariants.{Heard, Invented, Gone}
-use Rattle.tape_spans.specs.declared.place.Cut.{Cut}
 use Rattle.tape_spans.specs.declared.place.TapePlace.{TapePlace}
 use Rattle.tape_spans.specs.declared.place.TapePlace.TheVariants.{Before, Within, Behind}
 use Rattle.tape_spans.specs.declared.span.Mark.{Mark}
@@ -27,7 +26,7 @@ use Rattle.tape_spans.specs.Tape.{Tape, after_frame, counted, counted_at, cut_by
 use Rattle.flywheel.specs.GoOn.{goes_on}
 use Rattle.tape_spans.proofs.SpansGoOn.{Splits, begun-is, begun_with, ended_one, gone-same, heard_on-same}
 use Rattle.tape_spans.proofs.SpansGoOn.{invented-same, latest-push, splits-end}
-use Rattle.tape_spans.proofs.SpansGoOn.{splits-idle, splits-next, splits-on, stands_at_first, stands_on, with_frame}
+use Rattle.tape_spans.proofs.SpansGoOn.{splits-idle, splits-next, splits-on, stands_on, with_frame}
 
 -- ---- lines of spans behind others
 

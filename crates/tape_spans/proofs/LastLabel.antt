@@ -1,8 +1,8 @@
 -- The last label of a span is stepped from its first one by the frames between them, since each goes on from the one
 -- before it.
-use Rattle.std.proofs.Common.{◌≡◌, ℕ, zero, suc, ◌+◌, ◌-◌, ◌≤◌, Bool, true, false, ◌&&◌, ◌||◌, cond, ℤ, ◌+ℤ◌, All, List}
+use Rattle.std.proofs.Common.{◌≡◌, ℕ, suc, ◌+◌, ◌≤◌, Bool, true, false, ◌||◌, cond, ℤ, ◌+ℤ◌, All, List}
 use Rattle.std.proofs.Common.{[], ◌∷◌}
-use Rattle.std.proofs.Common.{map, Option, Some, None, refl, sym, ◌∙◌, ap, ap₂, arith, count_by}
+use Rattle.std.proofs.Common.{map, Some, refl, sym, ◌∙◌, ap, ap₂, arith, count_by}
 use Rattle.std.specs.Prelude.{fold}
 use Rattle.std.specs.List.{list_any}
 use Rattle.std.proofs.lemmas.Int.{ints}
@@ -16,11 +16,10 @@ use Rattle.tc_address.specs.Numbering.{step}
 use Rattle.flywheel.specs.declared.frame.Frame.{Frame}
 use Rattle.flywheel.specs.declared.frame.Frame.TheVariants.{Heard, Invented, Gone}
 use Rattle.flywheel.specs.Frames.{steps_in}
-use Rattle.flywheel.specs.GoOn.{GoOn, Position, goes_on, next_position, position_of}
-use Rattle.flywheel.specs.Kinds.{is_heard, is_invented}
+use Rattle.flywheel.specs.GoOn.{GoOn, Position, goes_on, next_position}
+use Rattle.flywheel.specs.Kinds.{is_heard}
 use Rattle.tape_spans.specs.declared.span.Mark.{Mark}
-use Rattle.tape_spans.specs.declared.span.Span.{Span}
-use Rattle.tape_spans.specs.Shared.{HoldsTogether, first_frame}
+use Rattle.tape_spans.specs.Shared.{HoldsTogether}
 use Rattle.tape_spans.specs.Spans.{SpanFrames, bridged_in, latest_of, mark_at, span_of}
 use Rattle.tape_spans.specs.Stepped.{EndsStepped, steps_along}
 

@@ -1,8 +1,8 @@
 -- The spans share out the frames that are there: an open span takes what goes on, and then others begin.
-use Rattle.std.proofs.Common.{◌≡◌, ℕ, ◌+◌, Bool, true, false, not, cond, All, List, [], ◌∷◌, ◌++◌, map, Option, Some}
+use Rattle.std.proofs.Common.{◌≡◌, ℕ, ◌+◌, Bool, true, false, cond, All, List, [], ◌∷◌, ◌++◌, map, Option, Some}
 use Rattle.std.proofs.Common.{None, refl}
 use Rattle.std.proofs.Common.{sym, ◌∙◌, ap, ap₂, subst, arith, count_by}
-use Rattle.std.specs.List.{filter, flat_map, sum_by, take_while}
+use Rattle.std.specs.List.{flat_map, sum_by, take_while}
 use Rattle.std.proofs.lemmas.List.Concat.{flat_map-cons}
 use Rattle.std.proofs.lemmas.List.Elements.{All-cons, All-nil}
 use Rattle.std.proofs.lemmas.List.Sums.{sum_by-cons, take_while-cons}
@@ -11,7 +11,7 @@ use Rattle.tc_address.specs.declared.direction.Direction.{Direction}
 use Rattle.tc_address.specs.Label.{Address}
 use Rattle.flywheel.specs.declared.frame.Frame.{Frame}
 use Rattle.flywheel.specs.declared.frame.Frame.TheVariants.{Heard, Invented, Gone}
-use Rattle.flywheel.specs.GoOn.{Follows, GoOn, Position, goes_on, next_position, position_of}
+use Rattle.flywheel.specs.GoOn.{GoOn, Position, goes_on, position_of}
 use Rattle.tape_spans.specs.declared.span.Span.{Span}
 use Rattle.tape_spans.specs.Shared.{HoldsTogether, first_frame, frames_in, present}
 use Rattle.tape_spans.proofs.SpansGoOn.{gone-same, heard_on-same, invented-same}

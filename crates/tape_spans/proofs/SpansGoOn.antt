@@ -1,5 +1,5 @@
 -- What the next frame does to the spans of the frames so far: it goes on the open one, or ends it, or begins another.
-use Rattle.std.proofs.Common.{◌≡◌, ℕ, suc, ◌+◌, Bool, true, false, not, cond, List, [], ◌∷◌, ◌++◌, fold, length, Option}
+use Rattle.std.proofs.Common.{◌≡◌, ℕ, ◌+◌, Bool, true, false, not, cond, List, [], ◌∷◌, ◌++◌, length, Option}
 use Rattle.std.proofs.Common.{Some, None, refl}
 use Rattle.std.proofs.Common.{sym, ◌∙◌, ap, subst, append_assoc, append-nil, arith, count_by}
 use Rattle.std.specs.List.{list_any, sum_by, take_while}
@@ -12,12 +12,11 @@ use Rattle.flywheel.specs.declared.frame.Frame.TheVariants.{Heard, Invented, Gon
 use Rattle.flywheel.specs.GoOn.{goes_on}
 use Rattle.tape_spans.specs.declared.place.OpenSpan.{OpenSpan}
 use Rattle.tape_spans.specs.declared.place.TapePlace.{TapePlace}
-use Rattle.tape_spans.specs.declared.place.TapePlace.TheVariants.{Before, Within, Behind}
+use Rattle.tape_spans.specs.declared.place.TapePlace.TheVariants.{Within, Behind}
 use Rattle.tape_spans.specs.declared.span.Mark.{Mark}
-use Rattle.tape_spans.specs.declared.span.Span.{Span}
 use Rattle.tape_spans.specs.Spans.{SpanFrames, bridged_in, frames_of_spans, latest_of, mark_at, span_of}
 use Rattle.tape_spans.specs.StandsFor.{AreEnded, Running, StandsFor, latest_end, place_of_tape, so_far, to_come}
-use Rattle.tape_spans.specs.Tape.{Tape, after_frame, begun_at, begun_in, blank, counted, counted_at, ended_by}
+use Rattle.tape_spans.specs.Tape.{Tape, after_frame, begun_at, begun_in, blank, counted_at, ended_by}
 use Rattle.tape_spans.specs.Tape.{invented_at, joined_at, joined_by}
 use Rattle.tape_spans.specs.Tape.{placed, with_invented}
 use Rattle.tape_spans.proofs.BridgedFrames.{bridged-heard, bridged-invented}

@@ -1,6 +1,6 @@
 -- What lies between two spans: ticks, and how the labels on both sides are related. The rule is this
 -- project's own.
-use Rattle.std.specs.Prelude.{ℕ, ◌-◌, ℤ, neg_ℤ, if◌then◌else◌}
+use Rattle.std.specs.Prelude.{◌-◌, ℤ, neg_ℤ, if◌then◌else◌}
 use Rattle.tc_address.specs.declared.direction.Direction.{Direction}
 use Rattle.tc_address.specs.declared.direction.Direction.TheVariants.{Forward, Backward}
 use Rattle.tc_address.specs.Circle.{shortest_way}

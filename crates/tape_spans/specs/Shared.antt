@@ -1,5 +1,5 @@
 -- How the spans share out the frames of a flywheel.
-use Rattle.std.specs.Prelude.{◌≡◌, true, false, not, All, List, ◌∷◌, Some}
+use Rattle.std.specs.Prelude.{◌≡◌, true, false, not, All, List, ◌∷◌}
 use Rattle.std.specs.List.{filter}
 use Rattle.flywheel.specs.declared.frame.Frame.{Frame}
 use Rattle.flywheel.specs.declared.frame.Frame.TheVariants.{Heard}

@@ -6,7 +6,6 @@ use Rattle.flywheel.specs.declared.frame.Frame.{Frame}
 use Rattle.flywheel.specs.GoOn.{goes_on}
 use Rattle.tape_spans.specs.declared.gap.Gap.{Gap}
 use Rattle.tape_spans.specs.declared.place.Cut.{Cut}
-use Rattle.tape_spans.specs.declared.place.OpenSpan.{OpenSpan}
 use Rattle.tape_spans.specs.declared.place.TapePlace.{TapePlace}
 use Rattle.tape_spans.specs.declared.place.TapePlace.TheVariants.{Before, Within, Behind}
 use Rattle.tape_spans.specs.declared.span.Mark.{Mark}

@@ -2,7 +2,7 @@
 use Rattle.std.specs.Prelude.{◌≡◌, ℕ, ◌<◌, ◌≤◌, ◌%◌, Bool, true, false, not, ◌&&◌, ◌==◌, nat_le, nat_lt, List, map}
 use Rattle.std.specs.List.{filter, flat_map, range_with_len}
 use Rattle.tc_address.specs.declared.count.Count.{Count}
-use Rattle.tc_address.specs.declared.count.Count.TheVariants.{C24, C25, C30, Drop30}
+use Rattle.tc_address.specs.declared.count.Count.TheVariants.{Drop30}
 use Rattle.tc_address.specs.declared.label.LabelFault.{LabelFault}
 use Rattle.tc_address.specs.declared.label.LabelFault.TheVariants.{Hours, Minutes, Seconds, Frames, Dropped}
 use Rattle.tc_address.specs.Count.{rate_of, system_with}

@@ -1,5 +1,5 @@
 -- What holds of systems and labels, for the proofs of the crates above. No promise speaks of it.
-use Rattle.std.proofs.Common.{◌≡◌, ℕ, ◌≤◌, true, arith}
+use Rattle.std.proofs.Common.{◌≡◌, ◌≤◌, true, arith}
 use Rattle.std.proofs.lemmas.Bool.Decides.{nat_tests}
 use Rattle.tc_address.specs.declared.system.System.{System}
 use Rattle.tc_address.specs.declared.system.System.TheVariants.{F24, F25, F30}

@@ -3,7 +3,7 @@ use Rattle.std.specs.Prelude.{◌≡◌, ◌≢◌, ℕ, ◌+◌, ◌-◌, ◌*�
 use Rattle.std.specs.Prelude.{nat_le, List, [], ◌∷◌, ◌++◌, length, slice_index, cond, Option, Some, None}
 use Rattle.std.specs.Str.{bytes_eq}
 use Rattle.tc_address.specs.declared.count.Count.{Count}
-use Rattle.tc_address.specs.declared.count.Count.TheVariants.{C24, C25, C30, Drop30}
+use Rattle.tc_address.specs.declared.count.Count.TheVariants.{Drop30}
 use Rattle.tc_address.specs.declared.spelling.TextFault.{TextFault}
 use Rattle.tc_address.specs.declared.spelling.TextFault.TheVariants as faults
 use Rattle.tc_address.specs.Label.{Address, address, is_label, IsFirstFault}

@@ -8,8 +8,7 @@ use Rattle.lemmas.specs.Lists.{also}
 use Rattle.tc_bits.specs.FieldLemmas.{digit_below}
 use Rattle.tc_address.specs.LabelLemmas.{rate_within}
 use Rattle.tc_address.specs.declared.system.System.{System}
-use Rattle.tc_address.specs.declared.system.System.TheVariants.{F24, F25, F30}
-use Rattle.tc_address.specs.Count.{rate_of, system_with}
+use Rattle.tc_address.specs.Count.{system_with}
 use Rattle.tc_address.specs.Label.{IsLabel}
 use Rattle.tc_bits.specs.declared.flags.Flags.{Flags}
 use Rattle.tc_bits.specs.declared.place.Place.{Place}

@@ -6,12 +6,12 @@ use Rattle.tc_address.specs.declared.system.System.{System}
 use Rattle.tc_address.specs.declared.count.Count.TheVariants.{C24, C25, C30, Drop30}
 use Rattle.tc_address.specs.Label.{Address, address}
 use Rattle.tc_bits.specs.declared.flags.Flags.{Flags}
-use Rattle.tc_bits.specs.Fields.{FieldValues, IsFields, agrees, field_values}
+use Rattle.tc_bits.specs.Fields.{FieldValues, agrees, field_values}
 use Rattle.ltc_word.specs.declared.word.LtcWord.{LtcWord}
 use Rattle.vitc_line.specs.declared.word.VitcWord.{VitcWord}
 use Rattle.tc_c.specs.CEvent.{count_number}
 use Rattle.tc_c.specs.CLabel.{MeansLabel}
-use Rattle.tc_c.specs.CLine.{c_line_word, MeansLineWord}
+use Rattle.tc_c.specs.CLine.{MeansLineWord}
 use Rattle.tc_c.specs.CWord.{MeansWord, flags_in}
 use Rattle.tc_c.specs.declared.label.TcLabel.{TcLabel}
 use Rattle.tc_c.specs.declared.word.TcWord.{TcWord}

@@ -4,8 +4,7 @@ use Rattle.std.specs.Prelude.{◌≡◌, ℕ, Result, Ok, Err}
 use Rattle.tc_io.specs.Source.{Rose}
 use Rattle.tc_command.specs.declared.stop.Stop.{Stop}
 use Rattle.tc_command.specs.declared.status.Status.{Status}
-use Rattle.tc_command.specs.declared.status.Status.TheVariants.{Done, Usage, Refused, ReadFault, WriteFault, Memory}
-use Rattle.tc_command.specs.declared.status.Status.TheVariants.{Limit}
+use Rattle.tc_command.specs.declared.status.Status.TheVariants.{Done, ReadFault, WriteFault}
 use Rattle.tc_command.specs.Status.{status_of}
 
 -- a read fault comes only where the count of the source rose, and each other status leaves it as it was

@@ -3,8 +3,8 @@ use Rattle.std.specs.Prelude.{◌≡◌, ℕ, ◌≤◌, Bool, true, false, Resu
 use Rattle.tc_command.specs.Causes.{ended_with}
 use Rattle.tc_command.specs.declared.stop.Stop.{Stop}
 use Rattle.tc_command.specs.declared.status.Status.{Status}
-use Rattle.tc_command.specs.declared.status.Status.TheVariants.{Done, Usage, Refused, ReadFault, WriteFault}
-use Rattle.tc_command.specs.declared.status.Status.TheVariants.{Memory, Limit}
+use Rattle.tc_command.specs.declared.status.Status.TheVariants.{Done, Refused, WriteFault}
+use Rattle.tc_command.specs.declared.status.Status.TheVariants.{Memory}
 
 -- how many pulls of a job that reads were at the end of its input or behind it, and none of one that reads nothing. A
 -- refusal and a failed push come before the end or at it, and so does want of memory; a failed pull and a limit come

@@ -1,5 +1,5 @@
 -- All that is claimed of a command: what it takes and what it writes, and what it promises of that.
-use Rattle.std.specs.Prelude.{◌≡◌, ℕ, Bool, true, false, List, Option, Result}
+use Rattle.std.specs.Prelude.{◌≡◌, ℕ, Bool, false, List, Option, Result}
 use Rattle.tc_io.specs.Bytes.{AreBytes}
 use Rattle.tc_command.specs.declared.stop.Stop.{Stop}
 use Rattle.tc_command.specs.Command.{IsCommand}

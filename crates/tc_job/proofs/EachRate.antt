@@ -1,6 +1,6 @@
 -- From 140 samples a frame on a cell at play speed has 14 steps or more if a sample has eight, and each further grid
 -- halves them, so one has from 14 to 27; below that no grid has 14.
-use Rattle.std.proofs.Common.{◌≡◌, ℕ, ◌*◌, ◌/◌, ◌<◌, ◌≤◌, Bool, true, false, List, [], ◌∷◌, Option, Some, None}
+use Rattle.std.proofs.Common.{◌≡◌, ℕ, ◌<◌, ◌≤◌, Bool, true, false, List, [], ◌∷◌, Some, None}
 use Rattle.std.proofs.Common.{refl, sym, ◌∙◌, ap, arith}
 use Rattle.std.specs.Prelude.{if◌then◌else◌, nat_le, ◌&&◌}
 use Rattle.std.specs.List.{AllByRecursion}
@@ -10,7 +10,7 @@ use Rattle.step_grid.specs.declared.grid.Grid.{Grid}
 use Rattle.step_grid.specs.declared.grid.Grid.TheVariants.{Repeat, Sum}
 use Rattle.tc_address.specs.declared.system.System.{System}
 use Rattle.tc_address.specs.declared.system.System.TheVariants.{F24, F25, F30}
-use Rattle.tc_job.specs.PathGrid.{first_fit, grid_for, grids, is_fit, step_ticks, steps_of_cell}
+use Rattle.tc_job.specs.PathGrid.{first_fit, grids, is_fit, step_ticks, steps_of_cell}
 use Rattle.tc_job.specs.PathSlicing.{path_slicing_of, SlicesPath}
 use Rattle.tc_job.specs.TrackPath.{least_rate_of, sound_of, sound_on, SlicesTrackPath}
 

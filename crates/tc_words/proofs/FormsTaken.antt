@@ -1,6 +1,6 @@
 -- Each way to make words by a form is taken. All but the label of a number is seen by computing: the list of the labels
 -- of a day is too long for that.
-use Rattle.std.proofs.Common.{◌≡◌, Some, refl, rules, slice_get}
+use Rattle.std.proofs.Common.{◌≡◌, Some, rules, slice_get}
 use Rattle.line_text.specs.Line.{direction_named}
 use Rattle.tc_address.specs.declared.count.Count.TheVariants.{C30}
 use Rattle.tc_address.specs.Label.{address}

@@ -1,6 +1,6 @@
 -- The words that the form of a command makes, as `help` prints it: a word in capitals stands for a value, what stands
 -- in brackets may be left out, of words with a bar between them one is given, and so of ways with ` | ` between them.
-use Rattle.std.specs.Prelude.{◌≡◌, ℕ, ◌==◌, Bool, true, false, not, ◌&&◌, List, [], ◌∷◌, ◌++◌, codes, map}
+use Rattle.std.specs.Prelude.{◌≡◌, ℕ, ◌==◌, Bool, true, not, ◌&&◌, List, [], ◌∷◌, ◌++◌, codes, map}
 use Rattle.std.specs.Prelude.{if◌then◌else◌}
 use Rattle.std.specs.Prelude.{drop, get_or, Option, Some, None}
 use Rattle.std.specs.List.{flat_map, list_any, AllByRecursion}

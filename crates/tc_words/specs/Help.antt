@@ -1,5 +1,5 @@
 -- The values of `help`, word by word.
-use Rattle.std.specs.Prelude.{List, [], ◌∷◌, codes, if◌then◌else◌, position, Option, Some, None, option_map, Result, Ok}
+use Rattle.std.specs.Prelude.{List, [], ◌∷◌, codes, if◌then◌else◌, position, Option, Some, option_map, Result, Ok}
 use Rattle.std.specs.Prelude.{Err}
 use Rattle.std.specs.Str.{bytes_eq}
 use Rattle.tc_job.specs.declared.fault.WordsFault.{WordsFault}

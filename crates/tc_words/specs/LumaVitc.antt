@@ -1,5 +1,5 @@
 -- The values of `luma-vitc`, word by word.
-use Rattle.std.specs.Prelude.{ℕ, ◌-◌, min, codes, [], ◌∷◌, Option, Result, Ok, Err}
+use Rattle.std.specs.Prelude.{◌-◌, min, codes, [], ◌∷◌, Option, Result, Ok}
 use Rattle.luma_field.specs.declared.raster.TheConstants.{MAX_HEIGHT, MAX_ROWS}
 use Rattle.luma_field.specs.Raster.{raster_of}
 use Rattle.luma_row.specs.declared.width.TheConstants.{MAX_WIDTH, MIN_WIDTH}

@@ -1,5 +1,5 @@
 -- The values of `pcm-ltc` with `path`, word by word.
-use Rattle.std.specs.Prelude.{ℕ, nat_lt, Bool, codes, List, length, get_or, Option, Some, None, Result, Ok, Err}
+use Rattle.std.specs.Prelude.{ℕ, nat_lt, Bool, codes, List, length, get_or, Option, Result, Ok, Err}
 use Rattle.std.specs.Prelude.{[], if◌then◌else◌, option_and_then, slice_get}
 use Rattle.std.specs.Option.{option_map}
 use Rattle.std.specs.Str.{bytes_eq}

@@ -1,23 +1,19 @@
 -- Each field is in its place and in no other, so the bits fix the word, and the word fixes the bits.
-use Rattle.std.proofs.Common.{◌≡◌, ℕ, ◌+◌, ◌*◌, ◌/◌, ◌%◌, ◌^◌, ◌<◌, Bool, true, false, refl, sym, ap, ap₂, ◌∙◌, lit<}
+use Rattle.std.proofs.Common.{◌≡◌, ℕ, ◌+◌, ◌*◌, ◌/◌, ◌%◌, ◌^◌, ◌<◌, Bool, refl, sym, ap, ap₂, ◌∙◌, lit<}
 use Rattle.std.proofs.Common.{arith, None, not}
 use Rattle.std.specs.Int.{bit_at}
 use Rattle.std.proofs.lemmas.Nat.{mod_below}
 use Rattle.std.proofs.lemmas.Bool.{eqb-true, eq-eqb, not-false}
 use Rattle.lemmas.specs.Searches.{find_none, none_found}
 use Rattle.tc_address.specs.declared.system.System.{System}
-use Rattle.tc_address.specs.declared.count.Count.{Count}
-use Rattle.tc_address.specs.Count.{system_with, rate_of}
-use Rattle.tc_address.specs.Label.{address, is_dropped}
 use Rattle.tc_bits.specs.declared.raw.RawFields.{RawFields}
-use Rattle.tc_bits.specs.declared.flags.Flags.{Flags}
 use Rattle.tc_bits.specs.Register.{number_in, is_set}
 use Rattle.tc_bits.specs.Row.{OnlySumHolds}
 use Rattle.tc_bits.specs.Reading.{raw_in}
 use Rattle.tc_bits.specs.Spelling.{AreExact}
 use Rattle.tc_bits.specs.Table.{place}
 use Rattle.tc_bits.specs.Fault.{first_field_fault}
-use Rattle.tc_bits.specs.Fields.{FieldValues, field_values, agrees, digits_of, Says}
+use Rattle.tc_bits.specs.Fields.{FieldValues, Says}
 use Rattle.vitc_line.specs.declared.places.TheConstants as places
 use Rattle.vitc_line.specs.declared.word.VitcWord.{VitcWord}
 use Rattle.vitc_line.specs.CheckBits.{bits_of_residue, residue, is_wrong_residue, wrong_residue}

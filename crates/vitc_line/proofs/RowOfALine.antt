@@ -1,5 +1,5 @@
 -- The numbers of a line share out its 90 bits, so their sum by weights spells it, and nothing else does.
-use Rattle.std.proofs.Common.{◌≡◌, ℕ, zero, suc, ◌/◌, ◌^◌, ◌<◌, Bool, true, false, refl, lit<, arith}
+use Rattle.std.proofs.Common.{◌≡◌, ℕ, zero, suc, ◌/◌, ◌^◌, ◌<◌, Bool, true, refl, lit<, arith}
 use Rattle.std.proofs.lemmas.Nat.{mod_below}
 use Rattle.lemmas.specs.Lists.{also}
 use Rattle.tc_bits.specs.FieldLemmas.{digit_below}
@@ -11,7 +11,7 @@ use Rattle.tc_bits.specs.Fields.{FieldValues, IsFields}
 use Rattle.tc_bits.specs.Register.{number_in}
 use Rattle.tc_bits.specs.Row.{Fit, Holds, IsRow, sum_of, SumHolds, OnlySumHolds}
 use Rattle.tc_bits.specs.Spelling.{AreExact}
-use Rattle.tc_bits.specs.Table.{digit, is_table, row_of}
+use Rattle.tc_bits.specs.Table.{is_table, row_of}
 use Rattle.vitc_line.specs.declared.places.TheConstants as places
 use Rattle.vitc_line.specs.declared.word.VitcWord.{VitcWord}
 use Rattle.vitc_line.specs.CheckBits.{residue}

@@ -1,5 +1,5 @@
 -- If the bits under all sync pairs are those of right ones, each pair is right.
-use Rattle.std.proofs.Common.{◌≡◌, ℕ, ◌*◌, ◌/◌, ◌%◌, ◌^◌, ◌<◌, Bool, true, false, get_or, refl, sym, ap, ◌∙◌, lit<}
+use Rattle.std.proofs.Common.{◌≡◌, ℕ, ◌*◌, ◌/◌, ◌%◌, ◌^◌, ◌<◌, Bool, true, get_or, refl, sym, ap, ◌∙◌, lit<}
 use Rattle.std.proofs.Common.{arith}
 use Rattle.std.specs.Prelude.{◌==◌, ◌&&◌, bit_and}
 use Rattle.std.specs.List.{list_all, range_with_len}

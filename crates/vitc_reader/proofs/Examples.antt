@@ -1,6 +1,6 @@
 -- A field of three lines, worked by hand: noise, and twice the line of the second field of a picture labelled 0 at 25
 -- frames, on lines of 1,725 ticks, where a cell lasts 15.
-use Rattle.std.proofs.Common.{◌≡◌, ℕ, ◌*◌, ◌≤◌, true, false, List, [], ◌∷◌, map, Err, inl, inr, refl, arith, rules}
+use Rattle.std.proofs.Common.{◌≡◌, ℕ, ◌*◌, true, false, List, [], ◌∷◌, map, inl, inr, refl, arith, rules}
 use Rattle.tc_address.specs.declared.count.Count.TheVariants.{C25}
 use Rattle.tc_address.specs.declared.system.System.TheVariants.{F25}
 use Rattle.tc_bits.specs.Fields.{flags}
@@ -11,7 +11,7 @@ use Rattle.vitc_line.specs.Spelling.{word_with}
 use Rattle.vitc_reader.specs.declared.fault.ReadFault.TheVariants.{Runs}
 use Rattle.vitc_reader.specs.declared.fault.RunFault.TheVariants.{Run}
 use Rattle.vitc_reader.specs.declared.field.FieldAnswer.TheVariants.{Agreed}
-use Rattle.vitc_reader.specs.Agreement.{AgreeOn, IsAtFault, IsLineOf, SaysOf}
+use Rattle.vitc_reader.specs.Agreement.{IsAtFault, IsLineOf, SaysOf}
 use Rattle.vitc_reader.specs.Runs.{AreCells, IsCells, bits_of}
 
 second_field : VitcWord

@@ -1,5 +1,5 @@
 -- What says whose lines the lines of a field are is their answer.
-use Rattle.std.proofs.Common.{◌≡◌, ◌⊎◌, ℕ, ◌≤◌, List, [], ◌∷◌, ◌++◌, Result, Ok, Err, inl, inr, refl, sym, ap, ◌∙◌}
+use Rattle.std.proofs.Common.{◌≡◌, ℕ, ◌≤◌, List, [], ◌∷◌, ◌++◌, Result, Ok, Err, inl, inr, refl, sym, ap, ◌∙◌}
 use Rattle.std.proofs.Common.{subst}
 use Rattle.std.specs.List.{AllByRecursion}
 use Rattle.tc_address.specs.declared.system.System.{System}
@@ -7,8 +7,8 @@ use Rattle.vitc_line.specs.declared.word.VitcWord.{VitcWord}
 use Rattle.vitc_reader.specs.declared.fault.ReadFault.{ReadFault}
 use Rattle.vitc_reader.specs.declared.field.FieldAnswer.{FieldAnswer}
 use Rattle.vitc_reader.specs.declared.field.FieldAnswer.TheVariants.{NoLine, Agreed, Conflict, Nothing}
-use Rattle.vitc_reader.specs.Agreement.{AgreeOn, AreFaulty, Differ, IsAtFault, IsLineOf, IsLineOfOrAtFault, SaysOf}
-use Rattle.vitc_reader.specs.Field.{AllAre, AreSaid, IsAnswer, IsSaid, words_of}
+use Rattle.vitc_reader.specs.Agreement.{AgreeOn, AreFaulty, Differ, IsAtFault, IsLineOfOrAtFault, SaysOf}
+use Rattle.vitc_reader.specs.Field.{AllAre, AreSaid, IsAnswer, words_of}
 use Rattle.vitc_reader.proofs.AnswersExist.{SpellOrAreFaulty, lines_say}
 use Rattle.vitc_reader.proofs.SaidLines.{LineLaws, said_line}
 

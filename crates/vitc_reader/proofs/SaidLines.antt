@@ -1,9 +1,8 @@
 -- A line says a word exactly if its runs are those of the word's line, so the answer of a field says whose lines
 -- its
 -- lines are, and what says that is its answer.
-use Rattle.std.proofs.Common.{◌≡◌, ◌⊎◌, ℕ, ◌^◌, ◌<◌, ◌≤◌, true, List, [], ◌∷◌, ◌++◌, Result, Ok, Err}
+use Rattle.std.proofs.Common.{◌≡◌, ℕ, ◌^◌, ◌<◌, true, List, [], ◌∷◌, ◌++◌, Result, Ok, Err}
 use Rattle.std.proofs.Common.{inl, inr, refl, sym, ap, ◌∙◌, subst, append_assoc}
-use Rattle.std.specs.Prelude.{◌≢◌}
 use Rattle.std.specs.List.{AllByRecursion}
 use Rattle.tc_address.specs.declared.system.System.{System}
 use Rattle.tc_address.specs.Count.{system_with}
@@ -14,7 +13,7 @@ use Rattle.vitc_line.specs.Spelling.{Spells}
 use Rattle.vitc_reader.specs.declared.fault.ReadFault.{ReadFault}
 use Rattle.vitc_reader.specs.declared.field.FieldAnswer.{FieldAnswer}
 use Rattle.vitc_reader.specs.declared.field.FieldAnswer.TheVariants.{NoLine, Agreed, Conflict, Nothing}
-use Rattle.vitc_reader.specs.Agreement.{AgreeOn, AreFaulty, Differ, IsAtFault, IsLineOf, IsLineOfOrAtFault, IsWord}
+use Rattle.vitc_reader.specs.Agreement.{IsAtFault, IsLineOf, IsLineOfOrAtFault, IsWord}
 use Rattle.vitc_reader.specs.Agreement.{SaysOf}
 use Rattle.vitc_reader.specs.Field.{AllAre, AreSaid, IsAnswer, IsAnswerTo, IsSaid, words_of}
 use Rattle.vitc_reader.specs.Runs.{bits_of}

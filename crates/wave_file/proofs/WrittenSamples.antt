@@ -1,9 +1,9 @@
 -- The bytes of a block are those of its samples one behind another, each of the same width, so a track is found where
 -- it is.
-use Rattle.std.proofs.Common.{◌≡◌, ℕ, zero, suc, ◌+◌, ◌-◌, ◌*◌, ◌<◌, ◌≤◌, ◌^◌, ℤ, pos, List, [], ◌∷◌}
+use Rattle.std.proofs.Common.{◌≡◌, ℕ, zero, suc, ◌+◌, ◌-◌, ◌*◌, ◌<◌, ◌≤◌, ℤ, pos, List, [], ◌∷◌}
 use Rattle.std.proofs.Common.{◌++◌, length, take, drop, get_or}
 use Rattle.std.proofs.Common.{refl, ap, ap₂, ◌∙◌, arith, subst, sym, append_assoc}
-use Rattle.std.specs.Prelude.{◌==◌, ◌-ℤ◌, negsuc, slice_index, FitsSigned}
+use Rattle.std.specs.Prelude.{◌==◌, ◌-ℤ◌, slice_index}
 use Rattle.std.specs.List.{AllByRecursion}
 use Rattle.std.specs.Int.{w16, cast_signed, cast_unsigned}
 use Rattle.std.proofs.lemmas.Bool.{cond-true, cond-false, ne_eqb}

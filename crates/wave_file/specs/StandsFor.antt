@@ -88,11 +88,6 @@ blocks_at place (Data format extent left) zero count places =
     min (min (data_among extent (min count (MAX_BYTES - place)) / format.block) places) left
 blocks_at place stage part count places = 0
 
--- how many bytes a block has, at a stage before data: none at another
-abbrev pub block_width : Stage → ℕ
-block_width (Data format extent left) = format.block
-block_width stage = 0
-
 -- what was taken, and whether the data began: only `Begin` tells a format, and it tells it once
 abbrev pub AddsTaken : Decoding → Decoding → List ℕ → Taken → Type 0
 AddsTaken old new bytes (Nothing count) =

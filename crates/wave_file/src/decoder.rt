@@ -6,7 +6,7 @@ ghost use Rattle.wave_file.specs.Chunk.{IsNoted};
 ghost use Rattle.wave_file.specs.Stage.{format_at_stage, width_of, HasBytes, IsStage, IsWaiting};
 ghost use Rattle.wave_file.specs.Step.{IsLeft, IsStep};
 ghost use Rattle.wave_file.specs.StandsFor.{bytes_taken, format_in_decoding, may_end_before, no_decoding, AddsBlocks};
-ghost use Rattle.wave_file.specs.StandsFor.{block_width, blocks_at, data_among, wanted, AddsTaken, TakesCount};
+ghost use Rattle.wave_file.specs.StandsFor.{blocks_at, data_among, wanted, AddsTaken, TakesCount};
 ghost use Rattle.wave_file.specs.StandsFor.{IsTold, StandsFor, StopsAt};
 ghost use Rattle.wave_file.specs.Wave.{end_fault_of, reading_of};
 ghost use Rattle.tc_io.specs.Verdict.{good};
@@ -165,7 +165,7 @@ impl WaveDecoder {
     /// are: none if a block is cut, if data have not begun or have ended, or at a limit.
     pub fn samples(&mut self, bytes: &[u8], room: &mut [i16]) -> (usize, usize)
         ensures bytes { result.0 ≤ length bytes.now }
-        ensures whole { result.0 ≡ result.1 * block_width self.old.stage }
+        ensures whole { result.0 ≡ result.1 * width_of self.old.stage }
         ensures samples { result.1 ≤ length room.new }
         ensures room { length room.new ≡ length room.old }
         ensures adds { AddsBlocks self.old self.new bytes.now result.0 (take result.1 room.new) }

@@ -1,4 +1,4 @@
-use Rattle.std.proofs.Common.{◌≡◌, ◌∙◌, ◌+◌, ◌-◌, ◌/◌, ◌++◌, ℕ, List, Bool, ap, sym, refl, take, length, arith}
+use Rattle.std.proofs.Common.{◌≡◌, ◌∙◌, ◌+◌, ◌-◌, ◌/◌, ◌++◌, ℕ, List, Bool, ap, sym, take, length, arith}
 use Rattle.std.proofs.lemmas.Grind.{common_steps}
 use Rattle.biphase.specs.Chain.{intervals_of}
 use Rattle.direction_reader.specs.Played.{low_bits}

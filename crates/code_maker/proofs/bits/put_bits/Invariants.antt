@@ -1,4 +1,4 @@
-use Rattle.std.proofs.Common.{◌≡◌, ◌+◌, ◌-◌, ◌*◌, ◌≤◌, ◌++◌, Bool, List, length, take, drop}
+use Rattle.std.proofs.Common.{◌≡◌, ◌-◌, ◌*◌, ◌≤◌, ◌++◌, Bool, List, take, drop}
 use Rattle.direction_reader.specs.Played.{low_bits}
 use Rattle.code_maker.specs.Bits.{ticks_of}
 use Rattle.code_maker.proofs.bits.put_bits.Given as goal

@@ -1,6 +1,6 @@
 use Rattle.std.proofs.Common.{arith, refl}
 use Rattle.std.proofs.lemmas.Grind.{common_steps}
-use Rattle.std.proofs.Common.{◌≡◌, true, ◌<◌, ◌+◌, length}
+use Rattle.std.proofs.Common.{◌≡◌, true}
 use Rattle.std.specs.Prelude.{nat_lt}
 use Rattle.direction_reader.proofs.FirmJudges.{all_firm}
 use Rattle.direction_reader.proofs.FirmWindows.{not_yet}

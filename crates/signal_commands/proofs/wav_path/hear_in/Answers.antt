@@ -1,4 +1,4 @@
-use Rattle.tc_command.specs.KeptWorks.{err_both, on_err, on_ok, both_ok}
+use Rattle.tc_command.specs.KeptWorks.{on_err, on_ok, both_ok}
 use Rattle.signal_commands.proofs.TrackPathOn.{none_heard, track_fails, track_heard}
 use Rattle.signal_commands.proofs.wav_path.hear_in.Goals as goal
 

@@ -1,4 +1,4 @@
-use Rattle.std.proofs.Common.{◌≡◌, ◌<◌, ◌^◌, ◌%◌, ℕ, drop, ap, ◌∙◌, arith, rules}
+use Rattle.std.proofs.Common.{◌<◌, ◌^◌, ◌%◌, ℕ, drop, ap, ◌∙◌, arith, rules}
 use Rattle.std.proofs.lemmas.Grind.{common_steps}
 use Rattle.tc_address.specs.Count.{system_with}
 use Rattle.vitc_line.specs.Spelled.{line_of}

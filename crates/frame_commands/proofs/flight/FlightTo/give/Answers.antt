@@ -2,7 +2,6 @@ use Rattle.std.proofs.Common.{◌++◌, ◌∷◌, [], ℕ, List, refl, ap, sym,
 use Rattle.flywheel.specs.declared.frame.Frame.{Frame}
 use Rattle.flywheel.specs.Frames.{frames}
 use Rattle.flywheel.specs.StandsFor as flies
-use Rattle.frame_commands.specs.declared.frames.Frames.{Frames}
 use Rattle.frame_commands.specs.KeptFlight.{Counts, HasGiven}
 use Rattle.frame_commands.proofs.FramesInOrder.{both_counted, none_counted, one_more}
 use Rattle.frame_commands.proofs.FramesInOrder.{sends_both, sends_none, sends_then_front}

@@ -1,4 +1,4 @@
-use Rattle.std.proofs.Common.{[], ◌≡◌, ◌++◌, ◌∙◌, ◌+◌, ◌*◌, ℕ, List, append-nil, ap, refl, sym, subst, arith}
+use Rattle.std.proofs.Common.{[], ◌++◌, ◌+◌, ◌*◌, append-nil, refl, sym}
 use Rattle.std.proofs.KnownBytes.{Appends-trans}
 use Rattle.tc_command.specs.PushLemmas.{front_of_more, front_of_piece}
 use Rattle.tc_command.specs.KeptWorks.{on_ok, if_err, err_both}

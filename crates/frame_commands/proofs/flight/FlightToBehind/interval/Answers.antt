@@ -1,12 +1,8 @@
-use Rattle.std.proofs.Common.{[], ◌≡◌, ◌++◌, ◌∷◌, ◌+◌, ◌*◌, ◌<◌, ◌≤◌, ℕ, List, refl, sym, subst, arith}
-use Rattle.std.specs.Io.KnownBytes.{Appends}
+use Rattle.std.proofs.Common.{[], ◌+◌, ◌*◌, ◌<◌, refl, arith}
 use Rattle.limits.specs.declared.recording.TheConstants.{MAX_INTERVALS}
-use Rattle.tc_io.specs.Sink.{AppendsFront}
-use Rattle.frame_commands.specs.Hearing.{Hearer}
-use Rattle.frame_commands.specs.KeptFlight.{FitsHearing, GivesAll, GivesFirst, HeardBy, Stands}
 use Rattle.frame_commands.proofs.FlightGrows.{due_alone, flown, flown_part}
 use Rattle.frame_commands.proofs.FramesInOrder.{none_counted, sends_none}
-use Rattle.frame_commands.proofs.NextFrame.{heard_later, turn_due}
+use Rattle.frame_commands.proofs.NextFrame.{turn_due}
 use Rattle.frame_commands.proofs.Ready.{given_fits, quiet_fits, ready_for, turns_of}
 use Rattle.frame_commands.proofs.flight.FlightToBehind.interval.Goals as goal
 

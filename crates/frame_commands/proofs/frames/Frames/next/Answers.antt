@@ -9,7 +9,7 @@ use Rattle.flywheel.specs.StandsFor as flies
 use Rattle.flywheel.specs.Wheel.{Wheel, IsInRange}
 use Rattle.frame_commands.specs.declared.frames.Frames.{Frames}
 use Rattle.frame_commands.specs.Hearing.{due_at, word_ticks}
-use Rattle.frame_commands.specs.KeptFlight.{counted, HasGiven, IsGiving}
+use Rattle.frame_commands.specs.KeptFlight.{counted, HasGiven}
 use Rattle.frame_commands.proofs.FramesInOrder.{not_heard, one_counted}
 use Rattle.frame_commands.proofs.NextFrame.{due_end, due_fits, due_turn, given_comes_first, heard_later, none_due}
 use Rattle.frame_commands.proofs.NextFrame.{turn_due, turn_end, InOrder}

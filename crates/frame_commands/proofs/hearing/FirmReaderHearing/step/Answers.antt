@@ -1,4 +1,4 @@
-use Rattle.std.proofs.Common.{◌++◌, ◌∷◌, [], ◌∙◌, ap, ap₂, List, arith, map, sym}
+use Rattle.std.proofs.Common.{◌++◌, ◌∙◌, ap₂, List, arith, map, sym}
 use Rattle.direction_reader.specs.declared.event.Event.{Event}
 use Rattle.direction_reader.specs.Firm.{told_tick}
 use Rattle.direction_reader.specs.FirmReader.{told_until}

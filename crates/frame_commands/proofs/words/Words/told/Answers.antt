@@ -1,5 +1,4 @@
 use Rattle.std.proofs.Common.{◌++◌, ◌∙◌, ap₂, List, sym}
-use Rattle.std.specs.Option.{option_to_list}
 use Rattle.flywheel.specs.declared.heard.HeardWord.{HeardWord}
 use Rattle.frame_commands.proofs.HeardWords.{words_of_two}
 use Rattle.frame_commands.proofs.words.Words.told.Goals as goal

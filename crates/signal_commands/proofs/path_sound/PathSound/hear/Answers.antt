@@ -1,4 +1,4 @@
-use Rattle.std.proofs.Common.{rules, ◌≡◌, ◌∷◌, reverse, refl, FitsSigned, to_z-of_z, ap, sym, ◌∙◌}
+use Rattle.std.proofs.Common.{rules, ◌∷◌, reverse, refl, FitsSigned, to_z-of_z, ap, sym, ◌∙◌}
 use Rattle.std.specs.Int.{w16}
 use Rattle.tc_command.specs.KeptWorks.{on_err}
 use Rattle.tc_job.specs.PathSlicing.{SlicesPath}

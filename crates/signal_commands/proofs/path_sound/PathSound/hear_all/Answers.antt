@@ -1,11 +1,10 @@
-use Rattle.std.proofs.Common.{rules, ◌≡◌, ◌+◌, ◌-◌, ◌++◌, ◌∷◌, [], pos, List, ℕ, ℤ, FitsSigned, to_z-of_z}
-use Rattle.std.proofs.Common.{length, take, drop, get_or, refl, sym, ◌∙◌, ap, subst, arith, append-nil}
+use Rattle.std.proofs.Common.{rules, ◌+◌, ◌++◌, ◌∷◌, [], pos, List, ℕ, ℤ, FitsSigned, to_z-of_z}
+use Rattle.std.proofs.Common.{take, drop, get_or, refl, sym, ◌∙◌, subst, arith, append-nil}
 use Rattle.std.proofs.KnownBytes.{Appends-nil}
 use Rattle.std.proofs.lemmas.List.{take_all}
 use Rattle.std.specs.Int.{w16}
-use Rattle.lemmas.specs.Results.{through}
 use Rattle.tc_command.specs.KeptWorks.{at_err}
-use Rattle.signal_commands.specs.KeptSound.{FailsSoFar, HearsSamples}
+use Rattle.signal_commands.specs.KeptSound.{HearsSamples}
 use Rattle.signal_commands.proofs.PathOn.{fails_behind, one_more_heard, run_split}
 use Rattle.signal_commands.proofs.path_sound.PathSound.hear_all.Goals as goal
 

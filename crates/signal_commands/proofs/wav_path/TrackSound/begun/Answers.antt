@@ -1,4 +1,4 @@
-use Rattle.std.proofs.Common.{◌≡◌, ◌≤◌, Some, None, ap, sym, subst, ◌∙◌, refl}
+use Rattle.std.proofs.Common.{◌≡◌, ◌≤◌, Some, None, ap, sym, subst, ◌∙◌}
 use Rattle.tc_job.specs.TrackPath.{least_rate_of, sound_of}
 use Rattle.wave_file.specs.declared.format.Asked.{Asked}
 use Rattle.signal_commands.proofs.wav_path.TrackSound.begun.Goals as goal

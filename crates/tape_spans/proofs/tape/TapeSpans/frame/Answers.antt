@@ -1,5 +1,4 @@
-use Rattle.std.proofs.Common.{◌≡◌, ◌∷◌, [], ◌++◌, sym, subst, List}
-use Rattle.flywheel.specs.declared.frame.Frame.{Frame}
+use Rattle.std.proofs.Common.{◌≡◌, ◌∷◌, [], ◌++◌, sym, subst}
 use Rattle.tape_spans.specs.StandsFor.{StandsFor, cut_lines}
 use Rattle.tape_spans.specs.Tape.{Tape}
 use Rattle.tape_spans.specs.SpanTexts.{final_lines}

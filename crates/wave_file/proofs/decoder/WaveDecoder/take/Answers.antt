@@ -1,10 +1,7 @@
-use Rattle.std.proofs.Common.{◌-◌, ◌++◌, ◌∷◌, [], take, refl, sym, arith, rules, subst, ◌∙◌}
-use Rattle.std.proofs.Common.{SFits, w16}
+use Rattle.std.proofs.Common.{refl, sym, arith, subst}
 use Rattle.wave_file.specs.StandsFor.{Decoding, StandsFor}
-use Rattle.wave_file.proofs.Decoding.{next_added, part_added, passed_added, told_piece, told_limit, told_bad, told_past}
+use Rattle.wave_file.proofs.Decoding.{part_added, passed_added, told_limit}
 use Rattle.wave_file.proofs.decoder.WaveDecoder.take.Goals as goal
-use Rattle.std.proofs.lemmas.Int.{to_z-of_z}
-use Rattle.tc_io.specs.Verdict.{refused, past_limit}
 
 pub returns-then-room-eq0-clause-stops : goal.returns-then-room-eq0-clause-stops
 returns-then-room-eq0-clause-stops c = λ front samples stands more.

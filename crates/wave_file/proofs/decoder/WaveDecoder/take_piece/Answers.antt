@@ -1,4 +1,4 @@
-use Rattle.std.proofs.Common.{◌+◌, ◌≤◌, ◌∷◌, ◌++◌, [], take, refl, sym, arith, rules, subst, ◌∙◌}
+use Rattle.std.proofs.Common.{◌+◌, ◌≤◌, ◌∷◌, ◌++◌, [], take, refl, sym, rules, subst, ◌∙◌}
 use Rattle.std.proofs.Common.{SFits, w16}
 use Rattle.std.proofs.lemmas.Int.{to_z-of_z}
 use Rattle.tc_io.specs.Verdict.{refused, past_limit}
