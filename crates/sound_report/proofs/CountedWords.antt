@@ -1,6 +1,6 @@
 -- Words whose labels count on, and that keep pace, are heard joined: as one span, from the first to the last.
-use Rattle.std.proofs.Common.{◌≡◌, ℕ, zero, suc, ◌+◌, ◌*◌, ◌<◌, ◌≤◌, true, List, [], ◌∷◌, ◌++◌, length, take, drop}
-use Rattle.std.proofs.Common.{sum, None, refl, ap, ap₂, sym, subst, ◌∙◌, append-nil, arith}
+use Rattle.std.proofs.Common.{◌≡◌, ℕ, suc, ◌+◌, ◌*◌, ◌<◌, true, List, [], ◌∷◌, ◌++◌, length, take, drop}
+use Rattle.std.proofs.Common.{sum, None, refl, ap, ap₂, ◌∙◌, append-nil, arith}
 use Rattle.std.specs.Prelude.{◌↔◌}
 use Rattle.std.proofs.Math.Seq.{take-add}
 use Rattle.std.proofs.lemmas.Grind.{flat_map-append}
@@ -28,7 +28,7 @@ use Rattle.tc_job.specs.declared.flight.Flight.{Flight}
 use Rattle.sound_report.specs.OneSpan.{label_of, last_of, mark_of, span_from, CountOn, KeepPaceBehind, KeepPace}
 use Rattle.sound_report.specs.OneSpan.{TellsOneSpan}
 use Rattle.sound_report.specs.WordsSpans.{TellsSpans}
-use Rattle.sound_report.proofs.JoinedSpan.{joined_span, mark_there, one_span}
+use Rattle.sound_report.proofs.JoinedSpan.{mark_there, one_span}
 use Rattle.sound_report.proofs.JoinedWords.{latest, AreJoined, ComesSoon}
 
 -- what the law of the next word says

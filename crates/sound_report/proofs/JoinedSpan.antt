@@ -1,6 +1,6 @@
 -- Words that are joined are one span, whatever is invented behind the last one.
-use Rattle.std.proofs.Common.{◌≡◌, ℕ, zero, suc, ◌+◌, Bool, true, false, cond, List, [], ◌∷◌, ◌++◌, map, length}
-use Rattle.std.proofs.Common.{count_by, refl, ap, ap₂, ◌∙◌, arith}
+use Rattle.std.proofs.Common.{◌≡◌, ℕ, ◌+◌, Bool, true, false, cond, List, [], ◌∷◌, ◌++◌, map, length}
+use Rattle.std.proofs.Common.{count_by, refl, ap, ◌∙◌, arith}
 use Rattle.std.specs.List.{fold, list_any, take_while}
 use Rattle.std.proofs.lemmas.List.Sums.{take_while-cons}
 use Rattle.lemmas.specs.Lists.{count_by-cons}
@@ -12,7 +12,7 @@ use Rattle.flywheel.specs.GoOn.{goes_on}
 use Rattle.flywheel.specs.Kinds.{is_heard}
 use Rattle.tape_spans.specs.declared.span.Mark.{Mark}
 use Rattle.tape_spans.specs.declared.span.Span.{Span}
-use Rattle.tape_spans.specs.Spans.{SpanFrames, bridged_in, frames_of_spans, latest_of, mark_at, span_of, spans}
+use Rattle.tape_spans.specs.Spans.{bridged_in, frames_of_spans, latest_of, mark_at, spans}
 use Rattle.sound_report.proofs.JoinedWords.{frames_are_joined, latest, AreJoined}
 
 -- a word as the begin or the end of a span

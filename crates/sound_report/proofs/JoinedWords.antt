@@ -7,7 +7,7 @@ use Rattle.std.proofs.lemmas.Bool.Decides.{nat_tests}
 use Rattle.std.proofs.lemmas.Nat.{mul-le}
 use Rattle.flywheel.specs.declared.frame.Frame.{Frame}
 use Rattle.flywheel.specs.declared.heard.HeardWord.{HeardWord}
-use Rattle.flywheel.specs.Frames.{due_steps, frames_after, frames_between, heard_as, is_due, is_gone, is_joined}
+use Rattle.flywheel.specs.Frames.{due_steps, frames_after, frames_between, heard_as, is_due, is_joined}
 use Rattle.flywheel.specs.Frames.{is_next}
 
 -- a word comes soon behind another one: by less than one and a half of its lengths

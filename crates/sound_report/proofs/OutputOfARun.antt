@@ -5,7 +5,6 @@ use Rattle.biphase.specs.declared.profile.Profile.TheVariants.{Normal, Worn, Rou
 use Rattle.interval_commands.specs.LtcRead.{report}
 use Rattle.interval_engine.specs.Along.{along_intervals}
 use Rattle.tc_command.specs.declared.status.Status.TheVariants.{Done}
-use Rattle.tc_command.specs.Exchange.{Exchange}
 use Rattle.tc_command.specs.Meaning.{Meaning}
 use Rattle.tc_job.specs.declared.job.Job.{Job}
 use Rattle.tc_job.specs.declared.job.Task.{Task}

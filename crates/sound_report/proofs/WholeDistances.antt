@@ -1,13 +1,10 @@
 -- A distance that fits an interval is written as it is, and at each pace if nothing lasts longer than a piece.
-use Rattle.std.proofs.Common.{◌≡◌, ℕ, ◌-◌, ◌*◌, ◌/◌, ◌<◌, ◌≤◌, Bool, true, false, ℤ, List, [], ◌∷◌, ◌++◌}
-use Rattle.std.proofs.Common.{replicate}
-use Rattle.std.proofs.Common.{ap, ap₂, refl, ◌∙◌, arith}
-use Rattle.std.specs.List.{flat_map, AllByRecursion}
-use Rattle.std.proofs.Math.Nat.{div-eq_of_lt}
+use Rattle.std.proofs.Common.{◌≡◌, ℕ, ◌*◌, ◌/◌, ◌<◌, ◌≤◌, Bool, true, false, ℤ, List}
+use Rattle.std.proofs.Common.{◌∙◌, arith}
+use Rattle.std.specs.List.{AllByRecursion}
 use Rattle.pcm_front.specs.DistanceLemmas.{written_whole as fits_whole}
 use Rattle.pcm_front.specs.declared.pace.Pace.TheVariants.{Ended, Passing}
-use Rattle.limits.specs.declared.recording.TheConstants.{MAX_INTERVAL}
-use Rattle.pcm_front.specs.Distance.{distances_by, intervals_by, pieces_of, whole_pieces, IsInterval}
+use Rattle.pcm_front.specs.Distance.{distances_by, intervals_by, IsInterval}
 use Rattle.pcm_front.specs.Pace.{intervals_at, passed_by}
 use Rattle.pcm_front.specs.Settings.{Settings}
 use Rattle.tc_address.specs.declared.system.System.{System}
