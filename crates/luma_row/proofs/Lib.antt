@@ -5,6 +5,7 @@ pub mod FallByFall
 pub mod Filled
 pub mod HeightByHeight
 pub mod MoveByMove
+pub mod NextEdge
 pub mod OneCode
 pub mod OneMore
 pub mod OnePlace

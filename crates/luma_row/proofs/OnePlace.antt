@@ -1,16 +1,15 @@
 -- Each choice has one first best, so a row has one coarse place, and from there each move leads to one place.
-use Rattle.std.proofs.Common.{◌≡◌, ℕ, zero, suc, ◌+◌, ◌*◌, List, length, ap, ap₂, sym, subst, ◌∙◌}
+use Rattle.std.proofs.Common.{◌≡◌, ℕ, zero, suc, ◌+◌, ◌*◌, inl, inr, List, length, ap, ap₂, sym}
+use Rattle.std.proofs.Common.{subst, ◌∙◌}
 use Rattle.luma_row.specs.declared.place.Place.{Place}
 use Rattle.luma_row.specs.Choice.{IsFirstBest}
 use Rattle.luma_row.specs.Climb.{halved, neighbour, worth, Climbs, Moves, Refines}
 use Rattle.luma_row.specs.Coarse.{best_at, sum_at, IsCoarse}
 use Rattle.luma_row.specs.Earliest.{earliest}
-use Rattle.luma_row.specs.Row.{LiesAt}
+use Rattle.luma_row.specs.Row.{IsSought, LiesAt}
 use Rattle.luma_row.specs.Width.{distance, distances, grain, start, starts}
 use Rattle.luma_row.proofs.OneMore.{one_first}
-
-same_place : (a b : Place) → a.first ≡ b.first → a.last ≡ b.last → a ≡ b
-same_place a b first last = ap₂ (λ (f l : ℕ). record { first = f; last = l }) first last
+use Rattle.luma_row.proofs.NextEdge.{one_sharp, same_place}
 
 one_move_leads : (row : List ℕ) (step : ℕ) (from a b : Place) → Moves row step from a → Moves row step from b → a ≡ b
 one_move_leads row step from a b m n =
@@ -47,10 +46,17 @@ one_coarse row sum other a b p q =
     let last = p.last ∙ (ap₂ (λ (e w : ℕ). start width e + distance width w) early wide ∙ sym q.last) in
     (p.sum_is ∙ (ap (best_at row) wide ∙ sym q.sum_is), same_place a b first last)
 
--- a word lies in one place of a row
-pub one_place : (row : List ℕ) (a b : Place) → LiesAt row a → LiesAt row b → a ≡ b
-one_place row a b p q =
+-- a word that is sought is found in one place of a row
+pub one_sought : (row : List ℕ) (a b : Place) → IsSought row a → IsSought row b → a ≡ b
+one_sought row a b p q =
     let same = one_coarse row p.sum q.sum p.coarse q.coarse p.is_coarse q.is_coarse in
     let fine = subst (λ (x : Place). Refines row (2 * grain (length row)) 8 x p.deepest) (same.1) p.fine in
     let deepest = one_refined row (2 * grain (length row)) 8 q.coarse p.deepest q.deepest fine q.fine in
     p.earliest_is ∙ (ap (earliest row) deepest ∙ sym q.earliest_is)
+
+-- a word lies in one place of a row
+pub one_place : (row : List ℕ) (a b : Place) → LiesAt row a → LiesAt row b → a ≡ b
+one_place row a b (inl p) (inl q) = one_sharp row a b p q
+one_place row a b (inl p) (inr q) = absurd (q.0 a p)
+one_place row a b (inr p) (inl q) = absurd (p.0 b q)
+one_place row a b (inr p) (inr q) = one_sought row a b p.1 q.1

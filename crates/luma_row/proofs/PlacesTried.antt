@@ -4,7 +4,7 @@ use Rattle.std.proofs.Common.{refl, ap₂, sym, subst, ◌∙◌, arith}
 use Rattle.luma_row.specs.declared.place.Place.{Place}
 use Rattle.luma_row.specs.Earliest.{all_fall, back, earliest_within, falls, IsEarliestAt, IsNowhereEarlier}
 use Rattle.luma_row.specs.Place.{apart}
-use Rattle.luma_row.specs.Row.{LiesAt}
+use Rattle.luma_row.specs.Row.{IsSought}
 
 -- with one more
 within_more : (row : List ℕ) (deepest : Place) (cells : ℕ) → earliest_within row deepest (cells + 1)
@@ -84,7 +84,7 @@ taken_within row deepest (suc cells) few none = elim (either (all_fall row (fall
       (taken_within row deepest cells (omega (arith, few)) (one_fewer row deepest cells none isnt))
 ]
 
-pub lies_earliest : (row : List ℕ) (place : Place) (lies : LiesAt row place)
+pub lies_earliest : (row : List ℕ) (place : Place) (lies : IsSought row place)
     → ((cells : ℕ) × IsEarliestAt row lies.deepest place cells) ⊎ IsNowhereEarlier row lies.deepest place
 lies_earliest row place lies =
     subst (λ (p : Place). ((at : ℕ) × IsEarliestAt row lies.deepest p at) ⊎ IsNowhereEarlier row lies.deepest p)

@@ -3,10 +3,12 @@ pub mod Choice
 pub mod Climb
 pub mod Coarse
 pub mod Earliest
+pub mod Edges
 pub mod Heights
 pub mod KeptBest
 pub mod KeptCells
 pub mod KeptCoarse
+pub mod KeptExtremes
 pub mod KeptHeights
 pub mod KeptLevels
 pub mod KeptLight

@@ -1,5 +1,5 @@
 -- A row that carries code, and what its cells say.
-use Rattle.std.specs.Prelude.{◌≡◌, ℕ, ◌-◌, ◌*◌, ◌<◌, leb, Bool, true, List}
+use Rattle.std.specs.Prelude.{◌≡◌, ℕ, ◌-◌, ◌*◌, ◌<◌, ◌⊎◌, leb, Bool, true, List}
 use Rattle.luma_row.specs.declared.light.TheConstants.{EVEN}
 use Rattle.luma_row.specs.declared.place.Place.{Place}
 use Rattle.luma_row.specs.declared.row.CodeRow.{CodeRow}
@@ -7,6 +7,7 @@ use Rattle.luma_row.specs.Cells.{cells_of, counts, swing}
 use Rattle.luma_row.specs.Climb.{IsPlace}
 use Rattle.luma_row.specs.Coarse.{IsCoarse}
 use Rattle.luma_row.specs.Earliest.{earliest}
+use Rattle.luma_row.specs.Edges.{IsSharp}
 use Rattle.luma_row.specs.Heights.{heights_of}
 use Rattle.luma_row.specs.Light.{darkest, lightest}
 
@@ -14,9 +15,9 @@ use Rattle.luma_row.specs.Light.{darkest, lightest}
 abbrev pub has_contrast : List ℕ → Bool
 has_contrast row = leb 8 (lightest row - darkest row)
 
--- where a word lies in a row: its sync pairs fall at the coarse place, which is made finer, and the earliest place is
--- taken at which all of them fall
-pub record LiesAt (row : List ℕ) (place : Place) : Type 0 where
+-- where a word is found that is sought: its sync pairs fall at the coarse place, which is made finer, and the earliest
+-- place is taken at which all of them fall
+pub record IsSought (row : List ℕ) (place : Place) : Type 0 where
   pub coarse : Place
   pub sum : ℕ
   pub is_coarse : IsCoarse row sum coarse
@@ -24,6 +25,10 @@ pub record LiesAt (row : List ℕ) (place : Place) : Type 0 where
   pub deepest : Place
   pub fine : IsPlace row coarse deepest
   pub earliest_is : place ≡ earliest row deepest
+
+-- where a word lies in a row: at the sharp place, and in a row without one where it is found that is sought
+abbrev pub LiesAt : List ℕ → Place → Type 0
+LiesAt row place = IsSharp row place ⊎ (((other : Place) → ¬ IsSharp row other) × IsSought row place)
 
 -- the row carries code: a word lies in it, and it counts
 pub record IsCode (row : List ℕ) (code : CodeRow) : Type 0 where

@@ -16,7 +16,7 @@ pub(crate) const BITS: usize = 90;
 pub(crate) type Cells = [u32; BITS];
 
 /// The light of the middle six eighths of a cell, beyond that of the darkest pixel.
-fn cell(row: &[u8], sums: &Sums, dark: u8, place: Place, bit: usize) -> u32
+pub(crate) fn cell(row: &[u8], sums: &Sums, dark: u8, place: Place, bit: usize) -> u32
     requires row { IsRow row.now }
     requires sums { AreSums row.now sums.now }
     requires dark { dark ≡ darkest row.now }

@@ -8,7 +8,7 @@ ghost use Rattle.luma_row.specs.declared.width.TheConstants.{MAX_WIDTH, MIN_WIDT
 ghost use Rattle.luma_row.specs.Earliest.{back, IsEarliestAt, IsNowhereEarlier};
 ghost use Rattle.luma_row.specs.KeptLevels.{AreLevels};
 ghost use Rattle.luma_row.specs.Levels.{height_at, says_bits};
-ghost use Rattle.luma_row.specs.Row.{IsCode, LiesAt};
+ghost use Rattle.luma_row.specs.Row.{IsCode, IsSought, LiesAt};
 ghost use Rattle.luma_row.specs.Width.{distance, distances, end, grain, narrowest, ten_cells, widest};
 
 /// The widths of rows, and the fall of an even place.
@@ -35,11 +35,11 @@ pub fn a_row_says_one_thing()
     ensures code { (row : List ℕ) (a b : CodeRow) → IsCode row a → IsCode row b → a ≡ b }
 {}
 
-/// A word lies at a place where all its pairs fall, and at none before it; or at the one with the deepest falls, where
-/// they fall at none. The one with the deepest falls is eight cells back from eight cells later.
+/// A word that is sought lies at a place where all its pairs fall, and at none before it; or at the one with the deepest
+/// falls, where they fall at none. The one with the deepest falls is eight cells back from eight cells later.
 pub fn a_word_lies_at_the_earliest_place()
-    ensures earliest { (row : List ℕ) (place : Place) (lies : LiesAt row place)
-        → ((cells : ℕ) × IsEarliestAt row lies.deepest place cells) ⊎ IsNowhereEarlier row lies.deepest place }
+    ensures earliest { (row : List ℕ) (place : Place) (sought : IsSought row place)
+        → ((cells : ℕ) × IsEarliestAt row sought.deepest place cells) ⊎ IsNowhereEarlier row sought.deepest place }
     ensures eight { (place : Place) → back place 8 ≡ place }
 {}
 

@@ -32,6 +32,8 @@ mod cells;
 mod climb;
 mod coarse;
 mod earliest;
+mod edges;
+mod extremes;
 mod heights;
 pub mod laws;
 mod levels;

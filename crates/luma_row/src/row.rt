@@ -1,15 +1,20 @@
 //! A row of pixels, read. Read next: `levels`.
-ghost use Rattle.std.specs.Prelude.{◌≡◌, ◌^◌, ◌≤◌, min, max, IfNone, IfSome};
-ghost use Rattle.std.specs.List.{fold};
+ghost use Rattle.std.specs.Prelude.{◌≡◌, ◌^◌, IfNone, IfSome};
 ghost use Rattle.luma_row.specs.declared.row.CodeRow.{CodeRow};
+ghost use Rattle.luma_row.specs.declared.place.Place.{Place};
+ghost use Rattle.luma_row.specs.KeptExtremes.{AreExtremes};
 ghost use Rattle.luma_row.specs.KeptLevels.{AreLevels};
-ghost use Rattle.luma_row.specs.Light.{darkest, lightest, IsRow};
-ghost use Rattle.luma_row.specs.Row.{has_contrast, IsCode};
+ghost use Rattle.luma_row.specs.KeptLight.{AreSums};
+ghost use Rattle.luma_row.specs.KeptPlace.{IsNear};
+ghost use Rattle.luma_row.specs.Light.{IsRow};
+ghost use Rattle.luma_row.specs.Row.{has_contrast, IsCode, IsSought, LiesAt};
 
 use crate::cells::{cells_of, counts, swing_of};
 use crate::climb::refine;
 use crate::coarse::{Falls, best_coarse, fall_along};
 use crate::earliest::earliest;
+use crate::edges::sharp_place;
+use crate::extremes::Extremes;
 use crate::heights::heights_of;
 use crate::levels::Levels;
 use crate::light::{EVEN, SUMS, Sums, sum_up};
@@ -31,28 +36,13 @@ pub struct RowReader {
     sums_of_falls: Falls,
 }
 
-/// The darkest and the lightest pixel of a row.
-fn extremes(row: &[u8]) -> (u8, u8)
-    ensures dark { result.0 ≡ darkest row.now }
-    ensures light { result.1 ≡ lightest row.now }
-{
-    let mut darkest = 255;
-    let mut lightest = 0;
-    for at in 0..row.len() {
-        darkest = darkest.min(row[at]);
-        lightest = lightest.max(row[at]);
-    }
-    (darkest, lightest)
-}
-
 /// Whether two pixels are eight levels apart.
-fn has_contrast(row: &[u8], dark: u8, light: u8) -> bool
-    requires dark { dark ≡ darkest row.now }
-    requires light { light ≡ lightest row.now }
+fn has_contrast(row: &[u8], extremes: Extremes) -> bool
+    requires { AreExtremes row.now extremes }
     ensures { result ≡ has_contrast row.now }
 {
     let _ = row;
-    8 <= light.saturating_sub(dark)
+    8 <= extremes.contrast()
 }
 
 impl RowReader {
@@ -72,19 +62,13 @@ impl RowReader {
         ensures none { IfNone result ((code : CodeRow) → IsCode row.now code → ⊥) }
         ensures size { IfSome result (λ code. AreLevels (2 ^ 28) (2 ^ 35) code.levels) }
     {
-        let (dark, light) = extremes(row);
-        if !has_contrast(row, dark, light) {
+        let extremes = Extremes::of(row);
+        if !has_contrast(row, extremes) {
             return None;
         }
         sum_up(row, &mut self.sums);
-        fall_along(row, &self.sums, &mut self.falls);
-        let coarse = best_coarse(row, &self.falls, &mut self.sums_of_falls);
-        if coarse.sum <= 9 * EVEN {
-            return None;
-        }
-        let deepest = refine(row, &self.sums, coarse.place);
-        let place = earliest(row, &self.sums, deepest);
-        let cells = cells_of(row, &self.sums, dark, place);
+        let place = self.place(row, extremes)?;
+        let cells = cells_of(row, &self.sums, extremes.darkest, place);
         let swing = swing_of(&cells);
         if !counts(place, &cells, swing) {
             return None;
@@ -94,5 +78,39 @@ impl RowReader {
             place,
             levels: Levels { swing, heights },
         })
+    }
+
+    /// Where a word lies in a row, if one does.
+    fn place(&mut self, row: &[u8], extremes: Extremes) -> Option<Place>
+        requires row { IsRow row.now }
+        requires sums { AreSums row.now self.old.sums }
+        requires extremes { AreExtremes row.now extremes }
+        ensures lies { IfSome result (LiesAt row.now) }
+        ensures none { IfNone result ((place : Place) → LiesAt row.now place → ⊥) }
+        ensures near { IfSome result IsNear }
+        ensures sums { AreSums row.now self.new.sums }
+    {
+        match sharp_place(row, &self.sums, extremes) {
+            Some(place) => Some(place),
+            None => self.sought(row),
+        }
+    }
+
+    /// Where a word is found that is sought, if the pairs fall anywhere.
+    fn sought(&mut self, row: &[u8]) -> Option<Place>
+        requires row { IsRow row.now }
+        requires sums { AreSums row.now self.old.sums }
+        ensures sought { IfSome result (IsSought row.now) }
+        ensures none { IfNone result ((place : Place) → IsSought row.now place → ⊥) }
+        ensures near { IfSome result IsNear }
+        ensures sums { AreSums row.now self.new.sums }
+    {
+        fall_along(row, &self.sums, &mut self.falls);
+        let coarse = best_coarse(row, &self.falls, &mut self.sums_of_falls);
+        if coarse.sum <= 9 * EVEN {
+            return None;
+        }
+        let deepest = refine(row, &self.sums, coarse.place);
+        Some(earliest(row, &self.sums, deepest))
     }
 }

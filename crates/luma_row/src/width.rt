@@ -1,7 +1,7 @@
 //! What the width of a row says of the words in it, in sixteenths of a pixel. Read next: `light`.
 ghost use Rattle.std.specs.Prelude.{◌≡◌, ◌≤◌, ◌*◌, ◌^◌, ◌<◌, length};
 ghost use Rattle.luma_row.specs.Light.{IsRow};
-ghost use Rattle.luma_row.specs.Width.{distance, distances, earliest, end, grain, start, starts, ten_cells};
+ghost use Rattle.luma_row.specs.Width.{distance, distances, earliest, end, grain, narrowest, start, starts, ten_cells, widest};
 ghost use Rattle.luma_row.specs.KeptWidth.{IsWidth};
 
 /// The pixels of the narrowest row.
@@ -44,13 +44,30 @@ pub(crate) fn end(width: u32) -> u32
     16 * width + 4 * grain(width)
 }
 
+/// The least distance from the first sync pair to the ninth.
+pub(crate) fn narrowest(width: u32) -> u32
+    requires { IsWidth width }
+    ensures value { result ≡ narrowest width }
+    ensures wide { result ≤ 14 * width }
+{
+    8 * ten_cells(width) * 95 / 100
+}
+
+/// The greatest one.
+pub(crate) fn widest(width: u32) -> u32
+    requires { IsWidth width }
+    ensures value { result ≡ widest width }
+    ensures wide { result ≤ 14 * width }
+{
+    8 * ten_cells(width) * 105 / 100
+}
+
 /// How many distances are looked at.
 pub(crate) fn distances(width: u32) -> u32
     requires { IsWidth width }
     ensures { result ≡ distances width }
 {
-    let tens = 8 * ten_cells(width);
-    (tens * 105 / 100 - tens * 95 / 100) / (2 * grain(width)) + 1
+    (widest(width) - narrowest(width)) / (2 * grain(width)) + 1
 }
 
 /// The distance with this number.
@@ -61,7 +78,7 @@ pub(crate) fn distance(width: u32, number: u32) -> u32
     ensures narrow { 12 * width ≤ result }
     ensures wide { result ≤ 14 * width }
 {
-    8 * ten_cells(width) * 95 / 100 + 2 * grain(width) * number
+    narrowest(width) + 2 * grain(width) * number
 }
 
 /// How many starts are looked at, of one distance.
