@@ -11,6 +11,7 @@ use Rattle.luma_row.specs.Choice.{IsFirstBest}
 use Rattle.luma_row.specs.Climb.{halved, neighbour, worth, Climbs, Moves, Refines}
 use Rattle.luma_row.specs.Coarse.{best_at, sum_at, IsCoarse}
 use Rattle.luma_row.specs.Earliest.{earliest as earliest_place}
+use Rattle.luma_row.specs.Edges.{IsSharp}
 use Rattle.luma_row.specs.Heights.{heights_of}
 use Rattle.luma_row.specs.Row.{has_contrast, IsCode, LiesAt}
 use Rattle.luma_row.specs.Width.{distance, earliest, end, grain, narrowest, start, widest}
@@ -102,6 +103,9 @@ some_refined row first (suc steps) from =
 abbrev pub OnePlace : Type 0
 OnePlace = (row : List ℕ) (a b : Place) → LiesAt row a → LiesAt row b → a ≡ b
 
+abbrev pub SharpOrNot : Type 0
+SharpOrNot = (row : List ℕ) → ((place : Place) × IsSharp row place) ⊎ ((place : Place) → ¬ IsSharp row place)
+
 abbrev pub OneCode : Type 0
 OneCode = (row : List ℕ) (a b : CodeRow) → IsCode row a → IsCode row b → a ≡ b
 
@@ -144,14 +148,16 @@ says_at one row place contrast lies = elim (either (counts place (cells_of row p
   )
 ]
 
-pub a_row_says : OnePlace → (row : List ℕ) → (say : Option CodeRow) × Says row say
-a_row_says one row =
+-- a row without a sharp place, where the word is sought
+says_sought : OnePlace → (row : List ℕ) → has_contrast row ≡ true → ((place : Place) → ¬ IsSharp row place)
+    → (say : Option CodeRow) × Says row say
+says_sought one row contrast blunt =
     let coarse = some_coarse row in
     let fine = some_refined row (2 * grain (length row)) 8 coarse.1 in
-    elim (either (has_contrast row)) [
-      | inr even ↦ (None, λ code is. cc (even, is.contrast))
-      | inl contrast ↦ elim (more_or_not (9 * EVEN) coarse.0) [
-        | inl more ↦ says_at one row (earliest_place row fine.0) contrast (record {
+    elim (more_or_not (9 * EVEN) coarse.0) [
+      | inl more ↦ says_at one row (earliest_place row fine.0) contrast (inr (
+        blunt,
+        record {
           coarse = coarse.1;
           sum = coarse.0;
           is_coarse = coarse.2;
@@ -159,16 +165,28 @@ a_row_says one row =
           deepest = fine.0;
           fine = fine.1;
           earliest_is = refl;
-        })
-        | inr flat ↦ (
-          None,
-          λ code is.
-              let most = no_more row coarse.0 is.lies.sum coarse.1 is.lies.coarse coarse.2 is.lies.is_coarse in
-              let over = is.lies.falls in
-              absurd (omega (arith, most, over, flat)),
-        )
-      ]
+        },
+      ))
+      | inr flat ↦ (
+        None,
+        λ code is. elim is.lies [
+          | inl sharp ↦ blunt code.place sharp
+          | inr sought ↦
+              let most = no_more row coarse.0 sought.1.sum coarse.1 sought.1.coarse coarse.2 sought.1.is_coarse in
+              let over = sought.1.falls in
+              absurd (omega (arith, most, over, flat))
+        ],
+      )
     ]
+
+pub a_row_says : SharpOrNot → OnePlace → (row : List ℕ) → (say : Option CodeRow) × Says row say
+a_row_says sharp one row = elim (either (has_contrast row)) [
+  | inr even ↦ (None, λ code is. cc (even, is.contrast))
+  | inl contrast ↦ elim (sharp row) [
+    | inl here ↦ says_at one row here.0 contrast (inl here.1)
+    | inr blunt ↦ says_sought one row contrast blunt
+  ]
+]
 
 one_say : OneCode → (row : List ℕ) (a b : Option CodeRow) → Says row a → Says row b → a ≡ b
 one_say one row (Some a) (Some b) is says = ap (λ (code : CodeRow). Some code) (one row a b is says)
@@ -178,11 +196,11 @@ one_say one row None None is says = refl
 
 -- ---- rows
 
-rows_say : OnePlace → (rows : List (List ℕ)) → (says : List (Option CodeRow)) × AllZip Says rows says
-rows_say one [] = ([], tt)
-rows_say one (row ∷ rows) =
-    let here = a_row_says one row in
-    let behind = rows_say one rows in
+rows_say : SharpOrNot → OnePlace → (rows : List (List ℕ)) → (says : List (Option CodeRow)) × AllZip Says rows says
+rows_say sharp one [] = ([], tt)
+rows_say sharp one (row ∷ rows) =
+    let here = a_row_says sharp one row in
+    let behind = rows_say sharp one rows in
     (here.0 ∷ behind.0, (here.1, behind.1))
 
 they_say : OneCode → (rows : List (List ℕ)) (a b : List (Option CodeRow)) → AllZip Says rows a → AllZip Says rows b
@@ -198,9 +216,10 @@ they_say one (row ∷ rows) (x ∷ xs) (y ∷ ys) are says =
 
 -- ---- a field
 
-pub some_lines : OnePlace → (raster : RasterSize) (field : List ℕ) → (lines : List ℕ) × SaysLines raster field lines
-some_lines one raster field =
-    let says = rows_say one (looked_at raster (whole_parts raster.width field)) in
+pub some_lines : SharpOrNot → OnePlace → (raster : RasterSize) (field : List ℕ)
+    → (lines : List ℕ) × SaysLines raster field lines
+some_lines sharp one raster field =
+    let says = rows_say sharp one (looked_at raster (whole_parts raster.width field)) in
     let found = take 20 (found_from raster.first says.0) in
     (lines_of raster.width found, record { found = found; are = (says.0, says.1, refl); lines = refl })
 

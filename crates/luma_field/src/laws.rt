@@ -8,7 +8,7 @@ ghost use Rattle.luma_field.specs.Parts.{whole_parts};
 ghost use Rattle.luma_field.specs.Raster.{RasterSize};
 ghost use Rattle.luma_field.specs.Rows.{SaysLines};
 
-use luma_row::laws::a_row_says_one_thing;
+use luma_row::laws::{a_row_is_sharp_or_not, a_row_says_one_thing};
 
 /// The rows of the highest field, and how many are looked at.
 pub fn the_limits_are_these()
@@ -24,6 +24,7 @@ pub fn a_field_says_its_lines()
     ensures few { (raster : RasterSize) (field lines : List ℕ) → SaysLines raster field lines → length lines ≤ 20 }
     ensures bits { (raster : RasterSize) (field lines : List ℕ) → SaysLines raster field lines → All IsLine lines }
 {
+    a_row_is_sharp_or_not();
     a_row_says_one_thing();
 }
 

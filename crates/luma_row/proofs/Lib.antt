@@ -11,4 +11,5 @@ pub mod OneMore
 pub mod OnePlace
 pub mod PixelByPixel
 pub mod PlacesTried
+pub mod SharpOrNot
 pub mod Within

@@ -103,7 +103,8 @@ fn swings_enough(row: &[u8], sums: &Sums, extremes: Extremes, place: Place, pair
     let contrast = u32::from(extremes.contrast());
     let one = cell(row, sums, extremes.darkest, place, 10 * pair);
     let zero = cell(row, sums, extremes.darkest, place, 10 * pair + 1);
-    3 * u64::from(contrast * (place.last - place.first)) <= 512 * u64::from(one.saturating_sub(zero))
+    3 * u64::from(contrast * (place.last - place.first))
+        <= 512 * u64::from(one.saturating_sub(zero))
 }
 
 /// Whether all pairs do.

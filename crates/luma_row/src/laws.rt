@@ -1,11 +1,12 @@
 //! What follows from the definitions alone.
-ghost use Rattle.std.specs.Prelude.{◌≡◌, ℕ, ◌+◌, ◌*◌, ◌^◌, ◌<◌, ◌≤◌, ◌⊎◌, true, unsigned_abs, List};
+ghost use Rattle.std.specs.Prelude.{◌≡◌, ℕ, ◌+◌, ◌*◌, ◌^◌, ◌<◌, ◌≤◌, ◌⊎◌, true, unsigned_abs, List, length};
 ghost use Rattle.luma_row.specs.declared.levels.Levels.{Levels};
 ghost use Rattle.luma_row.specs.declared.light.TheConstants.{EVEN};
 ghost use Rattle.luma_row.specs.declared.place.Place.{Place};
 ghost use Rattle.luma_row.specs.declared.row.CodeRow.{CodeRow};
 ghost use Rattle.luma_row.specs.declared.width.TheConstants.{MAX_WIDTH, MIN_WIDTH};
 ghost use Rattle.luma_row.specs.Earliest.{back, IsEarliestAt, IsNowhereEarlier};
+ghost use Rattle.luma_row.specs.Edges.{is_falling, IsNextEdge, IsSharp};
 ghost use Rattle.luma_row.specs.KeptLevels.{AreLevels};
 ghost use Rattle.luma_row.specs.Levels.{height_at, says_bits};
 ghost use Rattle.luma_row.specs.Row.{IsCode, IsSought, LiesAt};
@@ -52,4 +53,11 @@ pub fn a_row_is_narrower_than_two()
 pub fn a_bit_that_is_said_is_clear()
     ensures { (levels : Levels) (bit : ℕ) → says_bits levels ≡ true → bit < 90
         → 10 * levels.swing ≤ 9 * unsigned_abs (height_at levels bit) }
+{}
+
+/// A row has a sharp place or none; and where the light falls anywhere behind a pixel, there is a first such edge.
+pub fn a_row_is_sharp_or_not()
+    ensures sharp { (row : List ℕ) → ((place : Place) × IsSharp row place) ⊎ ((place : Place) → ¬ IsSharp row place) }
+    ensures next { (row : List ℕ) (from pixel : ℕ) → from ≤ pixel → pixel < length row → is_falling row pixel ≡ true
+        → (first : ℕ) × IsNextEdge row from first × (first ≤ pixel) }
 {}

@@ -103,9 +103,9 @@ drawn_behind begin cell bit part over under n m =
     omega (arith, begins, others, cells, more)
 
 -- the place of so many eighths, before it is rounded
-at_is : (first apart n : ℕ) → apart ≤ 80 * first
+at_is : (first apart n : ℕ) → 7 * apart ≤ 640 * first → 1 ≤ n
     → 640 * first + apart * n - 8 * apart + 8 * apart ≡ 640 * first + apart * n
-at_is first apart n h = omega arith
+at_is first apart n h some = let m = mul-le-mul_left apart some in omega (arith, h, m)
 
 -- the ends of a place in order
 in_order : (cell begin first last : ℕ) → AreClose cell (640 * first) (begin + cell * 1)
@@ -118,7 +118,7 @@ in_order cell begin first last f l =
 -- a place near a drawing, by its numbers
 pub record Ends (begin cell first apart : ℕ) : Type 0 where
   pub wide : 30000 ≤ cell
-  pub in_row : apart ≤ 80 * first
+  pub in_row : 7 * apart ≤ 640 * first
   pub first_is : AreClose cell (640 * first) (begin + cell * 1)
   pub last_is : AreClose cell (640 * (first + apart)) (begin + cell * 81)
 
@@ -126,7 +126,7 @@ begins_at : (begin cell first apart bit : ℕ) → Ends begin cell first apart �
     → begin + cell * bit ≤ 640 * ((640 * first + apart * (8 * bit + 1) - 8 * apart) / 640)
 begins_at begin cell first apart bit is h =
     let at = 640 * first + apart * (8 * bit + 1) - 8 * apart in
-    let e = at_is first apart (8 * bit + 1) is.in_row in
+    let e = at_is first apart (8 * bit + 1) is.in_row (omega arith) in
     let cases : (bit ≡ 0) ⊎ (1 ≤ bit) = grind arith in
     elim cases [
       | inl none ↦
@@ -165,7 +165,7 @@ ends_at : (begin cell first apart bit : ℕ) → Ends begin cell first apart →
     → 640 * ((640 * first + apart * (8 * bit + 7) - 8 * apart) / 640) ≤ begin + cell * (bit + 1)
 ends_at begin cell first apart bit is h =
     let at = 640 * first + apart * (8 * bit + 7) - 8 * apart in
-    let e = at_is first apart (8 * bit + 7) is.in_row in
+    let e = at_is first apart (8 * bit + 7) is.in_row (omega arith) in
     let cases : (bit ≡ 0) ⊎ (1 ≤ bit) = grind arith in
     elim cases [
       | inl none ↦

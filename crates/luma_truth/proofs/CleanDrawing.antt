@@ -14,46 +14,46 @@ use Rattle.luma_truth.specs.Drawing.{Drawing, IsDrawn}
 use Rattle.luma_truth.specs.Inside.{core, HasMargin, IsEnough, LiesInside}
 use Rattle.luma_truth.proofs.AllSay.{all_say, swing_least, AreApart, AreBetween, HasPairs, SayTheWord}
 use Rattle.luma_truth.proofs.InCells.{are_lit, wide_cell, AreLit, Reading}
-use Rattle.luma_truth.proofs.IsCarried.{contrast_is, dark_enough}
+use Rattle.luma_truth.proofs.IsCarried.{contrast_is, dark_enough, light_enough}
 use Rattle.luma_truth.proofs.OfBits.{number_is}
 use Rattle.luma_truth.proofs.PairsCount.{pairs_count, six_levels}
 
 -- the bounds of the light of a cell, twice
-abbrev one_least : Drawing → ℕ → ℕ → ℕ → ℕ
+abbrev pub one_least : Drawing → ℕ → ℕ → ℕ → ℕ
 one_least drawing less over core = 2 * (less + drawing.swing) * core
     - (2 * over * (core + 1) + drawing.noise * (core + 1) + 16 * drawing.swing)
 
-abbrev one_most : Drawing → ℕ → ℕ → ℕ → ℕ
+abbrev pub one_most : Drawing → ℕ → ℕ → ℕ → ℕ
 one_most drawing less over core = 2 * (less + drawing.swing) * (core + 1) + drawing.noise * (core + 1)
     - 2 * over * core
 
-abbrev zero_least : Drawing → ℕ → ℕ → ℕ → ℕ
+abbrev pub zero_least : Drawing → ℕ → ℕ → ℕ → ℕ
 zero_least drawing less over core = 2 * less * core - (2 * over * (core + 1) + drawing.noise * (core + 1))
 
-abbrev zero_most : Drawing → ℕ → ℕ → ℕ → ℕ
+abbrev pub zero_most : Drawing → ℕ → ℕ → ℕ → ℕ
 zero_most drawing less over core = 2 * less * (core + 1) + drawing.noise * (core + 1) + 16 * drawing.swing
     - 2 * over * core
 
 -- 1s and 0s are far apart where the darkest pixel is below the level of a 0
-below_apart : (dark swing noise less core : ℕ) → 0 < swing → IsEnough dark swing noise core → less ≤ dark
+below_apart : (swing noise less core : ℕ) → 0 < swing → IsEnough swing noise core → 2 * less ≤ noise
     → AreApart (2 * (less + swing) * core - (2 * 0 * (core + 1) + noise * (core + 1) + 16 * swing))
     (2 * (less + swing) * (core + 1) + noise * (core + 1) - 2 * 0 * core)
     (2 * less * core - (2 * 0 * (core + 1) + noise * (core + 1)))
     (2 * less * (core + 1) + noise * (core + 1) + 16 * swing - 2 * 0 * core)
-below_apart dark swing noise less core some enough few = record {
+below_apart swing noise less core some enough few = record {
   far = omega (arith, enough, few);
   shares = omega (arith, enough, few);
   order = omega (arith, some);
 }
 
 -- and where the noise lifts it above that
-above_apart : (dark swing noise over core : ℕ) → 0 < swing → IsEnough dark swing noise core → 2 * over ≤ noise
+above_apart : (swing noise over core : ℕ) → 0 < swing → IsEnough swing noise core → 2 * over ≤ noise
     → 32 ≤ core
     → AreApart (2 * (0 + swing) * core - (2 * over * (core + 1) + noise * (core + 1) + 16 * swing))
     (2 * (0 + swing) * (core + 1) + noise * (core + 1) - 2 * over * core)
     (2 * 0 * core - (2 * over * (core + 1) + noise * (core + 1)))
     (2 * 0 * (core + 1) + noise * (core + 1) + 16 * swing - 2 * over * core)
-above_apart dark swing noise over core some enough quiet long =
+above_apart swing noise over core some enough quiet long =
     let q = mul-le-mul_left core quiet in
     let r = mul-le-mul_left over long in
     record {
@@ -63,7 +63,7 @@ above_apart dark swing noise over core some enough quiet long =
     }
 
 apart_enough : (drawing : Drawing) (less over core : ℕ) → 0 < drawing.swing
-    → IsEnough drawing.dark drawing.swing drawing.noise core → 32 ≤ core → less ≤ drawing.dark
+    → IsEnough drawing.swing drawing.noise core → 32 ≤ core → 2 * less ≤ drawing.noise
     → 2 * over ≤ drawing.noise → (over ≡ 0) ⊎ (less ≡ 0)
     → AreApart (one_least drawing less over core) (one_most drawing less over core)
     (zero_least drawing less over core) (zero_most drawing less over core)
@@ -71,14 +71,14 @@ apart_enough drawing less over core some enough long few quiet cases = elim case
   | inl none ↦
       subst (λ (k : ℕ). AreApart (one_least drawing less k core) (one_most drawing less k core)
       (zero_least drawing less k core) (zero_most drawing less k core)) (sym none)
-      (below_apart drawing.dark drawing.swing drawing.noise less core some enough few)
+      (below_apart drawing.swing drawing.noise less core some enough few)
   | inr none ↦
       subst (λ (k : ℕ). AreApart (one_least drawing k over core) (one_most drawing k over core)
       (zero_least drawing k over core) (zero_most drawing k over core)) (sym none)
-      (above_apart drawing.dark drawing.swing drawing.noise over core some enough quiet long)
+      (above_apart drawing.swing drawing.noise over core some enough quiet long)
 ]
 
-between_these : (drawing : Drawing) (less over core : ℕ) (cells : List ℕ) → AreLit drawing less over core cells
+pub between_these : (drawing : Drawing) (less over core : ℕ) (cells : List ℕ) → AreLit drawing less over core cells
     → AreBetween drawing.word (one_least drawing less over core) (one_most drawing less over core)
     (zero_least drawing less over core) (zero_most drawing less over core) cells
 between_these drawing less over core cells lit = record {
@@ -92,8 +92,8 @@ pub pairs_of : (drawing : Drawing) (row : List ℕ) → IsDrawn drawing row → 
 pairs_of drawing row is = record { ones = is.of_row.ones; zeros = is.of_row.zeros }
 
 -- where there is a margin, the cores are long
-long_core : (dark swing noise core : ℕ) → 0 < swing → IsEnough dark swing noise core → 32 ≤ core
-long_core dark swing noise core some enough =
+long_core : (swing noise core : ℕ) → 0 < swing → IsEnough swing noise core → 32 ≤ core
+long_core swing noise core some enough =
     let cases : (core ≤ 31) ⊎ (32 ≤ core) = grind arith in
     elim cases [
       | inl few ↦ let m = mul-le-mul_left swing few in absurd (omega (arith, m))
@@ -105,14 +105,15 @@ pub record IsRead (drawing : Drawing) (row : List ℕ) (place : Place) : Type 0 
   pub less : ℕ
   pub over : ℕ
   pub reading : Reading drawing row place less over
-  pub few : less ≤ drawing.dark
+  pub few : 2 * less ≤ drawing.noise
   pub one : (over ≡ 0) ⊎ (less ≡ 0)
 
-reading_of : (drawing : Drawing) (row : List ℕ) (place : Place) → IsDrawn drawing row → LiesInside drawing place
+pub reading_of : (drawing : Drawing) (row : List ℕ) (place : Place) → IsDrawn drawing row → LiesInside drawing place
     → HasMargin drawing place → 0 < drawing.swing → IsRead drawing row place
 reading_of drawing row place is inside enough some =
-    let long = long_core drawing.dark drawing.swing drawing.noise (core place) some enough in
+    let long = long_core drawing.swing drawing.noise (core place) some enough in
     let dark = dark_enough drawing row is (wide_cell drawing place inside long) in
+    let light = light_enough drawing row is in
     let cases : (darkest row ≤ drawing.dark) ⊎ (drawing.dark ≤ darkest row) = grind arith in
     elim cases [
       | inl below ↦ record {
@@ -125,7 +126,7 @@ reading_of drawing row place is inside enough some =
           split = omega (arith, below);
           quiet = omega arith;
         };
-        few = omega arith;
+        few = omega (arith, below, light);
         one = inl refl;
       }
       | inr above ↦ record {
@@ -192,7 +193,7 @@ count_at drawing row place is inside enough =
     (zero_least drawing less over (core place)) (zero_most drawing less over (core place)) (cells_of row place) place
     between pairs
     (apart_enough drawing less over (core place) some enough read.reading.long read.few read.reading.quiet read.one)
-    (six_levels drawing.dark drawing.swing drawing.noise less over (core place) (apart place)
+    (six_levels drawing.swing drawing.noise less over (core place) (apart place)
     (swing (cells_of row place)) is.of_row.levels enough read.few read.reading.quiet read.reading.long refl least)
 
 -- a row whose word lies in a drawing carries code, which says the word

@@ -13,12 +13,12 @@ use Rattle.luma_truth.proofs.InHalves.{bright_least, bright_most, dark_least, da
 use Rattle.luma_truth.proofs.InCores.{bright_core, dark_core, light_at_least, light_at_most, Core}
 
 -- a core has the whole sixteenths of six eighths of a cell, or one more
-pub long_enough : (first apart bit : ℕ) → apart ≤ 80 * first
+pub long_enough : (first apart bit : ℕ) → 7 * apart ≤ 640 * first
     → (640 * first + apart * (8 * bit + 1) - 8 * apart) / 640 + 6 * apart / 640
     ≤ (640 * first + apart * (8 * bit + 7) - 8 * apart) / 640
 long_enough first apart bit h = omega arith
 
-short_enough : (first apart bit : ℕ) → apart ≤ 80 * first
+short_enough : (first apart bit : ℕ) → 7 * apart ≤ 640 * first
     → (640 * first + apart * (8 * bit + 7) - 8 * apart) / 640
     ≤ (640 * first + apart * (8 * bit + 1) - 8 * apart) / 640 + 6 * apart / 640 + 1
 short_enough first apart bit h = omega arith
@@ -69,7 +69,7 @@ core_of drawing row place less over bit begin end is h begin_is end_is =
     }
 
 -- how many sixteenths a core has
-pub length_of : (place : Place) (bit begin end : ℕ) → apart place ≤ 80 * place.first
+pub length_of : (place : Place) (bit begin end : ℕ) → 7 * apart place ≤ 640 * place.first
     → begin ≡ eighth place (8 * bit + 1) → end ≡ eighth place (8 * bit + 7)
     → (begin + (end - begin) ≡ end) × ((end - begin ≡ core place) ⊎ (end - begin ≡ core place + 1))
 length_of place bit begin end h begin_is end_is =

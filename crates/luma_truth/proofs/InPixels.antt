@@ -7,14 +7,14 @@ use Rattle.luma_row.specs.Choice.{sum_of}
 use Rattle.luma_truth.specs.Drawing.{edge, has_bit, held, lit, pixel_light, share, Drawing, IsDrawn}
 
 -- a part, if it is lit
-abbrev part : (ℕ → ℕ) → (ℕ → Bool) → ℕ → ℕ
+abbrev pub part : (ℕ → ℕ) → (ℕ → Bool) → ℕ → ℕ
 part places is_lit k = cond (is_lit k) (places (k + 1) - places k) 0
 
-few_of : (is_lit : Bool) (x : ℕ) → cond is_lit x 0 ≤ x
+pub few_of : (is_lit : Bool) (x : ℕ) → cond is_lit x 0 ≤ x
 few_of true x = omega arith
 few_of false x = omega arith
 
-sum_more : (n : ℕ) (f : ℕ → ℕ) → sum_of (n + 1) f ≡ sum_of n f + f n
+pub sum_more : (n : ℕ) (f : ℕ → ℕ) → sum_of (n + 1) f ≡ sum_of n f + f n
 unfolding sum_of
 sum_more n f = let e : n + 1 ≡ suc n = omega arith in rw e refl
 
@@ -23,7 +23,7 @@ unfolding sum_of
 sum_none f = refl
 
 -- the parts that are lit are no more than all
-parts_within : (places : ℕ → ℕ) (is_lit : ℕ → Bool) → ((k : ℕ) → places k ≤ places (k + 1)) → (n : ℕ)
+pub parts_within : (places : ℕ → ℕ) (is_lit : ℕ → Bool) → ((k : ℕ) → places k ≤ places (k + 1)) → (n : ℕ)
     → sum_of n (part places is_lit) + places 0 ≤ places n
 parts_within places is_lit up zero = let e = sum_none (part places is_lit) in omega (arith, e)
 parts_within places is_lit up (suc n) =
@@ -43,7 +43,7 @@ up_to places up (suc n) =
     rw s (omega (arith, before, step))
 
 -- one that is lit is among them
-lit_part : (places : ℕ → ℕ) (is_lit : ℕ → Bool) (k n : ℕ) → k < n → is_lit k ≡ true
+pub lit_part : (places : ℕ → ℕ) (is_lit : ℕ → Bool) (k n : ℕ) → k < n → is_lit k ≡ true
     → places (k + 1) - places k ≤ sum_of n (part places is_lit)
 lit_part places is_lit k zero h is = absurd (omega arith)
 lit_part places is_lit k (suc n) h is =
@@ -61,7 +61,7 @@ lit_part places is_lit k (suc n) h is =
     ]
 
 -- one that is not lit is beside them
-dark_part : (places : ℕ → ℕ) (is_lit : ℕ → Bool) → ((k : ℕ) → places k ≤ places (k + 1)) → (k n : ℕ) → k < n
+pub dark_part : (places : ℕ → ℕ) (is_lit : ℕ → Bool) → ((k : ℕ) → places k ≤ places (k + 1)) → (k n : ℕ) → k < n
     → is_lit k ≡ false → sum_of n (part places is_lit) + places 0 + (places (k + 1) - places k) ≤ places n
 dark_part places is_lit up k zero h is = absurd (omega arith)
 dark_part places is_lit up k (suc n) h is =
@@ -83,10 +83,10 @@ dark_part places is_lit up k (suc n) h is =
     ]
 
 -- the edges of the cells, brought into a pixel
-abbrev held_edge : Drawing → ℕ → ℕ → ℕ
+abbrev pub held_edge : Drawing → ℕ → ℕ → ℕ
 held_edge drawing pixel bit = held pixel (edge drawing bit)
 
-held_up : (drawing : Drawing) (pixel bit : ℕ) → held_edge drawing pixel bit ≤ held_edge drawing pixel (bit + 1)
+pub held_up : (drawing : Drawing) (pixel bit : ℕ) → held_edge drawing pixel bit ≤ held_edge drawing pixel (bit + 1)
 held_up drawing pixel bit = omega arith
 
 -- the light that a pixel covers is that of the parts that are lit

@@ -7,7 +7,7 @@ use Rattle.std.proofs.lemmas.Bool.Decides.{nat_tests}
 use Rattle.luma_row.specs.Light.{darkest, lightest, IsRow}
 use Rattle.luma_row.specs.Row.{has_contrast}
 use Rattle.luma_truth.specs.Drawing.{edge, share, Drawing, IsDrawn}
-use Rattle.luma_truth.proofs.InPixels.{bright_pixel, dark_pixel}
+use Rattle.luma_truth.proofs.InPixels.{bright_pixel, dark_pixel, darkest_pixel, lightest_pixel}
 
 max_from : (a : ℕ) (xs : List ℕ) → a ≤ fold max a xs
 max_from a [] = omega arith
@@ -34,9 +34,9 @@ unfolding share
 whole_pixel drawing pixel bit a b = omega arith
 
 -- a margin leaves 8 levels beside the noise
-eight_left : (dark swing noise core : ℕ) → 12 ≤ swing
-    → 204 * (dark + noise * (core + 1)) + 2299 * swing ≤ 70 * (swing * core) → noise + 8 ≤ swing
-eight_left dark swing noise core some enough =
+eight_left : (swing noise core : ℕ) → 12 ≤ swing
+    → 102 * (noise * (2 * core + 3)) + 2299 * swing ≤ 70 * (swing * core) → noise + 8 ≤ swing
+eight_left swing noise core some enough =
     let cases : (noise + 8 ≤ swing) ⊎ (swing ≤ noise + 7) = grind arith in
     elim cases [
       | inl h ↦ h
@@ -59,11 +59,11 @@ midst drawing row bit is wide h =
     (pixel, omega (arith, m, within, before), whole_pixel drawing pixel bit after before)
 
 pub contrast_is : (drawing : Drawing) (row : List ℕ) (core : ℕ) → IsDrawn drawing row → IsRow row
-    → 204 * (drawing.dark + drawing.noise * (core + 1)) + 2299 * drawing.swing ≤ 70 * (drawing.swing * core)
+    → 102 * (drawing.noise * (2 * core + 3)) + 2299 * drawing.swing ≤ 70 * (drawing.swing * core)
     → has_contrast row ≡ true
 contrast_is drawing row core is row_is enough =
     let some = is.of_row.levels in
-    let left = eight_left drawing.dark drawing.swing drawing.noise core some enough in
+    let left = eight_left drawing.swing drawing.noise core some enough in
     let narrow = is.of_row.narrow in
     let least = row_is.0 in
     let wide : 20480 ≤ drawing.cell = omega (arith, narrow, least) in
@@ -86,3 +86,40 @@ dark_enough drawing row is wide =
     let dark = dark_pixel drawing row nought.0 1 0 is nought.1 (omega arith) zero_is nought.2 in
     let low = min_at 255 row nought.0 nought.1 in
     omega (arith, dark, low)
+
+min_least : (dark noise a : ℕ) (xs : List ℕ) → 2 * dark ≤ 2 * a + noise
+    → ((k : ℕ) → k < length xs → 2 * dark ≤ 2 * get_or xs k 0 + noise) → 2 * dark ≤ 2 * fold min a xs + noise
+min_least dark noise a [] first each = first
+min_least dark noise a (x ∷ xs) first each =
+    let here = each 0 (omega arith) in
+    min_least dark noise (min a x) xs (omega (arith, first, here)) (λ k h. each (suc k) (omega (arith, h)))
+
+max_most : (light noise a : ℕ) (xs : List ℕ) → 2 * a ≤ light + noise
+    → ((k : ℕ) → k < length xs → 2 * get_or xs k 0 ≤ light + noise) → 2 * fold max a xs ≤ light + noise
+max_most light noise a [] first each = first
+max_most light noise a (x ∷ xs) first each =
+    let here = each 0 (omega arith) in
+    max_most light noise (max a x) xs (omega (arith, first, here)) (λ k h. each (suc k) (omega (arith, h)))
+
+-- and no darker, wherever it is
+pub light_enough : (drawing : Drawing) (row : List ℕ) → IsDrawn drawing row
+    → 2 * drawing.dark ≤ 2 * darkest row + drawing.noise
+light_enough drawing row is =
+    let white = is.of_row.white in
+    min_least drawing.dark drawing.noise 255 row (omega (arith, white))
+    (λ k h. let dark = darkest_pixel drawing row k is h in omega (arith, dark))
+
+-- the lightest pixel is as light as a 1, but for the noise
+pub lightest_least : (drawing : Drawing) (row : List ℕ) → IsDrawn drawing row → 20480 ≤ drawing.cell
+    → 2 * (drawing.dark + drawing.swing) ≤ 2 * lightest row + drawing.noise
+lightest_least drawing row is wide =
+    let one = midst drawing row 0 is wide (omega arith) in
+    let light = bright_pixel drawing row one.0 0 0 is one.1 (omega arith) (is.of_row.ones 0 (omega arith)) one.2 in
+    let high = max_at 0 row one.0 in
+    omega (arith, light, high)
+
+pub lightest_most : (drawing : Drawing) (row : List ℕ) → IsDrawn drawing row
+    → 2 * lightest row ≤ 2 * (drawing.dark + drawing.swing) + drawing.noise
+lightest_most drawing row is =
+    max_most (2 * (drawing.dark + drawing.swing)) drawing.noise 0 row (omega arith)
+    (λ k h. let light = lightest_pixel drawing row k is h in omega (arith, light))

@@ -4,16 +4,14 @@ use Rattle.std.proofs.Math.Nat.{mul-le-mul_left}
 use Rattle.luma_truth.specs.Inside.{IsEnough}
 use Rattle.luma_truth.proofs.Rest.{rest_of}
 
-pub twentieth_is_borne : (dark swing noise core : ℕ) → 85 ≤ core → 25 ≤ swing → dark + swing ≤ 255
-    → 10 * noise ≤ swing → IsEnough dark swing noise core
-twentieth_is_borne dark swing noise core long some light quiet =
-    let m = mul-le-mul_left (core + 1) quiet in
+pub twentieth_is_borne : (swing noise core : ℕ) → 85 ≤ core → 10 * noise ≤ swing → IsEnough swing noise core
+twentieth_is_borne swing noise core long quiet =
+    let m = mul-le-mul_left (2 * core + 3) quiet in
     let n = mul-le-mul_left swing long in
     omega (arith, m, n)
 
-pub rounding_is_borne : (dark swing core : ℕ) → 85 ≤ core → 19 ≤ swing → dark + swing ≤ 255
-    → IsEnough dark swing 1 core
-rounding_is_borne dark swing core long some light =
+pub rounding_is_borne : (swing core : ℕ) → 85 ≤ core → 5 ≤ swing → IsEnough swing 1 core
+rounding_is_borne swing core long some =
     let extra = rest_of 85 core long in
     let m = mul-le-mul_left extra.0 some in
     let product = ap (λ (w : ℕ). swing * w) extra.1 in

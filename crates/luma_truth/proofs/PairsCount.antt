@@ -45,13 +45,13 @@ at_most : (a b : ℕ) → a ≤ b → leb a b ≡ true
 at_most a b h = grind (arith, nat_tests)
 
 -- six levels over the middle six eighths of a cell
-pub six_levels : (dark swing noise less over core apart total : ℕ) → 12 ≤ swing
-    → 204 * (dark + noise * (core + 1)) + 2299 * swing ≤ 70 * (swing * core) → less ≤ dark → 2 * over ≤ noise
+pub six_levels : (swing noise less over core apart total : ℕ) → 12 ≤ swing
+    → 102 * (noise * (2 * core + 3)) + 2299 * swing ≤ 70 * (swing * core) → 2 * less ≤ noise → 2 * over ≤ noise
     → 32 ≤ core → 6 * apart / 640 ≡ core
     → 9 * (2 * (less + swing) * core - (2 * over * (core + 1) + noise * (core + 1) + 16 * swing))
     ≤ 2 * total + 9 * (2 * less * (core + 1) + noise * (core + 1) + 16 * swing - 2 * over * core)
     → 81 * apart ≤ 160 * total
-six_levels dark swing noise less over core apart total some enough few_less quiet long is least =
+six_levels swing noise less over core apart total some enough few_less quiet long is least =
     let q = mul-le-mul_left core quiet in
     let r = mul-le-mul_left over long in
     let cases : (core ≤ 33) ⊎ (34 ≤ core) = grind arith in

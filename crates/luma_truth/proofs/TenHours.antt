@@ -45,6 +45,7 @@ ten_hours_fits = record {
   ones = λ pair h. each 9 has_one pair have_ones h;
   zeros = λ pair h. isnt (has_bit ten_hours.word (10 * pair + 1)) (each 9 has_zero pair have_zeros h);
   levels = omega arith;
+  white = omega arith;
   narrow = omega arith;
   wide = omega arith;
   within = omega arith;

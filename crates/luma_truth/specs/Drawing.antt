@@ -39,13 +39,14 @@ lit drawing pixel bit = cond (has_bit drawing.word bit) (share drawing pixel bit
 unfoldable pub pixel_light : Drawing → ℕ → ℕ
 pixel_light drawing pixel = 10240 * drawing.dark + drawing.swing * sum_of 90 (lit drawing pixel)
 
--- The drawing fits a row of this many pixels: the word has its sync pairs, its levels are 12 or more apart, its cells
--- are a 96th of the row within 5 percent, and it lies in the row.
+-- The drawing fits a row of this many pixels: the word has its sync pairs, its levels are 12 or more apart and levels of
+-- pixels, its cells are a 96th of the row within 5 percent, and it lies in the row.
 pub record FitsARow (drawing : Drawing) (width : ℕ) : Type 0 where
   pub bits : drawing.word < 2 ^ 90
   pub ones : (pair : ℕ) → pair < 9 → has_bit drawing.word (10 * pair) ≡ true
   pub zeros : (pair : ℕ) → pair < 9 → has_bit drawing.word (10 * pair + 1) ≡ false
   pub levels : 12 ≤ drawing.swing
+  pub white : drawing.dark + drawing.swing ≤ 255
   pub narrow : 95 * (10240 * width) ≤ 9600 * drawing.cell
   pub wide : 9600 * drawing.cell ≤ 105 * (10240 * width)
   pub within : edge drawing 90 ≤ 10240 * width

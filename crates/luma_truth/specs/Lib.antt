@@ -1,6 +1,5 @@
-pub mod Alone
+pub mod Clean
 pub mod Drawing
 pub mod Inside
 pub mod Near
-pub mod Whole
 pub mod Worked

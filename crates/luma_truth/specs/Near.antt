@@ -10,8 +10,8 @@ pub record AreClose (whole a b : ℕ) : Type 0 where
   pub below : 12 * b ≤ 12 * a + whole
 
 -- Both ends of the place, where the 1s of the first and of the ninth sync pair end, lie within a twelfth of a cell of
--- where these 1s were drawn to end; and the word at the place begins in the row.
+-- where these 1s were drawn to end; and the first core at the place begins in the row.
 pub record IsNear (drawing : Drawing) (place : Place) : Type 0 where
-  pub in_row : apart place ≤ 80 * place.first
+  pub in_row : 7 * apart place ≤ 640 * place.first
   pub first : AreClose drawing.cell (640 * place.first) (edge drawing 1)
   pub last : AreClose drawing.cell (640 * place.last) (edge drawing 81)

@@ -3,7 +3,7 @@ use Rattle.luma_field.proofs.EachSays.{one_list, some_lines}
 use Rattle.luma_field.proofs.laws.a_field_says_its_lines.Goals as goal
 
 pub returns-clause-some : goal.returns-clause-some
-returns-clause-some c = some_lines c.a_row_says_one_thing.ensures.place
+returns-clause-some c = some_lines c.a_row_is_sharp_or_not.ensures.sharp c.a_row_says_one_thing.ensures.place
 
 pub returns-clause-one : goal.returns-clause-one
 returns-clause-one c = one_list c.a_row_says_one_thing.ensures.code
