@@ -38,6 +38,28 @@ class Row:
     def fall(self, before, place, behind):
         return 2 * self.light(place) - self.light(before) - self.light(behind)
 
+    # The sharp place
+
+    def sharp(self):
+        """The place between the falling edges of the first and the ninth pair, or None where one fails."""
+        dark, light = min(self.pixels), max(self.pixels)
+        is_light = [2 * pixel >= dark + light for pixel in self.pixels]
+        edges = [at for at in range(1, self.width) if is_light[at - 1] and not is_light[at]]
+        found = edges[:1]
+        while found and len(found) < PAIRS:
+            found.append(next((edge for edge in edges if edge >= found[-1] + 3 * self.width // 32), None))
+            if found[-1] is None:
+                return None
+        if not found:
+            return None
+        place = 16 * found[0], 16 * found[-1]
+        apart, eight_tens = place[1] - place[0], 8 * self.ten_cells
+        if not eight_tens * 95 // 100 <= apart + 2 * self.grain or apart > eight_tens * 105 // 100 + 2 * self.grain:
+            return None
+        cells = self.cells(place)
+        swings = (max(0, cells[10 * pair] - cells[10 * pair + 1]) for pair in range(PAIRS))
+        return place if all(512 * swing >= 3 * apart * (light - dark) for swing in swings) else None
+
     # The coarse place
 
     def falls_at_pixels(self):
@@ -117,15 +139,23 @@ class Row:
         """The light of a part, beyond that of the darkest pixel."""
         return max(0, self.light(end) - self.light(begin) - min(self.pixels) * (end - begin))
 
+    def cells(self, place):
+        """The light of the 90 cells."""
+        return [self.cell(self.at(place, 8 * cell + 1), self.at(place, 8 * cell + 7)) for cell in range(CELLS)]
+
+    def sought(self):
+        """The place of a word that is sought, or None where nothing falls."""
+        place = self.coarse()
+        return place and self.earliest(self.fine(place))
+
     def code(self):
         """The place of the word, the swing and the heights of the 90 bits, or None."""
         if max(self.pixels) - min(self.pixels) < 8:
             return None
-        place = self.coarse()
+        place = self.sharp() or self.sought()
         if place is None:
             return None
-        place = self.earliest(self.fine(place))
-        cells = [self.cell(self.at(place, 8 * cell + 1), self.at(place, 8 * cell + 7)) for cell in range(CELLS)]
+        cells = self.cells(place)
         swings = [cells[10 * pair] - cells[10 * pair + 1] for pair in range(PAIRS)]
         swing = sum(swings)
         if 160 * swing < 81 * (place[1] - place[0]) or sum(72 * one >= swing for one in swings) < 7:

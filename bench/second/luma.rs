@@ -72,6 +72,25 @@ impl Row {
         16 * self.width + 4 * self.grain()
     }
 
+    /// The place whose pairs stand at falling edges, if each of them swings.
+    fn sharp(&self, pixels: &[u8], lightest: i64) -> Option<Place> {
+        let light = |at: usize| 2 * pixels[at] as i64 >= self.darkest + lightest;
+        let edge = |from: usize| (from.max(1)..pixels.len()).find(|at| light(at - 1) && !light(*at));
+        let first = edge(0)?;
+        let last = (1..9).try_fold(first, |at, _| edge(at + 3 * pixels.len() / 32))?;
+        let place = Place { u: 16 * first as i64, v: 16 * last as i64 };
+        let (apart, tens) = (place.v - place.u, 8 * self.ten_cells());
+        let is_in_reach = 95 * tens / 100 - 2 * self.grain() <= apart && apart <= 105 * tens / 100 + 2 * self.grain();
+        let cells = self.cells(place);
+        let swings = |pair: usize| 512 * (cells[10 * pair] - cells[10 * pair + 1]).max(0) >= 3 * apart * (lightest - self.darkest);
+        (is_in_reach && (0..9).all(swings)).then_some(place)
+    }
+
+    /// The place of a word that is sought, if anything falls.
+    fn sought(&self) -> Option<Place> {
+        Some(self.earliest(self.fine(self.coarse()?)))
+    }
+
     /// The best place at whole pixels, if anything falls there.
     fn coarse(&self) -> Option<Place> {
         let (ten, grain) = (self.ten_cells(), self.grain());
@@ -184,7 +203,7 @@ fn read_row(pixels: &[u8]) -> Option<(Place, Levels)> {
         return None;
     }
     let row = Row::of(pixels);
-    let place = row.earliest(row.fine(row.coarse()?));
+    let place = row.sharp(pixels, *light as i64).or_else(|| row.sought())?;
     let cells = row.cells(place);
     let swings: Vec<i64> = (0..9).map(|j| cells[10 * j] - cells[10 * j + 1]).collect();
     let swing: i64 = swings.iter().sum();

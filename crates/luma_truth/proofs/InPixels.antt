@@ -141,23 +141,6 @@ pub drawn_dark : (drawing : Drawing) (pixel : ℕ) → 10240 * drawing.dark ≤ 
 unfolding pixel_light
 drawn_dark drawing pixel = omega arith
 
-mixed_none : (dark swing all : ℕ) → all ≤ 0 → 10240 * dark + swing * all ≤ 10240 * dark
-mixed_none dark swing all none = let m = mul-le-mul_left swing none in omega (arith, m)
-
--- a pixel in which no cell lies is dark
-pub outside_light : (drawing : Drawing) (pixel : ℕ)
-    → (10240 * pixel + 10240 ≤ edge drawing 0) ⊎ (edge drawing 90 ≤ 10240 * pixel)
-    → pixel_light drawing pixel ≤ 10240 * drawing.dark
-unfolding pixel_light share
-outside_light drawing pixel outside =
-    let all = sum_of 90 (part (held_edge drawing pixel) (has_bit drawing.word)) in
-    let few = parts_within (held_edge drawing pixel) (has_bit drawing.word) (held_up drawing pixel) 90 in
-    let same : held_edge drawing pixel 90 ≤ held_edge drawing pixel 0 = elim outside [
-      | inl before ↦ omega (arith, before)
-      | inr behind ↦ omega (arith, behind)
-    ] in
-    mixed_none drawing.dark drawing.swing all (omega (arith, few, same))
-
 -- what is said of a pixel, where a part of it lies outside of the cell
 left_out : (swing part outside : ℕ) → part + outside ≡ 10240 → swing * part + swing * outside ≡ 10240 * swing
 left_out swing part outside is = let m = ap (λ (n : ℕ). swing * n) is in omega (arith, m)

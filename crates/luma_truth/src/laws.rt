@@ -36,6 +36,7 @@ pub fn a_clean_drawing_is_read()
         → (place : Place) × IsSharp row place × IsNear drawing place }
     ensures rounded { (drawing : Drawing) (width : ℕ) → FitsARow drawing width → 720 ≤ width → drawing.noise ≤ 1
         → IsClean drawing width }
+    ensures worked { FitsARow ten_hours 720 × IsClean ten_hours 720 }
 {
     a_row_is_sharp_or_not();
     a_row_says_one_thing();
