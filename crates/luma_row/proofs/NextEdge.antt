@@ -1,9 +1,11 @@
 -- A row has one next edge behind a pixel, so from there one last edge, and one sharp place.
-use Rattle.std.proofs.Common.{◌≡◌, ℕ, zero, suc, ◌+◌, ◌*◌, ◌<◌, ◌≤◌, ◌⊎◌, inl, inr, true, false, List, length}
-use Rattle.std.proofs.Common.{ap, ap₂, sym, subst, ◌∙◌, arith}
+use Rattle.std.proofs.Common.{◌≡◌, ℕ, zero, suc, ◌+◌, ◌*◌, ◌<◌, ◌≤◌, ◌⊎◌, inl, inr, Bool, true, false, List, length}
+use Rattle.std.proofs.Common.{not, ◌&&◌, ◌-◌, ap, ap₂, refl, sym, subst, ◌∙◌, arith}
+use Rattle.std.specs.Prelude.{ltb}
+use Rattle.std.proofs.lemmas.Bool.Decides.{nat_tests}
 use Rattle.luma_row.specs.declared.place.Place.{Place}
 use Rattle.luma_row.specs.Choice.{all_of}
-use Rattle.luma_row.specs.Edges.{is_falling, is_in_reach, nine_cells, swings_enough}
+use Rattle.luma_row.specs.Edges.{is_falling, is_in_reach, is_light, nine_cells, swings_enough}
 use Rattle.luma_row.specs.Edges.{IsNextEdge, IsSharp, LeadsTo, LiesBetween}
 
 pub same_place : (a b : Place) → a.first ≡ b.first → a.last ≡ b.last → a ≡ b
@@ -94,3 +96,31 @@ no_edge row from end none all pixel is =
     let isnt = none pixel is.behind (omega (arith, within, all)) in
     let falls = is.falls in
     cc (falls, isnt)
+
+-- whether the pixel before is light, of which the first pixel has none
+abbrev pub light_before : List ℕ → ℕ → Bool
+light_before row pixel = ltb 0 pixel && is_light row (pixel - 1)
+
+pub light_next : (row : List ℕ) (pixel : ℕ) (light : Bool) → light ≡ is_light row pixel
+    → light ≡ light_before row (pixel + 1)
+light_next row pixel light is =
+    let e : pixel + 1 - 1 ≡ pixel = omega arith in
+    let some : ltb 0 (pixel + 1) ≡ true = grind (arith, nat_tests) in
+    is ∙ sym (ap₂ ◌&&◌ some (ap (is_light row) e))
+
+no_fall : (a b : Bool) → ((a ≡ true) × (b ≡ true)) ⊎ (a ≡ false) → (a && not b) ≡ false
+no_fall true true cases = refl
+no_fall true false cases = elim cases [ inl both ↦ absurd (let no : false ≡ true = both.1 in cc no) | inr none ↦ absurd (cc none) ]
+no_fall false b cases = refl
+
+not_itself : (a : Bool) → (a && not a) ≡ false
+not_itself true = refl
+not_itself false = refl
+
+pub not_falling : (row : List ℕ) (pixel : ℕ) (was light : Bool) → was ≡ light_before row pixel
+    → light ≡ is_light row pixel → ((was ≡ true) × (light ≡ true)) ⊎ (was ≡ false) → is_falling row pixel ≡ false
+not_falling row zero was light before here cases = not_itself (is_light row 0)
+not_falling row (suc n) was light before here cases =
+    let some : ltb 0 (suc n) ≡ true = grind (arith, nat_tests) in
+    let first = before ∙ ap (λ (b : Bool). b && is_light row (suc n - 1)) some in
+    sym (ap₂ (λ (a b : Bool). a && not b) first here) ∙ no_fall was light cases

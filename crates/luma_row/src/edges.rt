@@ -3,9 +3,9 @@
 ghost use Rattle.std.specs.Prelude.{◌≡◌, ℕ, ◌+◌, ◌<◌, ◌≤◌, false, IfNone, IfSome, length};
 ghost use Rattle.luma_row.specs.declared.place.Place.{Place};
 ghost use Rattle.luma_row.specs.Choice.{all_of};
-ghost use Rattle.luma_row.specs.Edges.{is_falling, is_in_reach, is_light, nine_cells, swings_enough};
+ghost use Rattle.luma_row.specs.Edges.{is_in_reach, is_light, nine_cells, swings_enough};
 ghost use Rattle.luma_row.specs.Edges.{IsNextEdge, IsSharp, LeadsTo, LiesBetween};
-ghost use Rattle.luma_row.specs.KeptExtremes.{AreExtremes};
+ghost use Rattle.luma_row.specs.KeptExtremes.{AreExtremes, IsMiddle};
 ghost use Rattle.luma_row.specs.KeptLight.{AreSums};
 ghost use Rattle.luma_row.specs.KeptPlace.{IsNear};
 ghost use Rattle.luma_row.specs.KeptWidth.{IsWidth};
@@ -18,36 +18,30 @@ use crate::place::{PAIRS, Place};
 use crate::width::{grain, narrowest, widest, width_of};
 
 /// Whether a pixel is no nearer to the darkest one than to the lightest.
-fn is_light(row: &[u8], extremes: Extremes, pixel: usize) -> bool
+#[inline(always)]
+fn is_light(row: &[u8], middle: u8, pixel: usize) -> bool
     requires row { IsRow row.now }
-    requires extremes { AreExtremes row.now extremes }
+    requires middle { IsMiddle row.now middle }
     requires pixel { pixel < length row.now }
     ensures { result ≡ is_light row.now pixel }
 {
-    u32::from(extremes.darkest) + u32::from(extremes.lightest) <= 2 * u32::from(row[pixel])
-}
-
-/// Whether the light falls where a pixel begins.
-fn is_falling(row: &[u8], extremes: Extremes, pixel: usize) -> bool
-    requires row { IsRow row.now }
-    requires extremes { AreExtremes row.now extremes }
-    requires pixel { pixel < length row.now }
-    ensures { result ≡ is_falling row.now pixel }
-{
-    is_light(row, extremes, pixel.saturating_sub(1)) && !is_light(row, extremes, pixel)
+    middle <= row[pixel]
 }
 
 /// The first falling edge at a pixel or behind it.
-fn next_edge(row: &[u8], extremes: Extremes, from: usize) -> Option<usize>
+fn next_edge(row: &[u8], middle: u8, from: usize) -> Option<usize>
     requires row { IsRow row.now }
-    requires extremes { AreExtremes row.now extremes }
+    requires middle { IsMiddle row.now middle }
     ensures some { IfSome result (IsNextEdge row.now from) }
     ensures none { IfNone result ((pixel : ℕ) → IsNextEdge row.now from pixel → ⊥) }
 {
+    let mut was_light = 0 < from && from <= row.len() && is_light(row, middle, from - 1);
     for pixel in from..row.len() {
-        if is_falling(row, extremes, pixel) {
+        let light = is_light(row, middle, pixel);
+        if was_light && !light {
             return Some(pixel);
         }
+        was_light = light;
     }
     None
 }
@@ -62,9 +56,9 @@ fn nine_cells(width: u32) -> usize
 }
 
 /// From the falling edge of the first sync pair to that of the ninth.
-fn last_edge(row: &[u8], extremes: Extremes, first: usize) -> Option<usize>
+fn last_edge(row: &[u8], middle: u8, first: usize) -> Option<usize>
     requires row { IsRow row.now }
-    requires extremes { AreExtremes row.now extremes }
+    requires middle { IsMiddle row.now middle }
     requires first { first < length row.now }
     ensures some { IfSome result (LeadsTo row.now 8 first) }
     ensures none { IfNone result ((last : ℕ) → LeadsTo row.now 8 first last → ⊥) }
@@ -73,7 +67,7 @@ fn last_edge(row: &[u8], extremes: Extremes, first: usize) -> Option<usize>
     let nine = nine_cells(width_of(row));
     let mut last = first;
     for edge in 1..PAIRS {
-        match next_edge(row, extremes, last + nine) {
+        match next_edge(row, middle, last + nine) {
             Some(next) => last = next,
             None => return None,
         }
@@ -131,8 +125,9 @@ fn between_edges(row: &[u8], extremes: Extremes) -> Option<Place>
     ensures none { IfNone result ((place : Place) → LiesBetween row.now place → ⊥) }
     ensures near { IfSome result IsNear }
 {
-    let first = next_edge(row, extremes, 0)?;
-    let last = last_edge(row, extremes, first)?;
+    let middle = extremes.middle();
+    let first = next_edge(row, middle, 0)?;
+    let last = last_edge(row, middle, first)?;
     Some(Place {
         first: 16 * first as u32,
         last: 16 * last as u32,

@@ -1,5 +1,5 @@
 //! The darkest and the lightest pixel of a row. Read next: `light`.
-ghost use Rattle.std.specs.Prelude.{◌≡◌, ◌-◌, min, max};
+ghost use Rattle.std.specs.Prelude.{◌≡◌, ◌+◌, ◌-◌, ◌/◌, min, max};
 ghost use Rattle.std.specs.List.{fold};
 ghost use Rattle.luma_row.specs.KeptExtremes.{AreExtremes};
 ghost use Rattle.luma_row.specs.Row.{has_contrast};
@@ -30,5 +30,12 @@ impl Extremes {
         ensures { result ≡ self.lightest - self.darkest }
     {
         self.lightest.saturating_sub(self.darkest)
+    }
+
+    /// The least level that is no nearer to the darkest than to the lightest.
+    pub(crate) fn middle(self) -> u8
+        ensures { result ≡ (self.darkest + self.lightest + 1) / 2 }
+    {
+        ((u16::from(self.darkest) + u16::from(self.lightest) + 1) / 2) as u8
     }
 }
