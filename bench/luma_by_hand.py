@@ -306,7 +306,19 @@ def cases():
         ("the-earliest-place", "25 384 1 0 1", shaded(six_later, Fraction(3, 8), Fraction(394, 100))),
         ("the-earliest-place", "25 384 1 0 1", shaded(eight_later, Fraction(3, 8), Fraction(382, 100))),
         ("the-earliest-place", "25 384 1 0 1", shaded(eight_later, 16, Fraction(394, 100))),
+        ("a-word-that-is-sought", "25 384 1 0 1", flecked_behind(drawn(ten, 384, 12, light=150), 255)),
+        ("a-word-that-is-sought", "25 384 1 0 1", flecked_before(drawn(user, 384, 12), 4)),
+        ("a-word-that-is-sought", "25 384 2 0 2", one + flecked_behind(drawn(ten, 384, 14, light=150), 255)),
     ]
+    rows += [("the-earliest-place-of-a-word-that-is-sought", "25 384 1 0 1",
+              flecked_behind(shaded(bits, begin, Fraction(cell, 100), light=150), 255))
+             for bits, begin, cell in ((two_later, 0, 382), (six_later, Fraction(3, 8), 394),
+                                       (eight_later, Fraction(3, 8), 382), (eight_later, 16, 394))]
+    faint = word("14:43:33:09", (15,) * 8)
+    faint = shaded(faint, Fraction(245376, 10240), Fraction(49920, 10240), 480, dark=200, light=212)
+    rows += [("pairs-that-swing", "25 480 1 0 1", flecked_behind(faint, level)) for level in (212, 217, 218, 219, 220, 255)]
+    rows += [("as-far-as-is-looked-at", "25 384 1 0 1", shaded(ten, Fraction(begin * 80 - pixels, 80), Fraction(pixels, 80)))
+             for begin, pixels in ((12, 304), (12, 303), (12, 302), (8, 336), (8, 337), (8, 338))]
     for edge, words in enumerate(("25 4096 4096 4056 40", "30 360 1 0 1"), 1):
         yield case("the-greatest-and-the-least-field", edge, words, b"")
     counts = {}
@@ -322,6 +334,16 @@ def cases():
 def flecked(row, at):
     """The row with three cells whose levels are a fifteenth of the way from the middle of 50 and 200."""
     return row[:at] + bytes([125 + (pixel - 125) // 15 for pixel in row[at : at + 12]]) + row[at + 12 :]
+
+
+def flecked_behind(row, level):
+    """The row whose last pixel, behind the word, has this level."""
+    return row[:-1] + bytes([level])
+
+
+def flecked_before(row, at):
+    """The row with a white pixel before the word."""
+    return row[:at] + b"\xff" + row[at + 1 :]
 
 
 def main():
