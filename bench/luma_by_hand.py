@@ -317,6 +317,7 @@ def cases():
     faint = word("14:43:33:09", (15,) * 8)
     faint = shaded(faint, Fraction(245376, 10240), Fraction(49920, 10240), 480, dark=200, light=212)
     rows += [("pairs-that-swing", "25 480 1 0 1", flecked_behind(faint, level)) for level in (212, 217, 218, 219, 220, 255)]
+    rows += [("pairs-that-swing", "25 480 1 0 1", weakened(faint, 245376, 49920, bit, 200)) for bit in (0, 40, 80, 84)]
     rows += [("as-far-as-is-looked-at", "25 384 1 0 1", shaded(ten, Fraction(begin * 80 - pixels, 80), Fraction(pixels, 80)))
              for begin, pixels in ((12, 304), (12, 303), (12, 302), (8, 336), (8, 337), (8, 338))]
     for edge, words in enumerate(("25 4096 4096 4056 40", "30 360 1 0 1"), 1):
@@ -339,6 +340,12 @@ def flecked(row, at):
 def flecked_behind(row, level):
     """The row whose last pixel, behind the word, has this level."""
     return row[:-1] + bytes([level])
+
+
+def weakened(row, begin, cell, bit, dark):
+    """The row in which the light of a cell stands half as high above the dark. Places are 10,240ths of a pixel."""
+    first, last = ((begin + cell * edge) // 10240 for edge in (bit, bit + 1))
+    return row[:first] + bytes(dark + (pixel - dark) // 2 for pixel in row[first : last + 1]) + row[last + 1 :]
 
 
 def flecked_before(row, at):
