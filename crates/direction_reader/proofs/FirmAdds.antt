@@ -24,7 +24,7 @@ use Rattle.direction_reader.specs.Events.{tick_of}
 use Rattle.direction_reader.specs.Firm.{judged, firm_events_of_cells, told_tick, DoNotFall}
 use Rattle.direction_reader.specs.FirmStandsFor.{KeptFirm, FirmCellsStandFor, WaitsFor, beside_of}
 use Rattle.direction_reader.specs.FirmStep.{FindsAt, AreWindowCandidates, heard, began, or_else, ended, firm_list}
-use Rattle.direction_reader.specs.FirmStep.{IsWithin, IsToldWithin, firm_listed, until_of}
+use Rattle.direction_reader.specs.FirmStep.{IsPlayedBackward, IsToldBackward, IsWithin, IsToldWithin, firm_listed, until_of}
 use Rattle.direction_reader.specs.declared.firm_event.FirmEvents.{FirmEvents}
 use Rattle.direction_reader.specs.FirmStep.{WaitsWithin, TellsWithin}
 use Rattle.direction_reader.specs.LatestBits.{after_bit}
@@ -49,7 +49,7 @@ found_within tick (Some event) at = word_within tick event at
 
 judged_within : (tick : ℕ) (firm : Bool) (event : Event) → IsWithin tick event → IsToldWithin tick (judged firm event)
 judged_within tick true (Word d w t n) is = is
-judged_within tick false (Word d w t n) is = is.0
+judged_within tick false (Word d w t n) is = is
 judged_within tick firm (Refused d f t) is = is
 judged_within tick firm (Lost p t) is = is
 
@@ -65,7 +65,7 @@ later_event before tick (Lost p t) late is = absurd is
 
 later_told : (before tick : ℕ) (event : FirmEvent) → before ≤ tick → IsToldWithin before event → IsToldWithin tick event
 later_told before tick (Told event) late is = later_event before tick event late is
-later_told before tick (Alone d t) late is = omega (arith, is)
+later_told before tick (Alone d w t n) late is = later_event before tick (Word d w t n) late is
 
 later_option : (before tick : ℕ) (o : Option FirmEvent) → before ≤ tick → IfSome o (IsToldWithin before)
     → IfSome o (IsToldWithin tick)
@@ -77,6 +77,7 @@ later_waits before tick None late is = tt
 later_waits before tick (Some w) late is =
     record {
       word = later_event before tick w.word late is.word;
+      played = is.played;
       behind = later_option before tick w.behind late
           is.behind;
       later = is.later;
@@ -88,23 +89,27 @@ or_within tick None b one two = two
 or_within tick (Some e) b one two = one
 
 began_within : (tick : ℕ) (first second : Option FirmEvent) (backward : Option Event) → IfSome first (IsToldWithin tick)
-    → IfSome second (IsToldWithin tick) → IfSome backward (IsWithin tick)
+    → IfSome second (IsToldWithin tick) → IfSome backward (IsWithin tick) → IfSome backward IsPlayedBackward
+    → IfSome first IsToldBackward
     → WaitsWithin tick (began first second backward).waiting × TellsWithin tick (began first second backward).told
-began_within tick first second None one two back =
-    (tt, record { first = one; second = two; third = tt; no_word = tt })
-began_within tick first second (Some (Word d w t n)) one two back =
-    (record { word = back; behind = tt; later = tt }, record { first = one; second = two; third = tt; no_word = tt })
-began_within tick first second (Some (Refused d f t)) one two back = (
-  tt,
-  record {
-    first = one;
-    second = two;
-    third =
-        back;
-    no_word = refl;
-  },
+began_within tick first second None one two back played way =
+    (tt, record { first = one; second = two; third = tt; played = way; no_word = tt })
+began_within tick first second (Some (Word d w t n)) one two back played way = (
+  record { word = back; played = played; behind = tt; later = tt },
+  record { first = one; second = two; third = tt; played = way; no_word = tt },
 )
-began_within tick first second (Some (Lost p t)) one two back = absurd back
+began_within tick first second (Some (Refused d f t)) one two back played way = (
+  tt,
+  record { first = one; second = two; third = back; played = way; no_word = refl },
+)
+began_within tick first second (Some (Lost p t)) one two back played way = absurd back
+
+-- a word that waited is told as one that is played backward
+judged_played : (firm : Bool) (event : Event) → IsPlayedBackward event → IsToldBackward (judged firm event)
+judged_played true (Word d w t n) is = is
+judged_played false (Word d w t n) is = is
+judged_played firm (Refused d f t) is = is
+judged_played firm (Lost p t) is = is
 
 -- an event that is given at a tick is given no sooner than one that ended by it
 within_tick : (tick : ℕ) (event : Event) → IsWithin tick event → tick_of event ≤ tick
@@ -124,23 +129,25 @@ or_later from tick (Some e) b late one two = one
 heard_within : (tick : ℕ) (waits : Option Waiting) (sync : Bool) (forward : Option FirmEvent) (backward : Option Event)
     → WaitsWithin tick waits
     → IfSome forward (IsToldWithin tick) → IfSome forward (IsToldAt tick) → IfSome backward (IsWithin tick)
+    → IfSome backward IsPlayedBackward
     → WaitsWithin tick (heard waits sync forward backward).waiting × TellsWithin tick (heard waits sync forward
     backward).told
-heard_within tick None sync forward backward waits one at back = began_within tick None forward backward tt one back
-heard_within tick (Some w) sync forward backward waits one at back =
+heard_within tick None sync forward backward waits one at back played =
+    began_within tick None forward backward tt one back played tt
+heard_within tick (Some w) sync forward backward waits one at back played =
     let behind = or_within tick w.behind forward waits.behind one in
     let later = or_later (tick_of w.word) tick w.behind forward (within_tick tick w.word waits.word) waits.later at in
     elim (cases_lt w.age 15) [
       | inl less ↦ (
           let test : nat_lt w.age 15 ≡ true = grind (arith, common_steps) in
           rw test (
-            record { word = waits.word; behind = behind; later = later },
-            record { first = tt; second = tt; third = tt; no_word = tt },
+            record { word = waits.word; played = waits.played; behind = behind; later = later },
+            record { first = tt; second = tt; third = tt; played = tt; no_word = tt },
           ))
       | inr last ↦ (
           let test : nat_lt w.age 15 ≡ false = grind (arith, common_steps) in
           let is = began_within tick (Some (judged sync w.word)) (or_else w.behind forward) backward (judged_within
-          tick sync w.word waits.word) behind back in
+          tick sync w.word waits.word) behind back played (judged_played sync w.word waits.played) in
           rw test is)
     ]
 
@@ -165,7 +172,7 @@ add_within before tick waits firm sync found late within at =
     heard_within tick waits sync (option_map (judged firm) found.forward) found.backward (later_waits before tick waits
     late within)
     (all_judged_within tick firm found.forward (found_within tick found.forward at.forward))
-    (told_at tick firm found.forward at.forward) (found_within tick found.backward at.backward)
+    (told_at tick firm found.forward at.forward) (found_within tick found.backward at.backward) at.played
 
 -- ---- in turn
 
@@ -216,7 +223,7 @@ forward_in_turn from tick (Some e) late at = (omega (arith, late, at), omega (ar
 
 told_within : (tick : ℕ) (event : FirmEvent) → IsToldWithin tick event → told_tick event ≤ tick
 told_within tick (Told event) is = within_tick tick event is
-told_within tick (Alone d t) is = is
+told_within tick (Alone d w t n) is = is.0
 
 -- what came behind a word
 waited_in_turn : (from before tick : ℕ) (a : Option FirmEvent) → from ≤ before → before ≤ tick

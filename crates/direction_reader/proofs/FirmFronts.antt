@@ -294,7 +294,7 @@ cells_end system tick now until cells told lasts (inr one) =
 
 -- ---- the stretches of a list
 
-abbrev all_of : System → List ℕ → List Stretch → List FirmEvent
+abbrev pub all_of : System → List ℕ → List Stretch → List FirmEvent
 all_of system l ss = flat_map (firm_events_of_stretch system l) ss
 
 -- what is given of a stretch by its end
@@ -482,7 +482,7 @@ end_step profile system l s ss told until (Some place) at is next again tells =
       next = own.next;
     }
 
-told_end : (profile : Profile) (system : System) (l : List ℕ) (start : ℕ) (ss : List Stretch) (told : List FirmEvent)
+pub told_end : (profile : Profile) (system : System) (l : List ℕ) (start : ℕ) (ss : List Stretch) (told : List FirmEvent)
     (until : ℕ) → AreStretchesFrom profile l start ss → AreToldOfStretches system l ss told until
     → Ends told until (all_of system l ss) (sum l)
 told_end profile system l start [] told until stretches are =
@@ -500,13 +500,13 @@ told_end profile system l start (s ∷ ss) told until stretches are =
 
 -- ---- ticks, with witnesses as without
 
-abbrev ticks_of : List Event → List ℕ
+abbrev pub ticks_of : List Event → List ℕ
 ticks_of es = map tick_of es
 
-abbrev told_ticks : List FirmEvent → List ℕ
+abbrev pub told_ticks : List FirmEvent → List ℕ
 told_ticks fs = map told_tick fs
 
-judged_ticks : (es : List Event) (fs : List FirmEvent) → AllZip IsJudged es fs → ticks_of es ≡ told_ticks fs
+pub judged_ticks : (es : List Event) (fs : List FirmEvent) → AllZip IsJudged es fs → ticks_of es ≡ told_ticks fs
 judged_ticks [] [] zip = refl
 judged_ticks [] (f ∷ fs) zip = absurd zip
 judged_ticks (e ∷ es) [] zip = absurd zip
@@ -591,7 +591,7 @@ all_behind laws system profile front more told events until (ss, stretches, are)
       before = omega (arith, before, total);
     }
 
-of_behind : (tail : List FirmEvent) (e : FirmEvent) (more : List FirmEvent) (until : ℕ)
+pub of_behind : (tail : List FirmEvent) (e : FirmEvent) (more : List FirmEvent) (until : ℕ)
     → All (IsFrom until) (tail ++ e ∷ more) → until ≤ told_tick e
 of_behind [] e more until all = All-head (IsFrom until) e more all
 of_behind (t ∷ tail) e more until all = of_behind tail e more until (All-tail (IsFrom until) t (tail ++ e ∷ more) all)
@@ -610,7 +610,7 @@ until_later told tail last_rest rest until last n now before is from (inr next) 
     let tick = next.3 in
     omega (arith, there, tick)
 
-front_from : (tail rest : List FirmEvent) (until : ℕ) → All (IsFrom until) (tail ++ rest) → All (IsFrom until) tail
+pub front_from : (tail rest : List FirmEvent) (until : ℕ) → All (IsFrom until) (tail ++ rest) → All (IsFrom until) tail
 front_from [] rest until all = All-nil (IsFrom until)
 front_from (t ∷ tail) rest until all =
     All-cons (IsFrom until) t tail (All-head (IsFrom until) t (tail ++ rest) all)

@@ -41,7 +41,7 @@ use Rattle.direction_reader.proofs.SyncInTime.{WordLaws}
 pub no_need : (word : Event) (es : List Event) → es ≡ word ∷ [] → is_word word ≡ true
     → map (judged true) es ≡ map (judged false) es → ⊥
 no_need (Word d w t n) es there is same =
-    let both : Told (Word d w t n) ∷ [] ≡ Alone d t ∷ [] = rw there at same in absurd cc
+    let both : Told (Word d w t n) ∷ [] ≡ Alone d w t n ∷ [] = rw there at same in absurd cc
 no_need (Refused d f t) es there is same = absurd cc
 no_need (Lost p t) es there is same = absurd cc
 

@@ -40,6 +40,7 @@ quiet_found system (latest.Full n) boundaries end quiet = record {
   backward = rw (sync_false (reversed_bits n) (λ sync. quiet (inr sync))) refl;
   forward_bears = tt;
   backward_bears = tt;
+  played = tt;
 }
 quiet_found system (latest.Filling f) boundaries end quiet = refl
 

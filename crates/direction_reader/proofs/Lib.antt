@@ -1,4 +1,5 @@
 pub mod AsLists
+pub mod BetweenNeighbours
 pub mod BitsShift
 pub mod CellsEnd
 pub mod CellsGrow
@@ -23,6 +24,9 @@ pub mod InSync
 pub mod LaterEvents
 pub mod MirroredEvents
 pub mod MirroredWindows
+pub mod NextWordFronts
+pub mod NextWordLists
+pub mod NextWordTicks
 pub mod OneList
 pub mod OneListOfEvents
 pub mod ReaderSteps

@@ -38,13 +38,13 @@ is_firm Backward cells k =
 -- what becomes of the event of a candidate: a word that is not firm is alone, and all else is told as it is
 abbrev pub judged : Bool → Event → FirmEvent
 judged firm (Word direction word tick length) =
-    if firm then Told (Word direction word tick length) else Alone direction tick
+    if firm then Told (Word direction word tick length) else Alone direction word tick length
 judged firm event = Told event
 
 -- the tick of what is told: where a window ends, or the interval at which a stretch breaks
 abbrev pub told_tick : FirmEvent → ℕ
 told_tick (Told event) = tick_of event
-told_tick (Alone direction tick) = tick
+told_tick (Alone direction word tick length) = tick
 
 -- ticks that do not fall, from a tick to another
 abbrev pub DoNotFall : ℕ → List ℕ → ℕ → Type 0

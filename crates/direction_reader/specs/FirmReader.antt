@@ -11,7 +11,7 @@ use Rattle.direction_reader.specs.declared.firm_event.FirmEvents.{FirmEvents}
 use Rattle.direction_reader.specs.Brings.{greatest_cell}
 use Rattle.direction_reader.specs.Firm.{firm_events_of_stretch}
 use Rattle.direction_reader.specs.FirmStandsFor.{KeptFirm, FirmCellsStandFor}
-use Rattle.direction_reader.specs.FirmStep.{IsNoWord, WaitsWithin, until_of}
+use Rattle.direction_reader.specs.FirmStep.{IsNoWord, IsToldBackward, WaitsWithin, until_of}
 use Rattle.direction_reader.specs.Gathered.{begin_of}
 use Rattle.direction_reader.specs.Invariants.{IsReading}
 use Rattle.direction_reader.specs.ListEvents.{duration}
@@ -45,17 +45,19 @@ IsToldBy intervals sum (Told (Word direction word tick length)) =
     (tick ≤ sum) × (80 ≤ length) × (length ≤ 80 * greatest_cell)
 IsToldBy intervals sum (Told (Refused direction fault tick)) = tick ≤ sum
 IsToldBy intervals sum (Told (Lost interval tick)) = (interval + 1 ≡ intervals) × (tick ≡ sum)
-IsToldBy intervals sum (Alone direction tick) = tick ≤ sum
+IsToldBy intervals sum (Alone direction word tick length) =
+    (tick ≤ sum) × (80 ≤ length) × (length ≤ 80 * greatest_cell)
 
 -- up to which tick all is told: the sum of the intervals, or the tick of a word that waits for its witness
 abbrev pub told_until : FirmState → ℕ
 told_until r = until_of r.tick r.cells.waits
 
--- what the latest of this many intervals brings, at most two words
+-- what the latest of this many intervals brings, at most two words: the first has waited, and is played backward
 pub record FirmBrings (intervals sum : ℕ) (events : FirmEvents) : Type 0 where
   pub first : IfSome events.first (IsToldBy intervals sum)
   pub second : IfSome events.second (IsToldBy intervals sum)
   pub third : IfSome events.third (IsToldBy intervals sum)
+  pub played : IfSome events.first IsToldBackward
   pub no_word : IfSome events.third IsNoWord
 
 -- the open stretch: what is kept of its cells, and what is told of them

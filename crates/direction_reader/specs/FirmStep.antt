@@ -32,17 +32,30 @@ firm_listed (Some event) = event ∷ []
 abbrev pub firm_list : FirmEvents → List FirmEvent
 firm_list events = firm_listed events.first ++ firm_listed events.second ++ firm_listed events.third
 
+-- a candidate that is read backward
+abbrev pub IsPlayedBackward : Event → Type 0
+IsPlayedBackward (Word direction word tick length) = direction ≡ Backward
+IsPlayedBackward (Refused direction fault tick) = direction ≡ Backward
+IsPlayedBackward (Lost interval tick) = ⊥
+
+-- as it is told
+abbrev pub IsToldBackward : FirmEvent → Type 0
+IsToldBackward (Told event) = IsPlayedBackward event
+IsToldBackward (Alone direction word tick length) = direction ≡ Backward
+
 -- the candidates of a window, one in each direction
 pub record AreCandidatesOf (system : System) (bits end length : ℕ) (found : Candidates) : Type 0 where
   pub forward : listed found.forward ≡ candidate_in system Forward bits end length
   pub backward : listed found.backward ≡ candidate_in system Backward (reversed_bits bits) end length
   pub forward_bears : IfSome found.forward (Bears end length)
   pub backward_bears : IfSome found.backward (Bears end length)
+  pub played : IfSome found.backward IsPlayedBackward
 
 -- each of them ends at a tick, a word with the length of 80 cells
 pub record FindsAt (end : ℕ) (found : Candidates) : Type 0 where
   pub forward : IfSome found.forward (IsWordAt end)
   pub backward : IfSome found.backward (IsWordAt end)
+  pub played : IfSome found.backward IsPlayedBackward
 
 -- no candidate
 abbrev pub no_candidates : Candidates
@@ -93,11 +106,12 @@ IsWithin tick (Lost interval end) = ⊥
 -- as it is told
 abbrev pub IsToldWithin : ℕ → FirmEvent → Type 0
 IsToldWithin tick (Told event) = IsWithin tick event
-IsToldWithin tick (Alone direction end) = end ≤ tick
+IsToldWithin tick (Alone direction word end length) = IsWithin tick (Word direction word end length)
 
--- a word that waits, and what stands behind it, which ended at its tick or later
+-- a word that waits, which is played backward, and what stands behind it, which ended at its tick or later
 pub record IsWaitingWithin (tick : ℕ) (w : Waiting) : Type 0 where
   pub word : IsWithin tick w.word
+  pub played : IsPlayedBackward w.word
   pub behind : IfSome w.behind (IsToldWithin tick)
   pub later : IfSome w.behind (λ event. tick_of w.word ≤ told_tick event)
 
@@ -110,14 +124,15 @@ abbrev pub until_of : ℕ → Option Waiting → ℕ
 until_of now None = now
 until_of now (Some w) = tick_of w.word
 
--- no word
+-- no word, with a witness or without
 abbrev pub IsNoWord : FirmEvent → Type 0
 IsNoWord (Told event) = is_word event ≡ false
-IsNoWord (Alone direction tick) = Unit {0}
+IsNoWord (Alone direction word tick length) = ⊥
 
--- what is told of windows that ended by a tick
+-- what is told of windows that ended by a tick: first a word that waited
 pub record TellsWithin (tick : ℕ) (told : FirmEvents) : Type 0 where
   pub first : IfSome told.first (IsToldWithin tick)
   pub second : IfSome told.second (IsToldWithin tick)
   pub third : IfSome told.third (IsToldWithin tick)
+  pub played : IfSome told.first IsToldBackward
   pub no_word : IfSome told.third IsNoWord

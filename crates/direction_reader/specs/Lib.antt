@@ -4,6 +4,10 @@ pub mod Bits
 pub mod Boundaries
 pub mod Brings
 pub mod Candidate
+pub mod Consecutive
+pub mod ConsecutiveStep
+pub mod ConsecutiveTape
+pub mod ConsecutiveTold
 pub mod Events
 pub mod Firm
 pub mod FirmReader

@@ -3,7 +3,7 @@ ghost use Rattle.std.specs.Prelude.{◌≡◌, ◌<◌, ◌^◌, IfSome};
 ghost use Rattle.ltc_word.specs.Reversal.{EndsInSync, reversed_bits};
 ghost use Rattle.direction_reader.specs.Candidate.{IsEventOf, AreEventsOf, Bears, BearsOnly, candidate_in};
 ghost use Rattle.direction_reader.specs.Events.{listed};
-ghost use Rattle.direction_reader.specs.FirmStep.{AreCandidatesOf, no_candidates};
+ghost use Rattle.direction_reader.specs.FirmStep.{AreCandidatesOf, no_candidates, IsPlayedBackward};
 
 use crate::event::{Event, Events};
 use ltc_word::laws::what_stands_in_bits_is_what_they_spell;
@@ -36,6 +36,7 @@ fn backward_candidate(system: System, bits: u128, tick: u64, length: u64) -> Eve
     requires sync { EndsInSync (reversed_bits bits) }
     ensures event { IsEventOf system Direction.Backward (reversed_bits bits) tick length result }
     ensures bears { Bears tick length result }
+    ensures played { IsPlayedBackward result }
 {
     let bits = reversed(bits);
     candidate(Direction::Backward, system, bits, tick, length)
@@ -113,6 +114,7 @@ fn found_backward(system: System, bits: u128, tick: u64, length: u64) -> Option<
     requires { bits < 2 ^ 80 }
     ensures event { listed result ≡ candidate_in system Direction.Backward (reversed_bits bits) tick length }
     ensures bears { IfSome result (Bears tick length) }
+    ensures played { IfSome result IsPlayedBackward }
 {
     what_stands_in_bits_is_what_they_spell();
     if begins_in_reversed_sync(bits) {

@@ -2,6 +2,7 @@
 ghost use Rattle.std.specs.Prelude.{◌≡◌};
 
 use crate::event::Event;
+use ltc_word::LtcWord;
 use tc_address::Direction;
 
 /// What an interval brought to a reader that needs a witness for each word.
@@ -11,7 +12,27 @@ pub enum FirmEvent {
     /// stretch; a candidate with a fault in its fields; a break.
     Told(Event),
     /// A word without a witness. It is refused: nobody may have recorded it.
-    Alone { direction: Direction, tick: u64 },
+    Alone {
+        direction: Direction,
+        word: LtcWord,
+        tick: u64,
+        /// The sum of the intervals of its 80 cells, in ticks.
+        length: u64,
+    },
+}
+
+impl FirmEvent {
+    ghost use Rattle.direction_reader.specs.Firm.{told_tick};
+
+    /// Its tick.
+    pub(crate) fn tick(&self) -> u64
+        ensures { result ≡ told_tick self.now }
+    {
+        match self {
+            FirmEvent::Told(event) => event.tick(),
+            FirmEvent::Alone { tick, .. } => *tick,
+        }
+    }
 }
 
 /// What one interval brought, in order: at most three, since a word may have waited for its witness

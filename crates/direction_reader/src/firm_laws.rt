@@ -18,6 +18,7 @@ ghost use Rattle.direction_reader.specs.FirmTape.{AreOneWay, AreWitnessed, FirmT
 ghost use Rattle.direction_reader.specs.FirmTape.{IsTold};
 ghost use Rattle.direction_reader.specs.ListEvents.{AreEvents, duration};
 ghost use Rattle.direction_reader.specs.Played.{Played, AreSpelled, bits_of_words, events_of_words, low_bits};
+ghost use Rattle.ltc_word.specs.Reading.{word_in};
 ghost use Rattle.tc_address.specs.declared.direction.Direction.{Direction};
 ghost use Rattle.tc_address.specs.declared.direction.Direction.TheVariants.{Forward, Backward};
 ghost use Rattle.tc_address.specs.declared.system.System.{System};
@@ -153,10 +154,12 @@ pub fn told_events_come_first()
 /// played forward are two words, each of them alone.
 pub fn some_words_are_alone()
     ensures forward { firm_events_of_cells F25 0 (cells_of 96 (0xbffc0800000000000000 * 2 ^ 16))
-        ≡ Alone Forward 2304 ∷ [] }
-    ensures backward { firm_events_of_cells F25 0 (cells_of 96 0x103ffd) ≡ Alone Backward 1920 ∷ [] }
+        ≡ Alone Forward (word_in F25 0xbffc0800000000000000) 2304 1920 ∷ [] }
+    ensures backward { firm_events_of_cells F25 0 (cells_of 96 0x103ffd)
+        ≡ Alone Backward (word_in F25 0xbffc0800000000000000) 1920 1920 ∷ [] }
     ensures turned { firm_events_of_cells F25 0 (cells_of 96 (0xbffc0800000000000000 * 2 ^ 16 + 0x3ffd))
-        ≡ Alone Backward 1920 ∷ Alone Forward 2304 ∷ [] }
+        ≡ Alone Backward (word_in F25 0xbffc0000000000000010) 1920 1920
+        ∷ Alone Forward (word_in F25 0xbffc0800000000000000) 2304 1920 ∷ [] }
 {}
 
 /// The same word is `Told` behind 15 zeros, and behind a sync word; and played backward, before 15 zeros

@@ -23,6 +23,13 @@
 //!   that it was fed and for the events that it has given (`specs/FirmReader.antt`, and of the list alone
 //!   `specs/FirmTold.antt`, `AreTold`), and `finish` gives what still waits (clause `all`). At most one
 //!   word waits, and one candidate behind it. What a witness changes and what not is in `firm_laws`.
+//! - `ConsecutiveReader` tells a word without a witness all the same if the word that follows it on the
+//!   tape is beside it, begins or ends where it does, and has the next label (`specs/Consecutive.antt`,
+//!   `AreConsecutiveEvents`). It stands for the events of a `FirmReader` and for those that it has given of
+//!   them (`specs/ConsecutiveStep.antt`, and of the list alone `specs/ConsecutiveTold.antt`,
+//!   `AreConsecutiveTold`), and `finish` gives what is held (clause `all`). At most one word is held, and at
+//!   most two words are told with an interval. `consecutive_laws` says what the next word changes and what
+//!   not.
 //! - A window holds the latest of the bits that it was given (`specs/HoldsBits.antt`).
 //! - `window_events` gives the candidates of one window, the forward one first
 //!   (`specs/Candidate.antt`).
@@ -31,7 +38,8 @@
 //! Read `reader`, `tracker`, `state`, `latest_cells`, `latest_bits`, `window`, `boundaries`, `brought`,
 //! `candidates` and `event`, in this order: the way of an interval. Then `firm_reader`, `firm_cells`,
 //! `beside`, `waiting` and `firm_event`, the way of a word that needs a witness, over the same tracker
-//! and cells. `specs/Invariants.antt` is what the code keeps. `report_text` prints the events. Nothing
+//! and cells, and `consecutive`, `consecutive_event` and `neighbours`, which come behind them.
+//! `specs/Invariants.antt` is what the code keeps. `report_text` prints the events. Nothing
 //! here allocates.
 #![tactic(auto)]
 
@@ -39,6 +47,9 @@ mod beside;
 mod boundaries;
 mod brought;
 mod candidates;
+mod consecutive;
+mod consecutive_event;
+pub mod consecutive_laws;
 mod event;
 mod firm_cells;
 mod firm_event;
@@ -47,6 +58,7 @@ mod firm_reader;
 mod latest_bits;
 mod latest_cells;
 pub mod laws;
+mod neighbours;
 mod reader;
 mod state;
 mod tracker;
@@ -55,6 +67,8 @@ mod window;
 
 pub use brought::Brought;
 pub use candidates::window_events;
+pub use consecutive::ConsecutiveReader;
+pub use consecutive_event::ConsecutiveEvents;
 pub use event::{Event, Events};
 pub use firm_event::{FirmEvent, FirmEvents};
 pub use firm_reader::FirmReader;

@@ -32,13 +32,22 @@ pub struct Heard {
 fn judge(firm: bool, event: Event) -> FirmEvent
     ensures { result ≡ judged firm event }
 {
+    if firm {
+        return FirmEvent::Told(event);
+    }
     match event {
         Event::Word {
             direction,
+            word,
             tick,
-            ..
-        } if !firm => FirmEvent::Alone { direction, tick },
-        told => FirmEvent::Told(told),
+            length,
+        } => FirmEvent::Alone {
+            direction,
+            word,
+            tick,
+            length,
+        },
+        Event::Refused { .. } | Event::Lost { .. } => FirmEvent::Told(event),
     }
 }
 

@@ -49,8 +49,9 @@ impl HeardWord {
         self.tick_after(steps) + self.length.div_ceil(2)
     }
 
-    /// Whether another word is the one to which this one leads after `steps` steps.
-    pub(crate) fn leads_to(&self, steps: u32, next: &HeardWord) -> bool
+    /// Whether another word is the one to which this one leads after `steps` steps: it has its direction, and
+    /// the label that is so many steps further in that direction.
+    pub fn leads_to(&self, steps: u32, next: &HeardWord) -> bool
         ensures { result ≡ is_next self.now steps next.now }
     {
         self.direction == next.direction && self.label_after(steps) == next.label

@@ -89,8 +89,8 @@ later_events until (Told e ∷ fs) all =
     All-cons (λ (x : Event). until ≤ tick_of x) e (told_events fs)
     (All-head (λ (f : FirmEvent). until ≤ told_tick f) (Told e) fs all)
     (later_events until fs (All-tail (λ (f : FirmEvent). until ≤ told_tick f) (Told e) fs all))
-later_events until (Alone d t ∷ fs) all =
-    later_events until fs (All-tail (λ (f : FirmEvent). until ≤ told_tick f) (Alone d t) fs all)
+later_events until (Alone d w t l ∷ fs) all =
+    later_events until fs (All-tail (λ (f : FirmEvent). until ≤ told_tick f) (Alone d w t l) fs all)
 
 firm_behind : (told later : List FirmEvent) (events all : List Event) (until now : ℕ) → ComesFirst told until later now
     → events ≡ told_events told → all ≡ told_events later → GoOnBehind events until all now

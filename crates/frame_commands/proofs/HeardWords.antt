@@ -98,7 +98,7 @@ in_turn n from tick own below before brings =
 pub told_events-append : (fs gs : List FirmEvent) → told_events (fs ++ gs) ≡ told_events fs ++ told_events gs
 told_events-append [] gs = refl
 told_events-append (Told e ∷ fs) gs = ap (λ (es : List Event). e ∷ es) (told_events-append fs gs)
-told_events-append (Alone d t ∷ fs) gs = told_events-append fs gs
+told_events-append (Alone d w t l ∷ fs) gs = told_events-append fs gs
 
 abbrev words_told : List FirmEvent → List HeardWord
 words_told fs = words_heard (told_events fs)
@@ -112,7 +112,7 @@ none_third None none = refl
 none_third (Some (Told (events.Word d w t l))) none = let no : true ≡ false = none in absurd cc
 none_third (Some (Told (events.Refused d f t))) none = refl
 none_third (Some (Told (events.Lost i t))) none = refl
-none_third (Some (Alone d t)) none = refl
+none_third (Some (Alone d w t l)) none = absurd none
 
 -- the words of what is given are those of the first two
 pub words_of_two : (told : FirmEvents) → IfSome told.third IsNoWord
@@ -129,7 +129,7 @@ one_told None = omega arith
 one_told (Some (Told (events.Word d w t l))) = omega arith
 one_told (Some (Told (events.Refused d f t))) = omega arith
 one_told (Some (Told (events.Lost i t))) = omega arith
-one_told (Some (Alone d t)) = omega arith
+one_told (Some (Alone d w t l)) = omega arith
 
 pub two_told : (told : FirmEvents) → IfSome told.third IsNoWord → length (words_told (firm_list told)) ≤ 2
 two_told told none =
@@ -151,7 +151,7 @@ told_range n sum (Some (Told (events.Word d w t l))) below told =
     (All-nil IsInRange)
 told_range n sum (Some (Told (events.Refused d f t))) below told = All-nil IsInRange
 told_range n sum (Some (Told (events.Lost i t))) below told = All-nil IsInRange
-told_range n sum (Some (Alone d t)) below told = All-nil IsInRange
+told_range n sum (Some (Alone d w t l)) below told = All-nil IsInRange
 
 pub told_in_range : (n sum : ℕ) (told : FirmEvents) → sum < 2 ^ 60 → FirmBrings n sum told
     → All IsInRange (words_told (firm_list told))
@@ -172,5 +172,5 @@ told_in_turn from until (Told (events.Refused d f t) ∷ fs) turn =
     earlier_turn (word_ticks (words_told fs)) from t until turn.0 (told_in_turn t until fs turn.1)
 told_in_turn from until (Told (events.Lost i t) ∷ fs) turn =
     earlier_turn (word_ticks (words_told fs)) from t until turn.0 (told_in_turn t until fs turn.1)
-told_in_turn from until (Alone d t ∷ fs) turn =
+told_in_turn from until (Alone d w t l ∷ fs) turn =
     earlier_turn (word_ticks (words_told fs)) from t until turn.0 (told_in_turn t until fs turn.1)

@@ -50,7 +50,7 @@ some_told a b (event ∷ plain) (Told e ∷ told) are is =
     let same = told_same are.0.0 event e are.0.1 in
     subst (λ (x : Event). DoNotFall a (tick_of x ∷ map tick_of (told_events told)) b) (sym same)
     (is.0, some_told (tick_of event) b plain told are.1 is.1)
-some_told a b (event ∷ plain) (Alone d t ∷ told) are is =
+some_told a b (event ∷ plain) (Alone d w t l ∷ told) are is =
     earlier a (tick_of event) (map tick_of (told_events told)) b is.0
     (some_told (tick_of event) b plain told are.1 is.1)
 

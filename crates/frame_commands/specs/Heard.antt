@@ -16,7 +16,7 @@ use Rattle.tc_job.specs.declared.witness.Witness.TheVariants.{NotAsked, Asked}
 abbrev pub told_events : List FirmEvent → List Event
 told_events [] = []
 told_events (Told event ∷ more) = event ∷ told_events more
-told_events (Alone direction tick ∷ more) = told_events more
+told_events (Alone direction word tick length ∷ more) = told_events more
 
 -- the events of a list of intervals, where each word is asked for a witness, or not
 abbrev pub AreHeard : Witness → System → Profile → List ℕ → List Event → Type 0

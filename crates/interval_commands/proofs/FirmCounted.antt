@@ -20,25 +20,25 @@ one_word : (e : FirmEvent) (c : Counts) → (told_once e c).words ≡ c.words + 
 one_word (Told (Word d w t l)) c = refl
 one_word (Told (Refused d f t)) c = omega arith
 one_word (Told (Lost p t)) c = omega arith
-one_word (Alone d t) c = omega arith
+one_word (Alone d w t l) c = omega arith
 
 one_refused : (e : FirmEvent) (c : Counts) → (told_once e c).refused ≡ c.refused + cond (tells_refused e) 1 0
 one_refused (Told (Word d w t l)) c = omega arith
 one_refused (Told (Refused d f t)) c = refl
 one_refused (Told (Lost p t)) c = omega arith
-one_refused (Alone d t) c = refl
+one_refused (Alone d w t l) c = refl
 
 one_lost : (e : FirmEvent) (c : Counts) → (told_once e c).lost ≡ c.lost + cond (tells_lost e) 1 0
 one_lost (Told (Word d w t l)) c = omega arith
 one_lost (Told (Refused d f t)) c = omega arith
 one_lost (Told (Lost p t)) c = refl
-one_lost (Alone d t) c = omega arith
+one_lost (Alone d w t l) c = omega arith
 
 one_more : (e : FirmEvent) (c : Counts) → counts_in (told_once e c) ≡ counts_in c + 1
 one_more (Told (Word d w t l)) c = omega arith
 one_more (Told (Refused d f t)) c = omega arith
 one_more (Told (Lost p t)) c = omega arith
-one_more (Alone d t) c = omega arith
+one_more (Alone d w t l) c = omega arith
 
 -- ---- all of them
 
@@ -129,7 +129,7 @@ told_fits n s (Told (Word d w t l)) few low told =
 told_fits n s (Told (Refused d f t)) few low told = omega (arith, told, few, low)
 told_fits n s (Told (Lost p t)) few low told =
     let a = told.0 in let b = told.1 in (omega (arith, a, few), omega (arith, b, few, low))
-told_fits n s (Alone d t) few low told = omega (arith, told, few, low)
+told_fits n s (Alone d w t l) few low told = let a = told.0 in omega (arith, a, few, low)
 
 some_fits : (n s : ℕ) (o : Option FirmEvent) → n ≤ MAX_INTERVALS → s ≤ n * MAX_INTERVAL → IfSome o (IsToldBy n s)
     → IfSome o FitsFirmLine

@@ -18,17 +18,17 @@ firm_lines header events = flat_map (firm_event_line header) events
 -- a word is told
 abbrev pub tells_word : FirmEvent → Bool
 tells_word (Told event) = is_word event
-tells_word (Alone direction tick) = false
+tells_word (Alone direction word tick length) = false
 
 -- a word is refused: its fields are at fault, or it is alone
 abbrev pub tells_refused : FirmEvent → Bool
 tells_refused (Told event) = is_refused event
-tells_refused (Alone direction tick) = true
+tells_refused (Alone direction word tick length) = true
 
 -- the end of a stretch is told
 abbrev pub tells_lost : FirmEvent → Bool
 tells_lost (Told event) = is_lost event
-tells_lost (Alone direction tick) = false
+tells_lost (Alone direction word tick length) = false
 
 -- the last line counts the intervals, what was told of each kind and the ticks
 abbrev pub firm_last_line : List ℕ → List FirmEvent → List ℕ

@@ -28,7 +28,7 @@ abbrev pub told_once : FirmEvent → Counts → Counts
 told_once (Told (Word direction word tick length)) c = record c { words = c.words + 1 }
 told_once (Told (Refused direction fault tick)) c = record c { refused = c.refused + 1 }
 told_once (Told (Lost interval tick)) c = record c { lost = c.lost + 1 }
-told_once (Alone direction tick) c = record c { refused = c.refused + 1 }
+told_once (Alone direction word tick length) c = record c { refused = c.refused + 1 }
 
 -- all of these events more
 abbrev pub all_told : List FirmEvent → Counts → Counts

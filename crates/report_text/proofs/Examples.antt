@@ -71,9 +71,10 @@ a_refused_word : event_line (of_system F25) (Refused Backward Hours 77) ≡ code
 unfolding of_system digits
 a_refused_word = refl
 
-a_word_that_is_alone : firm_event_line (of_system F25) (Alone Backward 79) ≡ codes "refused backward alone tick 79\n"
+a_word_that_is_alone : (word : LtcWord) → firm_event_line (of_system F25) (Alone Backward word 79 8)
+    ≡ codes "refused backward alone tick 79\n"
 unfolding of_system digits
-a_word_that_is_alone = refl
+a_word_that_is_alone word = refl
 
 a_told_word : firm_event_line (of_system F25) (Told (Refused Backward Hours 77))
     ≡ codes "refused backward hours tick 77\n"

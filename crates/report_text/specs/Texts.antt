@@ -1,5 +1,6 @@
 -- The lines of a reading, byte for byte.
 use Rattle.std.specs.Prelude.{ℕ, ◌*◌, ◌/◌, ◌<◌, ◌≤◌, ◌^◌, List, ◌++◌, codes, decimal}
+use Rattle.tc_address.specs.declared.direction.Direction.{Direction}
 use Rattle.tc_address.specs.Count.{rate_of}
 use Rattle.tc_address.specs.Spelling.{text_of}
 use Rattle.tc_bits.specs.Fault.{name_of}
@@ -27,11 +28,15 @@ event_line header (Refused direction fault tick) =
 event_line header (Lost interval tick) =
     codes "lost interval " ++ decimal interval ++ codes " tick " ++ decimal tick ++ codes "\n"
 
--- the line of what is told where each word is asked for a witness: a word without one is refused
+-- the line of a word without a witness, which is refused
+abbrev pub alone_line : Direction → ℕ → List ℕ
+alone_line direction tick =
+    codes "refused " ++ direction_name direction ++ codes " alone tick " ++ decimal tick ++ codes "\n"
+
+-- the line of what is told where each word is asked for a witness
 abbrev pub firm_event_line : IntervalHeader → FirmEvent → List ℕ
 firm_event_line header (Told event) = event_line header event
-firm_event_line header (Alone direction tick) =
-    codes "refused " ++ direction_name direction ++ codes " alone tick " ++ decimal tick ++ codes "\n"
+firm_event_line header (Alone direction word tick length) = alone_line direction tick
 
 -- the last line of a reading
 abbrev pub read_end_line : ℕ → ℕ → ℕ → ℕ → ℕ → List ℕ
@@ -49,4 +54,4 @@ FitsLine (Lost interval tick) = (interval < 2 ^ 40) × (tick < 2 ^ 60)
 -- and so are those of what is told where each word is asked for a witness
 abbrev pub FitsFirmLine : FirmEvent → Type 0
 FitsFirmLine (Told event) = FitsLine event
-FitsFirmLine (Alone direction tick) = tick < 2 ^ 60
+FitsFirmLine (Alone direction word tick length) = tick < 2 ^ 60

@@ -6,8 +6,7 @@ ghost use Rattle.tc_address.specs.Spelling.{text_of};
 ghost use Rattle.interval_file.specs.IntervalHeader.{IsTickRate};
 ghost use Rattle.interval_file.specs.declared.header.IntervalHeader.{IntervalHeader};
 ghost use Rattle.direction_reader.specs.declared.event.Event.TheVariants as events;
-ghost use Rattle.direction_reader.specs.declared.firm_event.FirmEvent.TheVariants as firm;
-ghost use Rattle.report_text.specs.Texts.{event_line, firm_event_line, speed_of, FitsFirmLine, FitsLine};
+ghost use Rattle.report_text.specs.Texts.{alone_line, event_line, firm_event_line, speed_of, FitsFirmLine, FitsLine};
 
 use direction_reader::{Event, FirmEvent};
 use interval_file::IntervalHeader;
@@ -49,7 +48,11 @@ pub fn firm_event_text(event: &FirmEvent, header: &IntervalHeader) -> Text
 {
     match event {
         FirmEvent::Told(event) => event_text(event, header),
-        FirmEvent::Alone { direction, tick } => alone_text(*direction, *tick),
+        FirmEvent::Alone {
+            direction,
+            tick,
+            ..
+        } => alone_text(*direction, *tick),
     }
 }
 
@@ -115,7 +118,7 @@ fn refused_text(direction: Direction, fault: FieldFault, tick: u64) -> Text
 
 fn alone_text(direction: Direction, tick: u64) -> Text
     requires { tick < 2 ^ 60 }
-    ensures { (header : IntervalHeader) → result.items ≡ firm_event_line header (firm.Alone direction tick) }
+    ensures { result.items ≡ alone_line direction tick }
 {
     let mut line = Text::new();
     push_bytes(&mut line, b"refused ");

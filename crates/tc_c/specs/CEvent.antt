@@ -104,4 +104,4 @@ c_event (Lost interval tick) = record {
 -- an event that is told where words may be asked for a witness: a word without one is refused, and its fault is 12
 abbrev pub c_told : FirmEvent → TcEvent
 c_told (Told event) = c_event event
-c_told (Alone direction tick) = c_refused direction 12 tick
+c_told (Alone direction word tick length) = c_refused direction 12 tick

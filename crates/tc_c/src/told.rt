@@ -14,6 +14,10 @@ pub(crate) fn c_told(told: &FirmEvent) -> TcEvent
 {
     match told {
         FirmEvent::Told(event) => c_event(event),
-        FirmEvent::Alone { direction, tick } => refused(*direction, ALONE, *tick),
+        FirmEvent::Alone {
+            direction,
+            tick,
+            ..
+        } => refused(*direction, ALONE, *tick),
     }
 }

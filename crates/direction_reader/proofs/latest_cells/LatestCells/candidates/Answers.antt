@@ -25,4 +25,5 @@ returns-in-Full-clause-found c =
     record {
       forward = ends c.args.tick length _ c.window_candidates.ensures.forward_bears least most;
       backward = ends c.args.tick length _ c.window_candidates.ensures.backward_bears least most;
+      played = c.window_candidates.ensures.played;
     }
