@@ -52,11 +52,12 @@ read_tape() {
     "$tc" pcm-ltc 30 "$rate" 250 16 path < "$room/now" > "$room/cells"
     "$tc" ltc-rough < "$room/cells" | told | counted 3
     "$tc" ltc-rough firm < "$room/cells" | told | counted 4
+    "$tc" ltc-rough consecutive < "$room/cells" | told | counted 5
     echo "0 $(wc -l < "$room/whole") 0" >> "$room/counts"
 }
 
-echo "| $recordings recordings, noise at | whole words | libltc | rough | path, rough | path, rough firm |"
-echo "|---|---|---|---|---|---|"
+echo "| $recordings recordings, noise at | whole words | libltc | rough | path, rough | path, rough firm | path, rough consecutive |"
+echo "|---|---|---|---|---|---|---|"
 for level in 50 26 16; do
     : > "$room/counts"
     for number in $(seq "$recordings"); do
@@ -66,7 +67,7 @@ for level in 50 26 16; do
     awk -v level="$level" '{ good[$1] += $2; wrong[$1] += $3 }
         END {
             printf "| -%d dB | %d", level, good[0]
-            for (column = 1; column <= 4; column++) printf " | %d%s", good[column], wrong[column] ? " +" wrong[column] : ""
+            for (column = 1; column <= 5; column++) printf " | %d%s", good[column], wrong[column] ? " +" wrong[column] : ""
             print " |"
         }' "$room/counts"
 done

@@ -2,11 +2,14 @@
 """Reads damaged recordings a second time, by docs/reference/formats.md alone, and compares the lines with the program's.
 
     bench/read_by_hand.py [COUNT [PROGRAM]]      a thousand recordings and bin/tc if none are named
+    bench/read_by_hand.py --cases                writes rows of cases.tsv for `ltc-rough consecutive`
 
 A recording is made here: real words in cells whose length shakes, glides or jumps, with intervals dropped, doubled,
-cut or moved. Each is read under the three tolerances, and under the rough one with witnesses. The seed is printed,
+cut or moved. Each is read under the three tolerances, and under the rough one with witnesses and with words that follow
+one another. The seed is printed,
 and a run is repeated by the environment's SEED. Run by hand, never in the gate.
 """
+import itertools
 import os
 import random
 import subprocess
@@ -115,8 +118,45 @@ def has_witness(bits, first, way):
     return len(bits) < first + 96 or bits[first + 80 : first + 96] == [SYNC >> 15 - place & 1 for place in range(16)]
 
 
-def report(command, system, rate, intervals, firm=False):
-    lines, counts = [], {"word": 0, "refused": 0, "lost": 0}
+def label_behind(label, system, steps):
+    """The label that is one step on or back, around the day."""
+    hours, minutes, seconds, frames = (int(part) for part in label.replace(";", ":").split(":"))
+    drops = 2 if ";" in label else 0
+    minute = 60 * hours + minutes
+    number = (60 * minute + seconds) * SYSTEMS[system] + frames - drops * (minute - minute // 10)
+    number = (number + steps) % (86400 * SYSTEMS[system] - drops * 1296)
+    if drops:
+        tens, rest = divmod(number, 17982)
+        number += 18 * tens + (2 * ((rest - 2) // 1798) if rest > 1 else 0)
+    seconds, frames = divmod(number, SYSTEMS[system])
+    return "%02d:%02d:%02d%s%02d" % (seconds // 3600, seconds // 60 % 60, seconds % 60, ";" if drops else ":", frames)
+
+
+def joins(first, second, system):
+    """Whether one line is of a word that begins where that of another one ends, and counts on the same way."""
+    one, two = (line.split() if line and line.startswith("word") else None for line in (first, second))
+    if not one or not two or one[1] != two[1]:
+        return False
+    steps = 1 if one[1] == "forward" else -1
+    return int(one[10]) + int(two[12]) == int(two[10]) and label_behind(one[2], system, steps) == two[2]
+
+
+def judged(lines, alone, system, asked):
+    """The lines, of which some have no witness."""
+    told = []
+    for at, line in enumerate(lines):
+        way = line.split()[1]
+        beside = (line, lines[at + 1] if at + 1 < len(lines) else None)
+        if way == "backward":
+            beside = (lines[at - 1] if at else None, line)
+        if at in alone and not (asked == "consecutive" and joins(*beside, system)):
+            line = "refused %s alone tick %s" % (way, line.split()[10])
+        told.append(line)
+    return told
+
+
+def report(command, system, rate, intervals, asked=None):
+    lines, alone, counts = [], set(), {"word": 0, "refused": 0, "lost": 0}
     for lock, cells, broken in stretches(command, intervals):
         ticks = [sum(intervals[:lock])]
         for _, length in cells:
@@ -128,11 +168,12 @@ def report(command, system, rate, intervals, firm=False):
                 number = sum(bit << place for place, bit in enumerate(order))
                 if number >> 64 == SYNC:
                     line = candidate(system, rate, way, number, tick, length)
-                    if firm and line.startswith("word") and not has_witness([bit for bit, _ in cells], first, way):
-                        line = "refused %s alone tick %d" % (way, tick)
+                    if asked and line.startswith("word") and not has_witness([bit for bit, _ in cells], first, way):
+                        alone.add(len(lines))
                     lines.append(line)
         if broken is not None:
             lines.append("lost interval %d tick %d" % (broken, sum(intervals[: broken + 1])))
+    lines = judged(lines, alone, system, asked)
     for line in lines:
         counts[line.split()[0]] += 1
     lines.append("end intervals %d words %d refused %d lost %d ticks %d" % (
@@ -152,14 +193,37 @@ def word(chance, system):
     return bits if chance.random() < 0.9 else bits ^ 1 << chance.randrange(64)
 
 
+def word_of(chance, system, label):
+    """The word of a label, with user bits by chance."""
+    bits = SYNC << 64 | sum(chance.randrange(16) << place for place in range(4, 64, 8))
+    numbers = [int(part) for part in label.replace(";", ":").split(":")]
+    for place, number in zip((48, 32, 16, 0), numbers):
+        bits |= number % 10 << place | number // 10 << place + 8
+    return bits | (1 << 10 if ";" in label else 0)
+
+
+def words(chance, system):
+    """Some words and how they are played: by chance, or one after another with labels that count on, now and then with a
+    piece of one missing."""
+    count = chance.randrange(1, 6)
+    if chance.random() < 0.5:
+        return [(word(chance, system), chance.random() < 0.7, 0) for _ in range(count)]
+    is_forward, mark = chance.random() < 0.5, ";" if system == 30 and chance.random() < 0.5 else ":"
+    label = "%02d:%02d:%02d%s%02d" % (chance.randrange(24), chance.choice([0, 9, 10, 59, chance.randrange(60)]),
+                                      chance.choice([0, 59]), mark, chance.choice([2, SYSTEMS[system] - 1]))
+    played = []
+    for _ in range(count + 1):
+        played.append((word_of(chance, system, label), is_forward, chance.choice([0, 0, chance.randrange(80)])))
+        label = label_behind(label, system, 1 if is_forward else -1)
+    return played
+
+
 def made(chance, system):
     """The intervals of some words, whose cells shake and whose speed moves, with damage."""
     cell, shake, glide = chance.choice([16, 24, 100, 352, 5000]), chance.choice([0, 0.02, 0.05, 0.1, 0.15]), chance.uniform(-0.01, 0.01)
     intervals = []
-    for _ in range(chance.randrange(1, 6)):
-        bits = word(chance, system)
-        order = range(80) if chance.random() < 0.7 else range(79, -1, -1)
-        for place in order:
+    for bits, is_forward, missing in words(chance, system):
+        for place in list(range(80) if is_forward else range(79, -1, -1))[missing:]:
             length = max(4, cell * (1 + chance.gauss(0, shake)))
             if bits >> place & 1:
                 first = max(1, round(length / 2 * (1 + chance.gauss(0, shake))))
@@ -182,29 +246,99 @@ def made(chance, system):
     return [max(1, min((1 << 24) - 1, int(x))) for x in intervals]
 
 
+# The cases: words beside which a piece of tape is missing. A tape is its words in their order, each whole or in part.
+
+
+def part_of(label, first=0, last=80, system=25):
+    """The bits of a word from a place on up to another, without user bits."""
+    bits = word_of(random.Random(0), system, label) & ~sum(15 << place for place in range(4, 64, 8))
+    return [bits >> place & 1 for place in range(first, last)]
+
+
+def intervals_of(bits):
+    """Intervals of cells of 100 ticks, behind an unequal pair."""
+    return [length for bit in [0, 1] + bits for length in ([50, 50] if bit else [100])]
+
+
+def spelled(system, intervals):
+    """An interval file of version 2, as a cell of the table has it."""
+    parts = ["4c54434902%02x00000000bb80" % system]
+    for length, group in itertools.groupby(intervals):
+        count = len(list(group))
+        parts.append("%04x*%d" % (length, count) if count > 1 else "%04x" % length)
+    return " ".join(parts)
+
+
+def tapes():
+    """The name, the system and the intervals of each case."""
+    first, second, third = ("10:00:00:%02d" % frame for frame in (3, 4, 5))
+    cut = part_of("10:00:00:02", 40, 75)
+    forward = cut + part_of(first)
+    played = [
+        ("a-word-behind-a-cut-is-followed", forward + part_of(second)),
+        ("a-word-behind-a-cut-is-followed", forward + part_of(second) + part_of(third)),
+        ("a-word-behind-a-cut-is-alone", forward),
+        ("a-word-behind-a-cut-is-alone", forward + part_of(third)),
+        ("a-word-behind-a-cut-is-alone", forward + part_of(first)),
+        ("a-word-behind-a-cut-is-alone", forward + [0] + part_of(second)),
+        ("a-word-behind-a-cut-is-alone", forward + part_of("10:00:00:31")),
+        ("a-word-behind-a-cut-is-alone", forward + part_of(second)[::-1]),
+        ("a-word-behind-a-cut-is-followed-in-part", forward + part_of(second, 0, 60)),
+        ("around-the-day", part_of("23:59:59:23", 40, 75) + part_of("23:59:59:24") + part_of("00:00:00:00")),
+        ("backward-before-a-cut-it-follows", (cut + part_of(first) + part_of(second))[::-1]),
+        ("backward-before-a-cut-it-follows", (cut + part_of(first) + part_of(second) + part_of(third))[::-1]),
+        ("backward-before-a-cut-it-is-alone", (cut + part_of(first) + part_of(third))[::-1]),
+        ("backward-before-a-cut-it-is-alone", (cut + part_of(first) + [0] + part_of(second))[::-1]),
+        ("backward-before-a-cut-it-is-alone", (cut + part_of(first))[::-1]),
+    ]
+    for name, bits in played:
+        yield name, 25, intervals_of(bits)
+    for label, behind in (("00:00:59;29", "00:01:00;02"), ("00:00:59;29", "00:01:00:02"), ("00:09:59;29", "00:10:00;00")):
+        yield "over-dropped-labels", 30, intervals_of(
+            part_of("00:00:59;28", 40, 75, 30) + part_of(label, system=30) + part_of(behind, system=30))
+    broken = intervals_of(forward)
+    yield "a-break-comes-first", 25, broken + [7] + intervals_of(part_of(second))
+    yield "two-cuts", 25, intervals_of(forward + part_of(second) + cut + part_of(first) + part_of(second))
+
+
+def cases():
+    """The rows for cases.tsv."""
+    counts = {}
+    for name, system, intervals in tapes():
+        counts[name] = counts.get(name, 0) + 1
+        told = report("ltc-rough", system, 48000, intervals, "consecutive").replace("\n", "\\n")
+        yield "\t".join(("consecutive/%s-%d" % (name, counts[name]), "ltc-rough consecutive", spelled(system, intervals), "0",
+                         "-", "=" + told, "-", "-"))
+
+
 def main():
+    if sys.argv[1:] == ["--cases"]:
+        print("# A word beside which a piece of tape is missing, and the one that follows it")
+        for row in cases():
+            print(row)
+        return 0
     count = int(sys.argv[1]) if len(sys.argv) > 1 else 1000
     program = sys.argv[2] if len(sys.argv) > 2 else os.path.join(TOP, "bin", "tc")
     seed = int(os.environ.get("SEED", random.randrange(1 << 32)))
     print("seed", seed)
-    readings = [(command, False) for command in COMMANDS] + [("ltc-rough", True)]
+    readings = [(command, None) for command in COMMANDS] + [("ltc-rough", "firm"), ("ltc-rough", "consecutive")]
     chance, totals, wrong = random.Random(seed), dict.fromkeys(readings, 0), 0
     for number in range(count):
         system = chance.choice([24, 25, 30])
         intervals = made(chance, system)
         head = b"LTCI\x01" + bytes([system]) + b"\0\0" + (48000).to_bytes(4, "big")
         data = head + b"".join(x.to_bytes(4, "big") for x in intervals)
-        for command, firm in readings:
-            words = [program, command] + ["firm"] * firm
+        for command, asked in readings:
+            words = [program, command] + [asked] * bool(asked)
             told = subprocess.run(words, input=data, stdout=subprocess.PIPE, check=False).stdout.decode()
-            wanted = report(command, system, 48000, intervals, firm)
-            totals[command, firm] += wanted.count("word ")
+            wanted = report(command, system, 48000, intervals, asked)
+            totals[command, asked] += wanted.count("word ")
             if told != wanted:
                 wrong += 1
                 with open("/tmp/tc-by-hand-%d-%s.ltci" % (number, command), "wb") as kept:
                     kept.write(data)
     print("recordings %d, words %s, reports that differ %d" % (
-        count, ", ".join("%s%s %d" % (*it[0][:1], " firm" * it[0][1], it[1]) for it in totals.items()), wrong))
+        count, ", ".join("%s %d" % (" ".join(filter(None, it[0])), it[1]) for it in totals.items()), wrong))
     return 1 if wrong else 0
 
 

@@ -74,7 +74,7 @@ part() { awk -v seconds="$1" -v frames="$frames" 'BEGIN { printf "%.4f", seconds
 # How the sound is sliced, and by which command it is read.
 if [ "$mode" = path ]; then
     ways=("250 16 follow,ltc-rough" "250 16 follow 3,ltc-rough" "250 16 deep 3,ltc-rough" "250 16 path,ltc-rough" \
-        "250 16 path,ltc-rough firm")
+        "250 16 path,ltc-rough firm" "250 16 path,ltc-rough consecutive")
 else
     ways=("1000,ltc-read" "1000 16,ltc-worn" "250 16 follow,ltc-read" "250 16 follow,ltc-worn" "250 16 follow,ltc-rough" \
         "250 16 follow 3,ltc-rough" "250 16 deep,ltc-rough" "250 16 deep 3,ltc-rough")
@@ -192,8 +192,8 @@ if [ "$mode" = live ]; then
     echo "| Sound of $frames frames | read | worn | rough | file, rough |"
     echo "|---|---|---|---|---|"
 elif [ "$mode" = path ]; then
-    echo "| Sound of $frames frames | libltc | rough | rough 3 | deep 3, rough | path, rough | path, rough firm |"
-    echo "|---|---|---|---|---|---|---|"
+    echo "| Sound of $frames frames | libltc | rough | rough 3 | deep 3, rough | path, rough | path, rough firm | path, rough consecutive |"
+    echo "|---|---|---|---|---|---|---|---|"
 else
     echo "| Sound of $frames frames | libltc | whole, read | fixed, worn | follow, read | follow, worn | follow, rough | follow 3, rough | deep, rough | deep 3, rough |"
     echo "|---|---|---|---|---|---|---|---|---|---|"

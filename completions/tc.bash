@@ -21,9 +21,9 @@ _tc() {
             pcm-ltc:2) values="24 25 30" ;;
             pcm-ltc:5 | pcm-ltc:7 | pcm-ltc:8) values="live" ;;
             pcm-ltc:6) values="path follow deep live" ;;
-            ltc-rough:2) values="firm" ;;
+            ltc-rough:2) values="firm consecutive" ;;
             ltc-fly:3 | ltc-spans:3 | ltc-mtc:3 | ltc-jam:5 | ltc-chase:7) values="worn rough" ;;
-            ltc-fly:4 | ltc-spans:4 | ltc-mtc:4 | ltc-jam:6 | ltc-chase:8) values="firm" ;;
+            ltc-fly:4 | ltc-spans:4 | ltc-mtc:4 | ltc-jam:6 | ltc-chase:8) values="firm consecutive" ;;
             wav-ltc:2) values="24 25 30" ;;
             wav-ltc:5) values="path live" ;;
             wav-ltc:7) values="live" ;;

@@ -42,11 +42,11 @@ complete -c tc -n 'contains -- (commandline -opc)[2] wav-ltc; and test (count (c
 complete -c tc -n 'contains -- (commandline -opc)[2] wav-ltc; and test (count (commandline -opc)) -eq 5' -a path
 complete -c tc -n 'contains -- (commandline -opc)[2] wav-ltc; and test (count (commandline -opc)) -eq 6' -a deep
 complete -c tc -n 'contains -- (commandline -opc)[2] wav-ltc; and test (count (commandline -opc)) -ge 5' -a live
-complete -c tc -n 'contains -- (commandline -opc)[2] ltc-rough; and test (count (commandline -opc)) -eq 2' -a firm
+complete -c tc -n 'contains -- (commandline -opc)[2] ltc-rough; and test (count (commandline -opc)) -eq 2' -a 'firm consecutive'
 complete -c tc -n 'contains -- (commandline -opc)[2] ltc-jam; and test (count (commandline -opc)) -eq 5' -a 'worn rough'
-complete -c tc -n 'contains -- (commandline -opc)[2] ltc-jam; and test (count (commandline -opc)) -eq 6' -a firm
+complete -c tc -n 'contains -- (commandline -opc)[2] ltc-jam; and test (count (commandline -opc)) -eq 6' -a 'firm consecutive'
 complete -c tc -n 'contains -- (commandline -opc)[2] ltc-chase; and test (count (commandline -opc)) -eq 7' -a 'worn rough'
-complete -c tc -n 'contains -- (commandline -opc)[2] ltc-chase; and test (count (commandline -opc)) -eq 8' -a firm
+complete -c tc -n 'contains -- (commandline -opc)[2] ltc-chase; and test (count (commandline -opc)) -eq 8' -a 'firm consecutive'
 complete -c tc -n 'contains -- (commandline -opc)[2] ltc-fly ltc-spans ltc-mtc; and test (count (commandline -opc)) -eq 3' -a 'worn rough'
-complete -c tc -n 'contains -- (commandline -opc)[2] ltc-fly ltc-spans ltc-mtc; and test (count (commandline -opc)) -eq 4' -a firm
+complete -c tc -n 'contains -- (commandline -opc)[2] ltc-fly ltc-spans ltc-mtc; and test (count (commandline -opc)) -eq 4' -a 'firm consecutive'
 complete -c tc -n 'contains -- (commandline -opc)[2] help; and test (count (commandline -opc)) -eq 2' -a statuses -d 'what each exit number means, and what to do'

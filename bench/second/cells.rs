@@ -9,6 +9,26 @@ pub enum Tolerance {
     Rough,
 }
 
+/// What each word is asked for.
+#[derive(Clone, Copy, PartialEq, Eq, Debug)]
+pub enum Asked {
+    Nothing,
+    /// A witness: `firm`.
+    Witness,
+    /// A witness, or the word that follows it on the tape: `consecutive`.
+    WitnessOrNext,
+}
+
+impl Asked {
+    pub fn named(word: &str) -> Option<Asked> {
+        match word {
+            "firm" => Some(Asked::Witness),
+            "consecutive" => Some(Asked::WitnessOrNext),
+            _ => None,
+        }
+    }
+}
+
 /// A cell of a stretch: its bit, its length, and the interval that completed it.
 struct Cell {
     bit: bool,
@@ -96,9 +116,9 @@ pub struct Told {
     pub until: u64,
 }
 
-/// The events of intervals. With `is_firm`, words without a witness are refused as `alone`; if the file does not
-/// end, a word that still waits for its own is left out, with all that comes behind it.
-pub fn events(tolerance: Tolerance, system: u64, intervals: &[u64], is_firm: bool, is_ended: bool) -> Told {
+/// The events of intervals. Words without what they are asked for are refused as `alone`; if the file does not
+/// end, a word that still waits for it is left out, with all that comes behind it.
+pub fn events(tolerance: Tolerance, system: u64, intervals: &[u64], asked: Asked, is_ended: bool) -> Told {
     let mut told: Vec<Event> = Vec::new();
     let mut stretches: Vec<Vec<Cell>> = Vec::new();
     let (mut open, mut half, mut before, mut tick) = (false, None, None, 0);
@@ -140,7 +160,17 @@ pub fn events(tolerance: Tolerance, system: u64, intervals: &[u64], is_firm: boo
     }
     let waits = open && !is_ended;
     let told = Told { events: told, until: tick };
-    if is_firm { firm(told, &stretches, waits) } else { told }
+    if asked == Asked::Nothing {
+        return told;
+    }
+    let (mut judged, mut until) = judge(told, &stretches, waits);
+    if asked == Asked::WitnessOrNext {
+        join(&mut judged);
+        if !is_ended && judged.last().is_some_and(Judged::waits_for_the_next) {
+            until = judged.pop().expect("it is the last").tick();
+        }
+    }
+    Told { events: judged.into_iter().map(Judged::told).collect(), until }
 }
 
 /// Tells what the last 80 cells of a stretch say.
@@ -180,13 +210,43 @@ fn fields(system: u64, bits: &[u8]) -> Result<(Label, u32, [bool; 5]), &'static 
     Ok((label, LTC.user(bits), flags))
 }
 
-/// Looks for the witness of each word. If the last stretch may go on, a backward word that has fewer than 16 cells
-/// behind it still waits, and so does all that was given behind it.
-fn firm(told: Told, stretches: &[Vec<Cell>], may_go_on: bool) -> Told {
-    let mut firmly = Vec::new();
+/// An event, and whether it is a word without what it is asked for.
+struct Judged {
+    event: Event,
+    is_alone: bool,
+}
+
+impl Judged {
+    fn word(&self) -> Option<&Word> {
+        if let Event::Word(word) = &self.event { Some(word) } else { None }
+    }
+
+    fn tick(&self) -> u64 {
+        match &self.event {
+            Event::Word(word) => word.tick,
+            Event::Refused { tick, .. } | Event::Lost { tick, .. } => *tick,
+        }
+    }
+
+    fn waits_for_the_next(&self) -> bool {
+        self.is_alone && self.word().is_some_and(|word| word.way == Way::Forward)
+    }
+
+    fn told(self) -> Event {
+        match self.event {
+            Event::Word(word) if self.is_alone => Event::Refused { way: word.way, name: "alone", tick: word.tick },
+            event => event,
+        }
+    }
+}
+
+/// Looks for the witness of each word, and gives up to which tick that is decided. If the last stretch may go on, a
+/// backward word that has fewer than 16 cells behind it still waits, and so does all that was given behind it.
+fn judge(told: Told, stretches: &[Vec<Cell>], may_go_on: bool) -> (Vec<Judged>, u64) {
+    let mut judged = Vec::new();
     for event in told.events {
         let Event::Word(word) = event else {
-            firmly.push(event);
+            judged.push(Judged { event, is_alone: false });
             continue;
         };
         let cells = &stretches[word.stretch];
@@ -197,17 +257,34 @@ fn firm(told: Told, stretches: &[Vec<Cell>], may_go_on: bool) -> Told {
                 let behind = word.first + 80;
                 let is_there = cells.len() >= behind + 16;
                 if !is_there && may_go_on && word.stretch + 1 == stretches.len() {
-                    return Told { events: firmly, until: word.tick };
+                    return (judged, word.tick);
                 }
                 is_there && (0..16).any(|k| bit(behind + k) != SYNC[15 - k])
             }
         };
-        firmly.push(match is_alone {
-            true => Event::Refused { way: word.way, name: "alone", tick: word.tick },
-            false => Event::Word(word),
-        });
+        judged.push(Judged { event: Event::Word(word), is_alone });
     }
-    Told { events: firmly, until: told.until }
+    (judged, told.until)
+}
+
+/// A word that is alone counts if the word that follows it on the tape is beside it among the events.
+fn join(judged: &mut [Judged]) {
+    let joined: Vec<bool> = (0..judged.len()).map(|place| is_joined(judged, place)).collect();
+    for (it, is_joined) in judged.iter_mut().zip(joined) {
+        it.is_alone &= !is_joined;
+    }
+}
+
+fn is_joined(judged: &[Judged], place: usize) -> bool {
+    let Some(word) = judged[place].word() else { return false };
+    let beside = match word.way {
+        Way::Forward => judged.get(place + 1),
+        Way::Backward => place.checked_sub(1).map(|before| &judged[before]),
+    };
+    let Some(other) = beside.and_then(Judged::word) else { return false };
+    let (first, second) = if word.way == Way::Forward { (word, other) } else { (other, word) };
+    let next = Label::at(word.label.count, (word.label.number() + 1) % word.label.count.day());
+    other.way == word.way && second.tick - second.ticks == first.tick && other.label == next
 }
 
 /// The report of `ltc-read` and its like: the lines of the events, and the last line if the file ended well.

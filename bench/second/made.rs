@@ -1,5 +1,5 @@
 //! What is made from words alone: recordings, line files, a load of the reader, and what calculates.
-use crate::cells::{Event, Tolerance, events};
+use crate::cells::{Asked, Event, Tolerance, events};
 use crate::frames::{played, spell_cell};
 use crate::intervals::header;
 use crate::labels::{Count, Label, Way};
@@ -66,7 +66,7 @@ pub fn load(seed: u64, words: u64) -> String {
             cell(bit, draw(), &mut intervals);
         }
     }
-    let told = events(Tolerance::Normal, 25, &intervals, false, true).events;
+    let told = events(Tolerance::Normal, 25, &intervals, Asked::Nothing, true).events;
     let labels: Vec<String> = told
         .iter()
         .filter_map(|event| match event {

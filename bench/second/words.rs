@@ -1,5 +1,5 @@
 //! The words of a command line, and what the run of them is to end with.
-use crate::cells::{Told, Tolerance, events, report};
+use crate::cells::{Asked, Told, Tolerance, events, report};
 use crate::frames::{Frame, frames, jam, lines, midi, spans};
 use crate::intervals::{File, MOST_RATE, convert, read};
 use crate::labels::{Count, Label, Way};
@@ -14,10 +14,10 @@ use crate::{chase, midi as mtc, path, vitc};
 #[derive(Clone, Copy)]
 struct Hearing {
     tolerance: Tolerance,
-    is_firm: bool,
+    asked: Asked,
 }
 
-const PLAIN: Hearing = Hearing { tolerance: Tolerance::Normal, is_firm: false };
+const PLAIN: Hearing = Hearing { tolerance: Tolerance::Normal, asked: Asked::Nothing };
 
 /// Words taken in order, each by its value; the first that has none is the fault.
 struct Words<'a> {
@@ -69,7 +69,7 @@ impl<'a> Words<'a> {
         self.value(|word| ["24", "25", "30"].contains(&word).then(|| word.parse().expect("it is a number")))
     }
 
-    /// `worn`, `rough` or nothing at the end, and `firm` behind one of them.
+    /// `worn`, `rough` or nothing at the end, and what words are asked for behind one of them.
     fn hearing(&mut self) -> Read<Hearing> {
         if self.next().is_none() {
             return Ok(PLAIN);
@@ -79,11 +79,12 @@ impl<'a> Words<'a> {
             "rough" => Some(Tolerance::Rough),
             _ => None,
         })?;
-        let is_firm = self.next().is_some();
-        if is_firm {
-            self.value(|word| (word == "firm").then_some(()))?;
-        }
-        Ok(Hearing { tolerance, is_firm })
+        Ok(Hearing { tolerance, asked: self.asked()? })
+    }
+
+    /// `firm`, `consecutive` or nothing at the end.
+    fn asked(&mut self) -> Read<Asked> {
+        if self.next().is_some() { self.value(Asked::named) } else { Ok(Asked::Nothing) }
     }
 }
 
@@ -151,7 +152,7 @@ pub fn is_page(words: &[String]) -> bool {
 /// What is heard of a recording.
 fn heard(hearing: Hearing, file: &File) -> Told {
     let system = file.header.map_or(25, |header| header.system);
-    events(hearing.tolerance, system, &file.intervals, hearing.is_firm, file.end == End::Done)
+    events(hearing.tolerance, system, &file.intervals, hearing.asked, file.end == End::Done)
 }
 
 fn read_with(hearing: Hearing, input: &[u8]) -> Run {
@@ -164,11 +165,7 @@ fn read_with(hearing: Hearing, input: &[u8]) -> Run {
 
 fn rough(words: &[String], input: &[u8]) -> Read<Run> {
     let mut w = Words::of(words, 0, 1)?;
-    let is_firm = w.next().is_some();
-    if is_firm {
-        w.value(|word| (word == "firm").then_some(()))?;
-    }
-    Ok(read_with(Hearing { tolerance: Tolerance::Rough, is_firm }, input))
+    Ok(read_with(Hearing { tolerance: Tolerance::Rough, asked: w.asked()? }, input))
 }
 
 fn frames_of(limit: u64, hearing: Hearing, file: &File) -> Vec<Frame> {

@@ -6,11 +6,13 @@ use Rattle.std.proofs.lemmas.List.Sums.{sum_by-append}
 use Rattle.biphase.specs.declared.profile.Profile.{Profile}
 use Rattle.tc_address.specs.declared.system.System.{System}
 use Rattle.tc_job.specs.declared.witness.Witness.{Witness}
-use Rattle.tc_job.specs.declared.witness.Witness.TheVariants.{NotAsked, Asked}
+use Rattle.tc_job.specs.declared.witness.Witness.TheVariants.{NotAsked, Asked, Consecutive}
 use Rattle.direction_reader.specs.declared.event.Event.{Event}
 use Rattle.direction_reader.specs.declared.firm_event.FirmEvent.{FirmEvent}
 use Rattle.direction_reader.specs.declared.firm_event.FirmEvent.TheVariants.{Told, Alone}
 use Rattle.direction_reader.specs.Events.{tick_of}
+use Rattle.direction_reader.specs.Consecutive.{AreConsecutiveEvents}
+use Rattle.direction_reader.specs.ConsecutiveTold.{AreConsecutiveTold}
 use Rattle.direction_reader.specs.Firm.{AreFirmEvents, told_tick}
 use Rattle.direction_reader.specs.FirmTold.{AreTold, ComesFirst}
 use Rattle.direction_reader.specs.ListEvents.{AreEvents}
@@ -65,21 +67,28 @@ plain_in_order laws = record {
 
 -- ---- with witnesses
 
-pub record ToldLaws : Type 0 where
+-- the events of a list, and those that are told while more may follow, up to some tick
+abbrev pub Whole : Type 1
+Whole = System → Profile → List ℕ → List FirmEvent → Type 0
+
+abbrev pub Yet : Type 1
+Yet = System → Profile → List ℕ → List FirmEvent → ℕ → Type 0
+
+pub record ToldLaws (are : Whole) (are_told : Yet) : Type 0 where
   pub some_yet : (system : System) (profile : Profile) (intervals : List ℕ)
-      → (told : List FirmEvent) × (until : ℕ) × AreTold system profile intervals told until
+      → (told : List FirmEvent) × (until : ℕ) × are_told system profile intervals told until
   pub some : (system : System) (profile : Profile) (intervals : List ℕ)
-      → (events : List FirmEvent) × AreFirmEvents system profile intervals events
+      → (events : List FirmEvent) × are system profile intervals events
   pub one_yet : (system : System) (profile : Profile) (intervals : List ℕ) (told others : List FirmEvent)
-      (until another : ℕ) → AreTold system profile intervals told until
-      → AreTold system profile intervals others another → (told ≡ others) × (until ≡ another)
+      (until another : ℕ) → are_told system profile intervals told until
+      → are_told system profile intervals others another → (told ≡ others) × (until ≡ another)
   pub one : (system : System) (profile : Profile) (intervals : List ℕ) (events others : List FirmEvent)
-      → AreFirmEvents system profile intervals events → AreFirmEvents system profile intervals others → events ≡ others
+      → are system profile intervals events → are system profile intervals others → events ≡ others
   pub more : (system : System) (profile : Profile) (front more : List ℕ) (told later : List FirmEvent)
-      (until now : ℕ) → AreTold system profile front told until
-      → AreTold system profile (front ++ more) later now → ComesFirst told until later now
+      (until now : ℕ) → are_told system profile front told until
+      → are_told system profile (front ++ more) later now → ComesFirst told until later now
   pub all : (system : System) (profile : Profile) (front more : List ℕ) (told events : List FirmEvent)
-      (until : ℕ) → AreTold system profile front told until → AreFirmEvents system profile (front ++ more) events
+      (until : ℕ) → are_told system profile front told until → are system profile (front ++ more) events
       → ComesFirst told until events (sum (front ++ more))
 
 later_events : (until : ℕ) (fs : List FirmEvent) → All (λ (f : FirmEvent). until ≤ told_tick f) fs
@@ -102,7 +111,7 @@ firm_behind told later events all until now first are are_all = record {
   before = first.before;
 }
 
-pub firm_in_order : ToldLaws → HeardInOrder Asked
+pub firm_in_order : ToldLaws AreFirmEvents AreTold → HeardInOrder Asked
 firm_in_order laws = record {
   some_yet = λ system profile intervals.
       let told = laws.some_yet system profile intervals in
@@ -122,6 +131,28 @@ firm_in_order laws = record {
       (laws.all system profile front more one.0 two.0 until one.1 two.1) one.2 two.2;
 }
 
-pub in_order : PlainLaws → ToldLaws → (witness : Witness) → HeardInOrder witness
-in_order plain told NotAsked = plain_in_order plain
-in_order plain told Asked = firm_in_order told
+pub consecutive_in_order : ToldLaws AreConsecutiveEvents AreConsecutiveTold → HeardInOrder Consecutive
+consecutive_in_order laws = record {
+  some_yet = λ system profile intervals.
+      let told = laws.some_yet system profile intervals in
+      (told_events told.0, told.1, (told.0, told.2, refl));
+  some = λ system profile intervals.
+      let told = laws.some system profile intervals in (told_events told.0, (told.0, told.1, refl));
+  one_yet = λ system profile intervals events others until another one two.
+      let same = laws.one_yet system profile intervals one.0 two.0 until another one.1 two.1 in
+      (one.2 ∙ ap told_events same.0 ∙ sym two.2, same.1);
+  one = λ system profile intervals events others one two.
+      one.2 ∙ ap told_events (laws.one system profile intervals one.0 two.0 one.1 two.1) ∙ sym two.2;
+  more = λ system profile front more events later until now one two.
+      firm_behind one.0 two.0 events later until now
+      (laws.more system profile front more one.0 two.0 until now one.1 two.1) one.2 two.2;
+  all = λ system profile front more events all until one two.
+      firm_behind one.0 two.0 events all until (sum (front ++ more))
+      (laws.all system profile front more one.0 two.0 until one.1 two.1) one.2 two.2;
+}
+
+pub in_order : PlainLaws → ToldLaws AreFirmEvents AreTold → ToldLaws AreConsecutiveEvents AreConsecutiveTold
+    → (witness : Witness) → HeardInOrder witness
+in_order plain told next NotAsked = plain_in_order plain
+in_order plain told next Asked = firm_in_order told
+in_order plain told next Consecutive = consecutive_in_order next

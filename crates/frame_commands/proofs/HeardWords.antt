@@ -1,11 +1,12 @@
 -- The words of what an interval brought are two at most, and they come in turn.
 use Rattle.std.proofs.Common.{◌≡◌, ℕ, ◌^◌, ◌<◌, ◌≤◌, List, [], ◌∷◌, ◌++◌, length, length-append, ◌∙◌, ap}
-use Rattle.std.proofs.Common.{arith, map, refl}
-use Rattle.std.proofs.Common.{append-nil, false, true}
+use Rattle.std.proofs.Common.{arith, map, refl, sym}
+use Rattle.std.proofs.Common.{append-nil, Bool, false, true}
 use Rattle.std.specs.Prelude.{IfSome, Some, None, All}
 use Rattle.std.specs.declared.option.Option.{Option}
 use Rattle.std.proofs.lemmas.Grind.{flat_map-append}
 use Rattle.std.proofs.lemmas.List.Elements.{All-nil, All-cons, All-append, All-head, All-tail}
+use Rattle.direction_reader.specs.declared.consecutive_event.ConsecutiveEvents.{ConsecutiveEvents}
 use Rattle.direction_reader.specs.declared.event.Event.{Event}
 use Rattle.direction_reader.specs.declared.event.Event.TheVariants as events
 use Rattle.direction_reader.specs.declared.event.Events.{Events}
@@ -13,6 +14,7 @@ use Rattle.direction_reader.specs.declared.firm_event.FirmEvent.{FirmEvent}
 use Rattle.direction_reader.specs.declared.firm_event.FirmEvent.TheVariants.{Told, Alone}
 use Rattle.direction_reader.specs.declared.firm_event.FirmEvents.{FirmEvents}
 use Rattle.direction_reader.specs.Brings.{Brings, IsLatest}
+use Rattle.direction_reader.specs.ConsecutiveStep.{consecutive_list, is_told_word, ConsecutiveBrings}
 use Rattle.direction_reader.specs.Events.{event_list, listed}
 use Rattle.direction_reader.specs.Firm.{told_tick, DoNotFall}
 use Rattle.direction_reader.specs.FirmReader.{FirmBrings, IsToldBy}
@@ -158,6 +160,73 @@ pub told_in_range : (n sum : ℕ) (told : FirmEvents) → sum < 2 ^ 60 → FirmB
 told_in_range n sum told below brings = rw (words_of_two told brings.no_word)
     (All-append IsInRange (words_told (firm_listed told.first)) (words_told (firm_listed told.second))
     (told_range n sum told.first below brings.first) (told_range n sum told.second below brings.second))
+
+-- ---- of consecutive words
+
+-- a word that is not told is none
+not_told : (e : FirmEvent) → is_told_word e ≡ false → words_told (e ∷ []) ≡ []
+not_told (Told (events.Word d w t l)) is = absurd cc
+not_told (Told (events.Refused d f t)) is = refl
+not_told (Told (events.Lost i t)) is = refl
+not_told (Alone d w t l) is = refl
+
+-- the words of what is given, if a word was held
+pub words_of_held : (told : ConsecutiveEvents) → IfSome told.events.third IsNoWord
+    → words_told (consecutive_list told) ≡ words_told (firm_listed told.held)
+    ++ (words_told (firm_listed told.events.first) ++ words_told (firm_listed told.events.second))
+words_of_held told none =
+    let h = firm_listed told.held in
+    words_told-append h (firm_list told.events)
+    ∙ ap (λ (ws : List HeardWord). words_told h ++ ws) (words_of_two told.events none)
+
+by_told : (e : FirmEvent) (first : Option FirmEvent) (told : Bool) → is_told_word e ≡ told
+    → (is_told_word e ≡ true → first ≡ None)
+    → length (words_told (firm_listed (Some e)) ++ words_told (firm_listed first)) ≤ 1
+by_told e first true is one =
+    let word = one_told (Some e) in
+    rw (one is, append-nil (words_told (e ∷ []))) word
+by_told e first false is one = let word = one_told first in rw (not_told e is) word
+
+-- where a word was held and is told, none comes first behind it
+one_of_held : (held first : Option FirmEvent) → IfSome held (λ event. is_told_word event ≡ true → first ≡ None)
+    → length (words_told (firm_listed held) ++ words_told (firm_listed first)) ≤ 1
+one_of_held None first one = one_told first
+one_of_held (Some e) first one = by_told e first (is_told_word e) refl one
+
+-- if none was held, the first is that of what comes first
+pub unheld_words : (told : ConsecutiveEvents) → IfSome told.events.third IsNoWord
+    → words_told (firm_listed told.held) ≡ []
+    → words_told (consecutive_list told)
+    ≡ words_told (firm_listed told.events.first) ++ words_told (firm_listed told.events.second)
+unheld_words told none same =
+    words_of_held told none ∙ ap (λ (ws : List HeardWord). ws ++ (words_told (firm_listed told.events.first)
+    ++ words_told (firm_listed told.events.second))) same
+
+pub two_told_consecutively : (told : ConsecutiveEvents)
+    → IfSome told.held (λ event. is_told_word event ≡ true → told.events.first ≡ None)
+    → IfSome told.events.third IsNoWord → length (words_told (consecutive_list told)) ≤ 2
+two_told_consecutively told one none =
+    let h = words_told (firm_listed told.held) in
+    let f = words_told (firm_listed told.events.first) in
+    let s = words_told (firm_listed told.events.second) in
+    let both = one_of_held told.held told.events.first one in
+    let last = one_told told.events.second in
+    let three = length-append h (f ++ s) in
+    let two = length-append f s in
+    let front = length-append h f in
+    rw (words_of_held told none) (omega (arith, both, last, three, two, front))
+
+pub consecutive_in_range : (n sum : ℕ) (told : ConsecutiveEvents) → sum < 2 ^ 60 → ConsecutiveBrings n sum told
+    → All IsInRange (words_told (consecutive_list told))
+consecutive_in_range n sum told below brings =
+    let f = words_told (firm_listed told.events.first) in
+    let s = words_told (firm_listed told.events.second) in
+    rw (words_of_held told brings.no_word) (All-append IsInRange (words_told (firm_listed told.held)) (f ++ s)
+    (told_range n sum told.held below brings.held)
+    (All-append IsInRange f s (told_range n sum told.events.first below brings.first)
+    (told_range n sum told.events.second below brings.second)))
+
+-- ---- in turn
 
 -- words come in turn, as all that is given
 earlier_turn : (ticks : List ℕ) (a b c : ℕ) → a ≤ b → DoNotFall b ticks c → DoNotFall a ticks c

@@ -1,5 +1,6 @@
-//! What hears the words of a recording: a reader of all words, or one that needs a witness for each. Read next:
-//! `direction_reader/src/reader.rt` and `direction_reader/src/firm_reader.rt`.
+//! What hears the words of a recording: a reader of all words, one that needs a witness for each, or one of
+//! consecutive words. Read next: `direction_reader/src/reader.rt`, `direction_reader/src/firm_reader.rt` and
+//! `direction_reader/src/consecutive.rt`.
 ghost use Rattle.std.specs.Prelude.{◌≡◌, ℕ, ◌^◌, ◌<◌, ◌≤◌, ◌+◌, List, [], ◌∷◌, ◌++◌, All, IsTrue, length};
 ghost use Rattle.limits.specs.declared.recording.TheConstants.{MAX_INTERVAL, MAX_INTERVALS};
 ghost use Rattle.biphase.specs.declared.profile.Profile.{Profile};
@@ -14,9 +15,12 @@ ghost use Rattle.frame_commands.specs.OfFrames.{words_heard};
 
 use crate::words::Words;
 use biphase::Profile;
+use direction_reader::consecutive_laws::a_reader_has_told_what_its_list_tells;
 use direction_reader::firm_laws::a_reader_has_told_what_no_further_interval_changes;
 use direction_reader::laws::a_reader_gives_the_events_of_its_list;
-use direction_reader::{Brought, DirectionReader, FirmEvents, FirmReader};
+use direction_reader::{
+    Brought, ConsecutiveEvents, ConsecutiveReader, DirectionReader, FirmEvents, FirmReader,
+};
 use limits::MAX_INTERVAL;
 use tc_address::System;
 
@@ -264,5 +268,73 @@ impl Hearing for FirmReader {
 
     fn what_is_told_is_heard() {
         a_reader_has_told_what_no_further_interval_changes();
+    }
+}
+
+impl Hearing for ConsecutiveReader {
+    ghost use Rattle.std.specs.Prelude.{◌≡◌, ◌≤◌, []};
+    ghost use Rattle.direction_reader.specs.ConsecutiveStep.{consecutive_list};
+    ghost use Rattle.tc_job.specs.declared.witness.Witness.TheVariants.{Consecutive};
+    ghost use Rattle.frame_commands.specs.KeptHearing.{hearer_of_consecutive, tells_consecutive, MayTellConsecutiveFrom};
+
+    type Brought = ConsecutiveEvents;
+
+    ghost witness = { Consecutive };
+
+    ghost hearer = { λ r. hearer_of_consecutive r };
+
+    ghost tells = { λ r brought own. tells_consecutive brought own };
+
+    ghost nothing = { λ told. consecutive_list told ≡ [] };
+
+    ghost may = { λ r brought from. MayTellConsecutiveFrom r brought from };
+
+    fn start(system: System, profile: Profile) -> ConsecutiveReader {
+        ConsecutiveReader::new(system, profile)
+    }
+
+    fn step(&mut self, x: u32) -> ConsecutiveEvents {
+        let told = self.feed(x);
+        let _within = self.told_until();
+        told
+    }
+
+    fn is_nothing(brought: &ConsecutiveEvents) -> bool {
+        let events = &brought.events;
+        match (brought.held, events.first, events.second, events.third) {
+            (None, None, None, None) => true,
+            _ => false,
+        }
+    }
+
+    #[cold]
+    #[inline(never)]
+    fn words(&self, brought: ConsecutiveEvents, words: &mut Words) {
+        *words = Words::told_consecutively(brought);
+    }
+
+    fn last_words(&self) -> Words {
+        Words::told_consecutively(self.finish())
+    }
+
+    fn until(&self) -> u64 {
+        self.told_until()
+    }
+
+    fn tick_after(&self, x: u32) -> u64 {
+        let _within = self.told_until();
+        self.tick() + u64::from(x)
+    }
+
+    fn intervals(&self) -> u64 {
+        self.intervals()
+    }
+
+    fn ticks(&self) -> u64 {
+        self.tick()
+    }
+
+    fn what_is_told_is_heard() {
+        a_reader_has_told_what_its_list_tells();
     }
 }

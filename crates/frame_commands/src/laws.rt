@@ -27,6 +27,11 @@ ghost use Rattle.frame_commands.specs.OfFrames.{FrameText, along_frames};
 
 use biphase::laws::shaped_cells_are_a_chain;
 use code_chase::laws::{a_frame_adds_a_line, each_loss_has_a_cause, whole_code_keeps_the_lock};
+use direction_reader::consecutive_laws::{
+    a_list_has_one_list_of_consecutive_events, a_list_has_one_list_of_consecutive_told,
+    consecutive_told_come_first, each_word_has_its_witness_or_its_next_word,
+    the_next_word_changes_words_alone,
+};
 use direction_reader::firm_laws::{
     a_list_has_one_list_of_firm_events, a_list_has_one_list_of_told_events,
     a_witness_changes_words_alone, each_word_that_is_told_has_its_witness, told_events_come_first,
@@ -46,7 +51,7 @@ use quarter_frame::laws::messages_of_a_front_come_first;
 use tape_spans::laws::final_lines_come_first;
 
 /// What is heard of some intervals there is, and it comes first, whatever intervals follow: if words
-/// need a witness, and if not.
+/// need a witness, if they may be consecutive, and if neither.
 pub fn what_is_heard_is_in_order()
     ensures { (witness : Witness) → HeardInOrder witness }
 {
@@ -56,6 +61,9 @@ pub fn what_is_heard_is_in_order()
     a_list_has_one_list_of_firm_events();
     a_list_has_one_list_of_told_events();
     told_events_come_first();
+    a_list_has_one_list_of_consecutive_events();
+    a_list_has_one_list_of_consecutive_told();
+    consecutive_told_come_first();
 }
 
 /// The words that are heard have labels of the recording's system.
@@ -66,10 +74,11 @@ pub fn what_is_heard_has_labels_of_its_system()
     what_is_read_has_labels_of_its_system();
     each_list_has_events();
     a_witness_changes_words_alone();
+    the_next_word_changes_words_alone();
 }
 
-/// What is heard of a recording tells its tape: it is what is read of it, or that among it which has a witness,
-/// and what is read are the words of the tape.
+/// What is heard of a recording tells its tape: it is what is read of it, or that among it which has a witness or
+/// is consecutive, and what is read are the words of the tape.
 pub fn what_is_heard_tells_the_tape()
     ensures { (witness : Witness) (system : System) (profile : Profile) (intervals : List ℕ) (events : List Event)
         → AreHeard witness system profile intervals events
@@ -81,6 +90,8 @@ pub fn what_is_heard_tells_the_tape()
     events_find_the_tape_behind_even_ones();
     a_witness_changes_words_alone();
     each_word_that_is_told_has_its_witness();
+    the_next_word_changes_words_alone();
+    each_word_has_its_witness_or_its_next_word();
 }
 
 /// What a command prints of frames there is, and it is in order, if what it makes of frames is.

@@ -18,7 +18,7 @@ use crate::laws::{
     what_is_made_of_frames_is_in_order,
 };
 use direction_reader::laws::events_come_in_order;
-use direction_reader::{DirectionReader, FirmReader};
+use direction_reader::{ConsecutiveReader, DirectionReader, FirmReader};
 use flywheel::Frame;
 use flywheel::laws::{a_frame_that_goes_on_is_the_next, invention_is_bounded_and_marked};
 use interval_engine::laws::recordings_grow;
@@ -50,6 +50,9 @@ pub fn tell_spans<S: Source, K: Sink>(
             flight, source, out,
         ),
         Witness::Asked => work_along::<FlightTo<FirmReader, SpanLines>, S, K>(flight, source, out),
+        Witness::Consecutive => work_along::<FlightTo<ConsecutiveReader, SpanLines>, S, K>(
+            flight, source, out,
+        ),
     }
 }
 

@@ -1,13 +1,14 @@
 //! The words of what an interval brought, one after another. Read next: `flywheel/src/heard.rt`.
-ghost use Rattle.std.specs.Prelude.{◌≡◌, [], ◌++◌, IfSome, None};
+ghost use Rattle.std.specs.Prelude.{◌≡◌, [], ◌++◌, true, IfSome, None};
 ghost use Rattle.std.specs.Option.{option_to_list};
+ghost use Rattle.direction_reader.specs.ConsecutiveStep.{consecutive_list, is_told_word};
 ghost use Rattle.direction_reader.specs.Events.{event_list, listed};
 ghost use Rattle.direction_reader.specs.FirmStep.{firm_list, firm_listed, IsNoWord};
 ghost use Rattle.frame_commands.specs.Heard.{told_events};
 ghost use Rattle.frame_commands.specs.Hearing.{due_at};
 ghost use Rattle.frame_commands.specs.OfFrames.{words_heard};
 
-use direction_reader::{Event, Events, FirmEvent, FirmEvents};
+use direction_reader::{ConsecutiveEvents, Event, Events, FirmEvent, FirmEvents};
 use flywheel::HeardWord;
 use std::marker::Model;
 
@@ -57,6 +58,25 @@ impl Words {
         Words {
             first: told_in(told.first),
             second: told_in(told.second),
+        }
+    }
+
+    /// The words among the events of consecutive words: if a word that was held is told, none comes first
+    /// behind it.
+    pub(crate) fn told_consecutively(told: ConsecutiveEvents) -> Words
+        requires one { IfSome told.held (λ event. is_told_word event ≡ true → told.events.first ≡ None) }
+        requires third { IfSome told.events.third IsNoWord }
+        ensures { result ≡ words_heard (told_events (consecutive_list told)) }
+    {
+        let ConsecutiveEvents { held, events } = told;
+        let first = told_in(events.first);
+        let second = told_in(events.second);
+        match told_in(held) {
+            Some(word) => Words {
+                first: Some(word),
+                second,
+            },
+            None => Words { first, second },
         }
     }
 

@@ -2,14 +2,14 @@
 use crate::witness::Witness;
 use biphase::Profile;
 
-/// How the frames of a recording are had: under which tolerance its words are read, whether each is asked for a
-/// witness, and how many frames are invented in a row at most.
+/// How the frames of a recording are had: under which tolerance its words are read, what each is asked for, and
+/// how many frames are invented in a row at most.
 #[derive(Clone, Copy)]
 pub struct Flight {
     /// How many frames are invented in a row, at most.
     pub limit: u8,
     /// The tolerance under which words are read.
     pub profile: Profile,
-    /// Whether each word is asked for a witness.
+    /// What each word is asked for.
     pub witness: Witness,
 }

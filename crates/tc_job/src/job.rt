@@ -33,22 +33,23 @@ pub enum Job {
     LtcRead,
     /// `ltc-worn`: the same under the tolerance of worn recordings.
     LtcWorn,
-    /// `ltc-rough [firm]`: the same under the tolerance of hissy and dull recordings; and each word is asked for a
-    /// witness, or not.
+    /// `ltc-rough [firm|consecutive]`: the same under the tolerance of hissy and dull recordings; and each
+    /// word is asked for a witness, or for one or the next word, or for nothing.
     LtcRough { witness: Witness },
-    /// `ltc-fly LIMIT [worn|rough [firm]]`: reads an interval file, and writes a line for each frame of its words,
-    /// with at most this many invented frames in a row.
+    /// `ltc-fly LIMIT [worn|rough [firm|consecutive]]`: reads an interval file, and writes a line for each
+    /// frame of its words, with at most this many invented frames in a row.
     LtcFly { flight: Flight },
-    /// `ltc-spans LIMIT [worn|rough [firm]]`: reads an interval file, and writes a line for each span of the same
-    /// frames, and for each gap between two.
+    /// `ltc-spans LIMIT [worn|rough [firm|consecutive]]`: reads an interval file, and writes a line for each
+    /// span of the same frames, and for each gap between two.
     LtcSpans { flight: Flight },
-    /// `ltc-mtc LIMIT [worn|rough [firm]]`: reads an interval file, and writes MIDI Time Code of the same frames.
+    /// `ltc-mtc LIMIT [worn|rough [firm|consecutive]]`: reads an interval file, and writes MIDI Time Code of
+    /// the same frames.
     LtcMtc { flight: Flight },
-    /// `ltc-jam LIMIT CELL TICK-RATE [worn|rough [firm]]`: reads an interval file, and writes the same frames anew as
-    /// an interval file of cells of one length.
+    /// `ltc-jam LIMIT CELL TICK-RATE [worn|rough [firm|consecutive]]`: reads an interval file, and writes the
+    /// same frames anew as an interval file of cells of one length.
     LtcJam { jam: Jam },
-    /// `ltc-chase COUNT LABEL LIMIT SEED BOUND [worn|rough [firm]]`: reads an interval file, and writes the steps of a
-    /// chase that begins at the label and follows the same frames.
+    /// `ltc-chase COUNT LABEL LIMIT SEED BOUND [worn|rough [firm|consecutive]]`: reads an interval file, and
+    /// writes the steps of a chase that begins at the label and follows the same frames.
     LtcChase { run: ChaseRun },
     /// `mtc-read`: reads MIDI bytes, and writes a line for each label of MIDI Time Code in them, and for
     /// each address that is no label.
@@ -63,7 +64,8 @@ pub enum Job {
     /// `pcm-ltc SYSTEM RATE THRESHOLD [FINENESS [follow|deep [SMOOTH]]]`: reads samples of sound, and writes
     /// an interval file of the distances of their crossings.
     PcmLtc { slicing: Slicing },
-    /// `pcm-ltc SYSTEM RATE THRESHOLD FINENESS path`: the same of the cells of the best path through the sound.
+    /// `pcm-ltc SYSTEM RATE THRESHOLD FINENESS path`: the same of the cells of the best path through the
+    /// sound.
     PcmPath { path: PathSlicing },
     /// `wav-ltc SYSTEM TRACK THRESHOLD [SMOOTH [deep]]`: reads a sound file, and writes an interval file of
     /// the distances of the crossings of a track.
@@ -74,8 +76,8 @@ pub enum Job {
     LtcPcm { level: SoundLevel },
     /// `vitc-read`: reads a line file, and writes a line for each field.
     VitcRead,
-    /// `luma-vitc SYSTEM WIDTH HEIGHT FIRST ROWS`: reads fields of gray pixels, and writes a line file of what their
-    /// rows say.
+    /// `luma-vitc SYSTEM WIDTH HEIGHT FIRST ROWS`: reads fields of gray pixels, and writes a line file of
+    /// what their rows say.
     LumaVitc { run: LumaRun },
     /// `vitc-make COUNT LABEL FRAMES LENGTH`: makes a line file of these frames.
     VitcMake { stripe: LineStripe },
@@ -83,14 +85,14 @@ pub enum Job {
     Number { label: Label },
     /// `label COUNT NUMBER`: writes the label of that number of the day.
     LabelOf { label: Label },
-    /// `labels COUNT [ntsc] WAY`: reads lines that say labels, and writes a line for each: its number, its text, the
-    /// label further on or back, the way since a label, its seconds, or the label that is shown then under another
-    /// count.
+    /// `labels COUNT [ntsc] WAY`: reads lines that say labels, and writes a line for each: its number, its
+    /// text, the label further on or back, the way since a label, its seconds, or the label that is shown
+    /// then under another count.
     Labels { run: LabelRun },
     /// `help`: writes how each command is typed, and where the manual is.
     Help,
-    /// `help COMMAND`: writes of the command how it is typed, what it does, its values and examples. The page is that
-    /// of the row with this number in `USAGES`, from 0 on.
+    /// `help COMMAND`: writes of the command how it is typed, what it does, its values and examples. The page
+    /// is that of the row with this number in `USAGES`, from 0 on.
     HelpOf { page: usize },
     /// `help statuses`: writes what each exit number means, and what to do.
     HelpStatuses,

@@ -6,11 +6,14 @@
 pub static USAGES: [(&str, &str); 24] = [
     ("ltc-read", ""),
     ("ltc-worn", ""),
-    ("ltc-rough", " [firm]"),
-    ("ltc-fly", " LIMIT [worn|rough [firm]]"),
-    ("ltc-spans", " LIMIT [worn|rough [firm]]"),
-    ("ltc-mtc", " LIMIT [worn|rough [firm]]"),
-    ("ltc-jam", " LIMIT CELL TICK-RATE [worn|rough [firm]]"),
+    ("ltc-rough", " [firm|consecutive]"),
+    ("ltc-fly", " LIMIT [worn|rough [firm|consecutive]]"),
+    ("ltc-spans", " LIMIT [worn|rough [firm|consecutive]]"),
+    ("ltc-mtc", " LIMIT [worn|rough [firm|consecutive]]"),
+    (
+        "ltc-jam",
+        " LIMIT CELL TICK-RATE [worn|rough [firm|consecutive]]",
+    ),
     ("ltc-convert", " VERSION"),
     (
         "pcm-ltc",
@@ -30,7 +33,7 @@ pub static USAGES: [(&str, &str); 24] = [
     ("chase", " COUNT LABEL"),
     (
         "ltc-chase",
-        " COUNT LABEL LIMIT SEED BOUND [worn|rough [firm]]",
+        " COUNT LABEL LIMIT SEED BOUND [worn|rough [firm|consecutive]]",
     ),
     ("vitc-read", ""),
     ("luma-vitc", " SYSTEM WIDTH HEIGHT FIRST ROWS"),

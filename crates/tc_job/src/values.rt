@@ -6,8 +6,8 @@ use crate::page_line::PageLine;
 
 pub const FIRM_ALONE: PageLine = (
     "  ",
-    "firm",
-    ": a word counts only with the sync word of another one beside it",
+    "firm|consecutive",
+    ": a word needs another's sync word beside it, or the next word",
     1,
     1,
 );
@@ -30,8 +30,8 @@ pub const WORN_OR_ROUGH: PageLine = (
 
 pub const FIRM: PageLine = (
     "  ",
-    "firm",
-    ": a word counts only with the sync word of another one beside it",
+    "firm|consecutive",
+    ": a word needs another's sync word beside it, or the next word",
     3,
     3,
 );
@@ -56,8 +56,8 @@ pub const WORN_OR_ROUGH_OF_JAM: PageLine = (
 
 pub const FIRM_OF_JAM: PageLine = (
     "  ",
-    "firm",
-    ": a word counts only with the sync word of another one beside it",
+    "firm|consecutive",
+    ": a word needs another's sync word beside it, or the next word",
     5,
     5,
 );
@@ -298,8 +298,8 @@ pub const WORN_OR_ROUGH_OF_CHASE: PageLine = (
 
 pub const FIRM_OF_CHASE: PageLine = (
     "  ",
-    "firm",
-    ": a word counts only with the sync word of another one beside it",
+    "firm|consecutive",
+    ": a word needs another's sync word beside it, or the next word",
     7,
     7,
 );

@@ -1,9 +1,13 @@
 //! Whether words are asked for a witness.
 
-/// Whether each word that is read is asked for a witness: another word's sync word beside it. A word
-/// without one is refused.
+/// What each word that is read is asked for, so that it counts. A word that has not what it is asked for is
+/// refused.
 #[derive(Clone, Copy)]
 pub enum Witness {
+    /// Nothing: each word counts.
     NotAsked,
+    /// A witness: another word's sync word beside it.
     Asked,
+    /// A witness, or the word that follows it on the tape: one that is beside it and has the next label.
+    Consecutive,
 }

@@ -7,9 +7,9 @@ use Rattle.tc_job.specs.declared.flight.Flight.{Flight}
 use Rattle.tc_job.specs.declared.witness.Witness.TheVariants.{NotAsked}
 use Rattle.tc_words.specs.Values.{Word, between, read_or, tolerance_in, value_or, witness_in}
 
--- `LIMIT [worn|rough [firm]]`: at most as many invented frames in a row as the first word says, between words that
--- are read under the tolerance that the next word says, and without it under the normal one; and with the last word
--- each of them is asked for a witness
+-- `LIMIT [worn|rough [firm|consecutive]]`: at most as many invented frames in a row as the first word says, between
+-- words that are read under the tolerance that the next word says, and without it under the normal one; and each of them
+-- is asked for what the last word says, and without it for nothing
 unfoldable pub flight_in : List Word → Result Flight WordsFault
 flight_in (limit ∷ more) =
     if nat_lt 2 (length more) then Err CountOfWords

@@ -17,7 +17,7 @@ use Rattle.interval_file.specs.declared.header.FileVersion.TheVariants.{One, Two
 use Rattle.tc_job.specs.declared.fault.WordsFault.{WordsFault}
 use Rattle.tc_job.specs.declared.fault.WordsFault.TheVariants.{Value}
 use Rattle.tc_job.specs.declared.witness.Witness.{Witness}
-use Rattle.tc_job.specs.declared.witness.Witness.TheVariants.{Asked}
+use Rattle.tc_job.specs.declared.witness.Witness.TheVariants.{Asked, Consecutive}
 
 -- the bytes of a word
 abbrev pub Word : Type 0
@@ -66,9 +66,9 @@ version_in word = value_in ((codes "1", One) ∷ (codes "2", Two) ∷ []) word
 unfoldable pub numbered : Count → Word → Option Address
 numbered count word = option_and_then (slice_get (labels count)) (number_spelled word)
 
--- `firm`: each word that is read is asked for a witness
+-- what each word that is read is asked for: `firm` for a witness, and `consecutive` for one or for the next word
 unfoldable pub witness_in : Word → Option Witness
-witness_in word = value_in ((codes "firm", Asked) ∷ []) word
+witness_in word = value_in ((codes "firm", Asked) ∷ (codes "consecutive", Consecutive) ∷ []) word
 
 -- what a word says that need not be there: this, if it is not
 abbrev pub read_or : {X : Type 0} → X → (Word → Option X) → Option Word → Option X

@@ -42,13 +42,13 @@ abbrev pub no_values : Job → List Word → Result Job WordsFault
 no_values job [] = Ok job
 no_values job _ = Err CountOfWords
 
--- `ltc-rough [firm]`: without the word none is asked for a witness
+-- `ltc-rough [firm|consecutive]`: without the word none is asked for a witness
 unfoldable pub ltc_rough : List Word → Result Job WordsFault
 ltc_rough words =
     if nat_lt 1 (length words) then Err CountOfWords
     else value_or 1 (read_or NotAsked witness_in (slice_get words 0)) (λ w. Ok (jobs.LtcRough w))
 
--- `ltc-jam LIMIT CELL TICK-RATE [worn|rough [firm]]`: without the last words it is the normal tolerance, and
+-- `ltc-jam LIMIT CELL TICK-RATE [worn|rough [firm|consecutive]]`: without the last words it is the normal tolerance, and
 -- none is asked for a witness
 unfoldable pub ltc_jam : List Word → Result Job WordsFault
 ltc_jam (limit ∷ cell ∷ tick_rate ∷ more) =
@@ -60,7 +60,7 @@ ltc_jam (limit ∷ cell ∷ tick_rate ∷ more) =
     Ok (jobs.LtcJam (jamming_of (record { limit = n; profile = p; witness = w }) c r)))))))
 ltc_jam _ = Err CountOfWords
 
--- `ltc-chase COUNT LABEL LIMIT SEED BOUND [worn|rough [firm]]`: without the last words it is the normal
+-- `ltc-chase COUNT LABEL LIMIT SEED BOUND [worn|rough [firm|consecutive]]`: without the last words it is the normal
 -- tolerance, and none is asked for a witness
 unfoldable pub ltc_chase : List Word → Result Job WordsFault
 ltc_chase (count ∷ label ∷ limit ∷ seed ∷ bound ∷ more) =

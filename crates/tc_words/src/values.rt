@@ -112,13 +112,14 @@ pub fn tolerance_or_normal(word: Option<&str>) -> Option<Profile>
     }
 }
 
-/// That each word that is read is asked for a witness: `firm`.
+/// What each word that is read is asked for: `firm` for a witness, `consecutive` for one or for the next word.
 #[tactic(auto, unfolding(crate::specs::Values::witness_in))]
 pub fn witness_in(word: &str) -> Option<Witness>
     ensures { result ≡ witness_in word.now }
 {
     match word {
         "firm" => Some(Witness::Asked),
+        "consecutive" => Some(Witness::Consecutive),
         _ => None,
     }
 }

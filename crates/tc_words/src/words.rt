@@ -149,7 +149,7 @@ fn no_values(values: &[&str], job: Job) -> Result<Job, WordsFault>
     }
 }
 
-// `ltc-rough [firm]`
+// `ltc-rough [firm|consecutive]`
 #[tactic(auto, unfolding(crate::specs::Words::ltc_rough))]
 fn ltc_rough(values: &[&str]) -> Result<Job, WordsFault>
     ensures { result ≡ ltc_rough (map (λ v. v.now) values.now) }
@@ -163,7 +163,7 @@ fn ltc_rough(values: &[&str]) -> Result<Job, WordsFault>
     Ok(Job::LtcRough { witness })
 }
 
-// `ltc-fly LIMIT [worn|rough [firm]]`
+// `ltc-fly LIMIT [worn|rough [firm|consecutive]]`
 fn ltc_fly(values: &[&str]) -> Result<Job, WordsFault>
     ensures { result ≡ map_ok (λ flight. jobs.LtcFly flight) (flight_in (map (λ v. v.now) values.now)) }
 {
@@ -171,7 +171,7 @@ fn ltc_fly(values: &[&str]) -> Result<Job, WordsFault>
     Ok(Job::LtcFly { flight })
 }
 
-// `ltc-spans LIMIT [worn|rough [firm]]`
+// `ltc-spans LIMIT [worn|rough [firm|consecutive]]`
 fn ltc_spans(values: &[&str]) -> Result<Job, WordsFault>
     ensures { result ≡ map_ok (λ flight. jobs.LtcSpans flight) (flight_in (map (λ v. v.now) values.now)) }
 {
@@ -179,7 +179,7 @@ fn ltc_spans(values: &[&str]) -> Result<Job, WordsFault>
     Ok(Job::LtcSpans { flight })
 }
 
-// `ltc-mtc LIMIT [worn|rough [firm]]`
+// `ltc-mtc LIMIT [worn|rough [firm|consecutive]]`
 fn ltc_mtc(values: &[&str]) -> Result<Job, WordsFault>
     ensures { result ≡ map_ok (λ flight. jobs.LtcMtc flight) (flight_in (map (λ v. v.now) values.now)) }
 {
@@ -187,7 +187,7 @@ fn ltc_mtc(values: &[&str]) -> Result<Job, WordsFault>
     Ok(Job::LtcMtc { flight })
 }
 
-// `ltc-jam LIMIT CELL TICK-RATE [worn|rough [firm]]`
+// `ltc-jam LIMIT CELL TICK-RATE [worn|rough [firm|consecutive]]`
 #[tactic(auto, unfolding(crate::specs::Words::ltc_jam))]
 fn ltc_jam(values: &[&str]) -> Result<Job, WordsFault>
     ensures { result ≡ ltc_jam (map (λ v. v.now) values.now) }
@@ -223,7 +223,7 @@ fn ltc_jam(values: &[&str]) -> Result<Job, WordsFault>
     })
 }
 
-// `ltc-chase COUNT LABEL LIMIT SEED BOUND [worn|rough [firm]]`
+// `ltc-chase COUNT LABEL LIMIT SEED BOUND [worn|rough [firm|consecutive]]`
 #[tactic(auto, unfolding(crate::specs::Words::ltc_chase))]
 fn ltc_chase(values: &[&str]) -> Result<Job, WordsFault>
     ensures { result ≡ ltc_chase (map (λ v. v.now) values.now) }

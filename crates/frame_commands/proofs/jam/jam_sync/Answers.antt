@@ -27,3 +27,15 @@ returns-in-Asked g c =
           c.work_along-in-Asked.result
           c.args.jam.flight (file_of_frames c.args.jam) witness.Asked is c.work_along-in-Asked.ensures;
     }
+
+pub returns-in-Consecutive : goal.returns-in-Consecutive
+returns-in-Consecutive g c =
+    let is : c.args.jam.flight.witness ≡ witness.Consecutive =
+    ap (λ (f : Flight). f.witness) (sym c.flight.ensures) ∙ c.in-Consecutive.is in
+    record {
+      told = c.a_copy_is_told.ensures;
+      worked = worked_by g.S.Source.left g.S.Source.ends g.S.Source.faults g.K.Sink.written g.K.Sink.faults
+          c.args.source.now c.work_along-in-Consecutive.new.source c.args.out.now c.work_along-in-Consecutive.new.out
+          c.work_along-in-Consecutive.result
+          c.args.jam.flight (file_of_frames c.args.jam) witness.Consecutive is c.work_along-in-Consecutive.ensures;
+    }

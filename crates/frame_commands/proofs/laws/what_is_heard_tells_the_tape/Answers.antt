@@ -9,4 +9,6 @@ returns c = tape_is_heard (record {
   rough_damage = c.events_find_the_tape_behind_even_ones.ensures;
   judged = c.a_witness_changes_words_alone.ensures;
   witnessed = c.each_word_that_is_told_has_its_witness.ensures.list;
+  judged_too = c.the_next_word_changes_words_alone.ensures.plain;
+  backed = c.each_word_has_its_witness_or_its_next_word.ensures;
 })

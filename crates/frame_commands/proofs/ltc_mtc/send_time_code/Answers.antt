@@ -21,3 +21,13 @@ returns-in-Asked g c =
           c.work_along-in-Asked.result
           c.args.flight messages_of_frames witness.Asked c.in-Asked.is c.work_along-in-Asked.ensures;
     }
+
+pub returns-in-Consecutive : goal.returns-in-Consecutive
+returns-in-Consecutive g c =
+    record {
+      told = c.messages_are_told.ensures c.args.flight;
+      worked = worked_by g.S.Source.left g.S.Source.ends g.S.Source.faults g.K.Sink.written g.K.Sink.faults
+          c.args.source.now c.work_along-in-Consecutive.new.source c.args.out.now c.work_along-in-Consecutive.new.out
+          c.work_along-in-Consecutive.result
+          c.args.flight messages_of_frames witness.Consecutive c.in-Consecutive.is c.work_along-in-Consecutive.ensures;
+    }
