@@ -1,6 +1,7 @@
 //! `tc` on a disk that is full, in the gate: no byte of the version can be written, and it ends with 5.
 //! Read next: `tc_program/src/streams.rt`.
 #![tactic(auto)]
+
 ghost use Rattle.std.specs.Prelude.{◌≡◌};
 ghost use Rattle.std.specs.Process.{exit_status};
 
