@@ -1,7 +1,7 @@
 //! A cell of biphase mark.
 
 /// One bit of biphase mark (SMPTE 12M, linear time code), with its intervals in ticks.
-#[derive(Clone, Copy, Debug, PartialEq, Eq)]
+#[derive(Clone, Copy)]
 pub enum Cell {
     /// A zero: one interval.
     Zero(u32),

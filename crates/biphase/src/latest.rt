@@ -10,7 +10,7 @@ use std::marker::Model;
 /// place, beside the state of a stretch, and only a tolerance that compares with their sum writes them.
 // A state goes by value through each answer: with the four lengths in the states each interval cost 28 instructions
 // more, of 70.
-#[derive(Clone, Copy, Debug, PartialEq, Eq)]
+#[derive(Clone, Copy)]
 pub struct LatestFour {
     last: u32,
     second: u32,

@@ -4,7 +4,7 @@ ghost use Rattle.biphase.specs.Pair.{IsKind};
 use crate::profile::{Profile, is_at_least};
 
 /// What two neighbouring intervals can be to each other.
-#[derive(Clone, Copy, Debug, PartialEq, Eq)]
+#[derive(Clone, Copy)]
 pub enum PairKind {
     /// Equal: two zeros, or two halves.
     Same,

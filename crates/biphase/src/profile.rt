@@ -5,7 +5,7 @@ ghost use Rattle.biphase.specs.Profile.{equal_of, unequal_of, IsAtLeast, IsAtMos
 // The code tests at each interval which one it is. The compiler tests the first variant first if another
 // one's arm comes first in a `match`.
 /// How much the cells of a recording may differ.
-#[derive(Clone, Copy, Debug, PartialEq, Eq)]
+#[derive(Clone, Copy)]
 pub enum Profile {
     /// A cell lasts within one eighth of the cell before, and halves differ by at most one sixteenth
     /// of their cell.

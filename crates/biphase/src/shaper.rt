@@ -13,7 +13,7 @@ pub const MIN_SHAPED: u32 = 16;
 pub const MAX_SHAPED: u32 = 8_388_607;
 
 /// Why lengths are no shape, in the order of these variants.
-#[derive(Clone, Copy, Debug, PartialEq, Eq)]
+#[derive(Clone, Copy)]
 pub enum ShapeFault {
     /// The first or the last length is out of range.
     Cell,

@@ -18,7 +18,7 @@ use std::marker::Model;
 
 /// A stretch is open and ends with the last interval. Of the cells so far it holds the number that its
 /// profile compares with; the lengths of the latest four are kept beside it.
-#[derive(Clone, Copy, Debug, PartialEq, Eq)]
+#[derive(Clone, Copy)]
 pub struct AtCell {
     profile: Profile,
     reference: u32,
@@ -35,7 +35,7 @@ impl Model for AtCell {
 }
 
 /// What an interval does to `AtCell`.
-#[derive(Clone, Copy, Debug, PartialEq, Eq)]
+#[derive(Clone, Copy)]
 pub enum FromAtCell {
     /// The interval is a zero of the stretch.
     Zero(AtCell),

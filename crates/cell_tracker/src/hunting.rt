@@ -17,7 +17,7 @@ use limits::MAX_INTERVAL;
 use std::marker::Model;
 
 /// No stretch is open: the tracker looks for two unequal intervals.
-#[derive(Clone, Copy, Debug, PartialEq, Eq)]
+#[derive(Clone, Copy)]
 pub struct Hunting {
     profile: Profile,
     before: Option<u32>,
@@ -38,7 +38,7 @@ impl Model for Hunting {
 }
 
 /// What an interval does to `Hunting`.
-#[derive(Clone, Copy, Debug, PartialEq, Eq)]
+#[derive(Clone, Copy)]
 pub enum FromHunting {
     /// The search goes on.
     Hunt(Hunting),

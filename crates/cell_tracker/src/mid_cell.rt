@@ -17,7 +17,7 @@ use std::marker::Model;
 
 /// A stretch is open and ends one interval before the last, which may be the first half of a one. Of the
 /// cells so far it holds what `AtCell` does.
-#[derive(Clone, Copy, Debug, PartialEq, Eq)]
+#[derive(Clone, Copy)]
 pub struct MidCell {
     profile: Profile,
     reference: u32,
@@ -39,7 +39,7 @@ impl Model for MidCell {
 }
 
 /// What an interval does to `MidCell`.
-#[derive(Clone, Copy, Debug, PartialEq, Eq)]
+#[derive(Clone, Copy)]
 pub enum FromMidCell {
     /// The waiting half and the interval are a one of the stretch, with these halves in ticks.
     One(AtCell, u32, u32),

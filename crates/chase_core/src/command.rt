@@ -2,7 +2,7 @@
 use tc_address::Direction;
 
 /// A command of the operator.
-#[derive(Clone, Copy, PartialEq, Eq)]
+#[derive(Clone, Copy)]
 pub enum Command {
     /// Follow the master.
     Play,
@@ -13,7 +13,7 @@ pub enum Command {
 }
 
 /// What the master's timecode reads.
-#[derive(Clone, Copy, PartialEq, Eq)]
+#[derive(Clone, Copy)]
 pub struct Master {
     /// The number of the label, of the chase's count and below the labels of a day.
     pub number: u32,

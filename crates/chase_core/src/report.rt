@@ -1,7 +1,7 @@
 //! What a chase says of a frame. Read next: `mode`.
 
 /// What a chase does.
-#[derive(Clone, Copy, Debug, PartialEq, Eq)]
+#[derive(Clone, Copy)]
 pub enum State {
     /// It leaves the transport alone.
     Waiting,
@@ -14,7 +14,7 @@ pub enum State {
 }
 
 /// Why the lock is lost.
-#[derive(Clone, Copy, Debug, PartialEq, Eq)]
+#[derive(Clone, Copy)]
 pub enum Loss {
     /// The master reads nothing.
     NoCode,
@@ -23,7 +23,7 @@ pub enum Loss {
 }
 
 /// What a chase says of one frame.
-#[derive(Clone, Copy, Debug, PartialEq, Eq)]
+#[derive(Clone, Copy)]
 pub struct StepReport {
     /// The state after the frame.
     pub state: State,

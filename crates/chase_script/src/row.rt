@@ -19,7 +19,7 @@ use line_text::direction_named;
 use tc_address::{Count, Label, number, read_text};
 
 /// What comes in one frame.
-#[derive(Clone, Copy, PartialEq, Eq)]
+#[derive(Clone, Copy)]
 pub struct ScriptRow {
     /// The operator's command.
     pub command: Option<Command>,

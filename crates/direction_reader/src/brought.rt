@@ -2,7 +2,7 @@
 
 /// What an interval brought, known at once: nearly every interval brings nothing. The events
 /// themselves are worked out only if there may be some.
-#[derive(Clone, Copy, PartialEq, Eq)]
+#[derive(Clone, Copy)]
 pub enum Brought {
     /// No event.
     Nothing,

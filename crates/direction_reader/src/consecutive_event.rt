@@ -7,7 +7,7 @@ use crate::neighbours::{given, held_of, or_other};
 
 /// What one interval brought, in order: the word that was held, if the interval decided what becomes of it,
 /// and then what the interval itself brought.
-#[derive(Clone, Copy, Debug, PartialEq, Eq)]
+#[derive(Clone, Copy)]
 pub struct ConsecutiveEvents {
     pub held: Option<FirmEvent>,
     pub events: FirmEvents,

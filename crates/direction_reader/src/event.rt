@@ -6,7 +6,7 @@ use tc_address::Direction;
 use tc_bits::FieldFault;
 
 /// What an interval brought. The tick is the sum of all intervals up to and including that one.
-#[derive(Clone, Copy, Debug, PartialEq, Eq)]
+#[derive(Clone, Copy)]
 pub enum Event {
     /// A word of linear time code.
     Word {
@@ -44,7 +44,7 @@ impl Event {
 }
 
 /// What one interval brought: nothing, one event as the first, or two.
-#[derive(Clone, Copy, Debug, PartialEq, Eq)]
+#[derive(Clone, Copy)]
 pub struct Events {
     pub first: Option<Event>,
     pub second: Option<Event>,

@@ -6,7 +6,7 @@ use ltc_word::LtcWord;
 use tc_address::Direction;
 
 /// What an interval brought to a reader that needs a witness for each word.
-#[derive(Clone, Copy, Debug, PartialEq, Eq)]
+#[derive(Clone, Copy)]
 pub enum FirmEvent {
     /// What is read without a witness too: a word that has one, or that is at the edge of its
     /// stretch; a candidate with a fault in its fields; a break.
@@ -37,7 +37,7 @@ impl FirmEvent {
 
 /// What one interval brought, in order: at most three, since a word may have waited for its witness
 /// and a candidate behind it.
-#[derive(Clone, Copy, Debug, PartialEq, Eq)]
+#[derive(Clone, Copy)]
 pub struct FirmEvents {
     pub first: Option<FirmEvent>,
     pub second: Option<FirmEvent>,

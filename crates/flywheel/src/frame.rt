@@ -3,7 +3,7 @@
 use tc_address::{Direction, Label};
 
 /// A frame that was heard or invented, or the end of invention. Its tick is that of its end.
-#[derive(Clone, Copy, Debug, PartialEq, Eq)]
+#[derive(Clone, Copy)]
 pub enum Frame {
     /// A word was heard.
     Heard {

@@ -7,7 +7,7 @@ ghost use Rattle.flywheel.specs.Wheel.{due_tick, IsInRange};
 use tc_address::{Direction, Label, advance};
 
 /// A word of linear time code that was heard.
-#[derive(Clone, Copy, Debug, PartialEq, Eq)]
+#[derive(Clone, Copy)]
 pub struct HeardWord {
     pub label: Label,
     /// The way in which the tape moved.

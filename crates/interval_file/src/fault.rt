@@ -6,7 +6,7 @@ use std::error::Error;
 use std::fmt;
 
 /// The first fault of an interval file, with the byte place, from 0, at which it is.
-#[derive(Clone, Copy, Debug, PartialEq, Eq)]
+#[derive(Clone, Copy, Debug)]
 pub enum IntervalFileFault {
     /// One of the first four bytes is not that of the magic, `LTCI`.
     Magic(u64),

@@ -23,7 +23,7 @@ pub const HEAD_LENGTH: u64 = 8;
 pub const HEADER_LENGTH: u64 = 12;
 
 /// How a file spells its intervals: each with four bytes, or with two if it fits in two.
-#[derive(Clone, Copy, Debug, PartialEq, Eq)]
+#[derive(Clone, Copy)]
 pub enum FileVersion {
     /// Four bytes an interval.
     One,

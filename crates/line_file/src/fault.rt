@@ -6,7 +6,7 @@ use std::error::Error;
 use std::fmt;
 
 /// The first fault of a line file, with the byte place, from 0, at which it is.
-#[derive(Clone, Copy, Debug, PartialEq, Eq)]
+#[derive(Clone, Copy, Debug)]
 pub enum LineFileFault {
     /// One of the first four bytes is not that of the magic, `VITL`.
     Magic(u64),

@@ -4,7 +4,7 @@ use tc_bits::{FieldFault, Fields};
 use thiserror::Error;
 
 /// A word of linear time code: what it says, and whether an even number of its 80 bits is 0.
-#[derive(Clone, Copy, Debug, PartialEq, Eq)]
+#[derive(Clone, Copy)]
 pub struct LtcWord {
     /// The frame address, the flag bits and the user bits.
     pub fields: Fields,
@@ -14,7 +14,7 @@ pub struct LtcWord {
 }
 
 /// The first fault of 80 bits, in the order of these variants.
-#[derive(Clone, Copy, Debug, PartialEq, Eq, Drop, Error)]
+#[derive(Clone, Copy, Debug, Drop, Error)]
 pub enum WordFault {
     /// The first bit, from 64 to 79, that is not the sync word's.
     #[error("the sync word is wrong at this bit")]

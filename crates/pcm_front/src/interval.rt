@@ -4,7 +4,7 @@ ghost use Rattle.pcm_front.specs.Distance.{pieces_in, IsInterval};
 
 /// Intervals in a row: those of a distance that ended, behind what was written of it before, and those
 /// of the one that has begun.
-#[derive(Clone, Copy, Debug, PartialEq, Eq)]
+#[derive(Clone, Copy)]
 pub struct Intervals {
     /// The length of a whole piece, in ticks.
     pub length: u32,

@@ -9,7 +9,7 @@ use crate::interval::{Intervals, pieces};
 use limits::MAX_INTERVAL;
 
 /// When the intervals of a distance are written, and how long they are at most.
-#[derive(Clone, Copy, Debug, PartialEq, Eq)]
+#[derive(Clone, Copy)]
 pub enum Pace {
     /// When the distance has ended, each of at most `MAX_INTERVAL`.
     Ended,

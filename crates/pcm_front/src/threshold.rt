@@ -12,7 +12,7 @@ pub const MAX_THRESHOLD: u32 = 524_272;
 
 /// How far above and below zero the threshold lies, in the unit of the sums: from 1 to
 /// `MAX_THRESHOLD`.
-#[derive(Clone, Copy, Debug, PartialEq, Eq)]
+#[derive(Clone, Copy)]
 pub enum Threshold {
     /// So far at each sample.
     Fixed(u32),

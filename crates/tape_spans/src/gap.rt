@@ -6,7 +6,7 @@ use crate::span::Mark;
 use tc_address::{Direction, day_labels, number, shortest};
 
 /// How the labels at the two ends of a gap are related.
-#[derive(Clone, Copy, PartialEq, Eq)]
+#[derive(Clone, Copy)]
 pub enum Relation {
     /// They have different counts.
     Count,
@@ -18,7 +18,7 @@ pub enum Relation {
 }
 
 /// What lies between two spans.
-#[derive(Clone, Copy, PartialEq, Eq)]
+#[derive(Clone, Copy)]
 pub struct Gap {
     /// From the end of the last word to the end of the next one.
     pub ticks: u64,

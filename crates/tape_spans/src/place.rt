@@ -26,7 +26,7 @@ pub enum TapePlace {
 }
 
 /// What a frame completes: the span that ends before it, and the gap before a span that begins with it.
-#[derive(Clone, Copy, PartialEq, Eq)]
+#[derive(Clone, Copy)]
 pub struct Cut {
     pub ended: Option<Span>,
     pub gap: Option<Gap>,

@@ -3,7 +3,7 @@
 use tc_address::{Direction, Label};
 
 /// A frame that was heard.
-#[derive(Clone, Copy, PartialEq, Eq)]
+#[derive(Clone, Copy)]
 pub struct Mark {
     pub label: Label,
     /// The way in which the tape moved.
@@ -13,7 +13,7 @@ pub struct Mark {
 }
 
 /// A piece of tape on which each label goes on from the one before it.
-#[derive(Clone, Copy, PartialEq, Eq)]
+#[derive(Clone, Copy)]
 pub struct Span {
     /// The frame that was heard first.
     pub first: Mark,

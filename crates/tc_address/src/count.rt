@@ -5,7 +5,7 @@ ghost use Rattle.tc_address.specs.Count.{system_with};
 use crate::system::System;
 
 /// How the frames of a day are counted.
-#[derive(Clone, Copy, Debug, PartialEq, Eq)]
+#[derive(Clone, Copy, PartialEq, Eq)]
 pub enum Count {
     /// 24 frames a second.
     C24,

@@ -9,7 +9,7 @@ use std::marker::Model;
 use thiserror::Error;
 
 /// A frame address together with its count.
-#[derive(Clone, Copy, Debug, PartialEq, Eq)]
+#[derive(Clone, Copy, PartialEq, Eq)]
 pub struct Label {
     count: Count,
     hours: u32,
@@ -37,7 +37,7 @@ impl Model for Label {
 }
 
 /// The first fault of a frame address, in the order of these variants.
-#[derive(Clone, Copy, Debug, PartialEq, Eq, Drop, Error)]
+#[derive(Clone, Copy, Debug, Drop, Error)]
 pub enum LabelFault {
     /// The hours are above 23.
     #[error("Hours")]

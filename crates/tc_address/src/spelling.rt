@@ -11,7 +11,7 @@ use crate::label::{Label, LabelFault};
 use thiserror::Error;
 
 /// The first fault of a text, in the order of these variants.
-#[derive(Clone, Copy, Debug, PartialEq, Eq, Drop, Error)]
+#[derive(Clone, Copy, Debug, Drop, Error)]
 pub enum TextFault {
     /// There are not eleven bytes.
     #[error("Length")]

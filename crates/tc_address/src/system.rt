@@ -3,7 +3,7 @@ ghost use Rattle.std.specs.Prelude.{◌≡◌};
 ghost use Rattle.tc_address.specs.Count.{rate_of};
 
 /// The frames that a second has. A recording says its system, and it is never guessed.
-#[derive(Clone, Copy, Debug, PartialEq, Eq)]
+#[derive(Clone, Copy)]
 pub enum System {
     /// 24 frames a second.
     F24,

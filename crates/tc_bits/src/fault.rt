@@ -6,7 +6,7 @@ ghost use Rattle.tc_bits.specs.Fault.{name_of};
 use crate::names;
 
 /// The first fault of the fields of a word, in the order of these variants.
-#[derive(Clone, Copy, Debug, PartialEq, Eq)]
+#[derive(Clone, Copy, Debug)]
 pub enum FieldFault {
     /// The frame units are above 9.
     FrameUnits,

@@ -11,7 +11,7 @@ use thiserror::Error;
 
 /// A frame address with its flag bits and user bits. At 30 frames the drop-frame flag decides the
 /// count: it is not set if the label's count is 30, and it is set if that is 30 drop-frame.
-#[derive(Clone, Copy, Debug, PartialEq, Eq)]
+#[derive(Clone, Copy, PartialEq, Eq)]
 pub struct Fields {
     pub(crate) label: Label,
     pub(crate) flags: Flags,

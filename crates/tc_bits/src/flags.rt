@@ -1,7 +1,7 @@
 //! The flag bits of a word. Read next: `user_bits`.
 
 /// The flag bits of a word, kept bit for bit.
-#[derive(Clone, Copy, Debug, PartialEq, Eq)]
+#[derive(Clone, Copy, PartialEq, Eq)]
 pub struct Flags {
     /// The drop-frame flag: bit 10 of an LTC word, bit 14 of a VITC line. At 30 frames it says
     /// that labels are dropped, and at 24 and 25 it has no effect.

@@ -6,7 +6,7 @@ use std::marker::Model;
 
 /// The eight user groups of a word, four bits each, kept bit for bit and not interpreted. In
 /// clauses they are one number below 2 to the 32nd, group 1 least significant.
-#[derive(Clone, Copy, Debug, PartialEq, Eq)]
+#[derive(Clone, Copy, PartialEq, Eq)]
 pub struct UserBits {
     groups: u32,
 }

@@ -1,5 +1,5 @@
 //! Why a pull or a push gave nothing. Read next: `source`.
 
 /// A pull or a push failed by a fault of the source or the sink, which counts it.
-#[derive(Clone, Copy, Debug, PartialEq, Eq)]
+#[derive(Clone, Copy)]
 pub struct Failed;

@@ -3,7 +3,7 @@ use std::alloc::AllocError;
 use thiserror::Error;
 
 /// The first fault of the words, in the order of these variants, and lack of memory.
-#[derive(Clone, Copy, Debug, PartialEq, Eq, Drop, Error)]
+#[derive(Clone, Copy, Debug, Drop, Error)]
 pub enum WordsFault {
     /// This word begins with a dash.
     #[error("Dash")]

@@ -4,7 +4,7 @@ use tc_bits::{FieldFault, Fields};
 use thiserror::Error;
 
 /// What a line of vertical interval time code says.
-#[derive(Clone, Copy, Debug, PartialEq, Eq)]
+#[derive(Clone, Copy, PartialEq, Eq)]
 pub struct VitcWord {
     /// The frame address, the flag bits and the user bits.
     pub fields: Fields,
@@ -13,7 +13,7 @@ pub struct VitcWord {
 }
 
 /// The first fault of 90 bits, in the order of these variants.
-#[derive(Clone, Copy, Debug, PartialEq, Eq, Drop, Error)]
+#[derive(Clone, Copy, Debug, Drop, Error)]
 pub enum LineFault {
     /// The first sync pair, from 0 to 8, that is not 1 and 0.
     #[error("this sync pair is not 1 and 0")]

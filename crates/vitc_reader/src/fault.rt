@@ -4,7 +4,7 @@ use thiserror::Error;
 use vitc_line::LineFault;
 
 /// The first run of a line that can't be taken, counted from 0.
-#[derive(Clone, Copy, Debug, PartialEq, Eq, Drop, Error)]
+#[derive(Clone, Copy, Debug, Drop, Error)]
 pub enum RunFault {
     /// This run is more than a quarter of a cell from each whole number of cells, or from one cell if
     /// it is shorter.
@@ -16,7 +16,7 @@ pub enum RunFault {
 }
 
 /// Why a line gives no word.
-#[derive(Clone, Copy, Debug, PartialEq, Eq, Drop, Error)]
+#[derive(Clone, Copy, Debug, Drop, Error)]
 pub enum ReadFault {
     /// The runs stand for no bits.
     #[error("the runs stand for no bits")]

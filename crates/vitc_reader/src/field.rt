@@ -14,7 +14,7 @@ use tc_address::System;
 use vitc_line::{VitcWord, decode};
 
 /// What the lines of a field say together.
-#[derive(Clone, Copy, PartialEq, Eq)]
+#[derive(Clone, Copy)]
 pub enum FieldAnswer {
     /// Each line that says a word says this one.
     Agreed(VitcWord),

@@ -7,7 +7,7 @@ use std::error::Error;
 use std::fmt;
 
 /// The first fault of a sound file, with the byte place, from 0, at which it is.
-#[derive(Clone, Copy, Debug, PartialEq, Eq)]
+#[derive(Clone, Copy, Debug)]
 pub enum WaveFault {
     /// The first four bytes are none of `RIFF`, `RF64` and `BW64`.
     Riff(u64),

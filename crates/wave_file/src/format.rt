@@ -30,7 +30,7 @@ pub struct WaveFormat {
 }
 
 /// What is asked for of a sound file.
-#[derive(Clone, Copy, Debug, PartialEq, Eq)]
+#[derive(Clone, Copy)]
 pub struct Asked {
     /// The track, from 1 to 64.
     pub track: u32,
