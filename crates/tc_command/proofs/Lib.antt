@@ -1,3 +1,4 @@
 mod BytesPulled
 mod OneEnd
+mod PushedSo
 mod WorkedSo

@@ -4,11 +4,15 @@ pub mod Command
 pub mod Ends
 pub mod Exchange
 pub mod FirstLemmas
+pub mod Halt
 pub mod InputFault
+pub mod KeptBrings
 pub mod KeptGathered
 pub mod KeptWorks
 pub mod Meaning
 pub mod Notes
+pub mod Outlet
+pub mod OutletLemmas
 pub mod PushLemmas
 pub mod Ran
 pub mod Status

@@ -22,22 +22,31 @@
 
 mod engine;
 mod gathered;
+mod halt;
 mod input_fault;
 mod intake;
+mod machine;
 mod making;
 mod notes;
+mod outlet;
+mod output;
 mod piece;
 mod pushing;
+mod running;
 mod status;
 mod stop;
 
 pub use engine::Engine;
 pub use gathered::Gathered;
+pub use halt::Halt;
 pub use input_fault::InputFault;
 pub use intake::{PULLED, work};
+pub use machine::Machine;
 pub use making::{Maker, give_all, make};
 pub use notes::{push_note, stop_note, usage_note};
+pub use output::Output;
 pub use piece::{PIECE, Piece, put_interval};
 pub use pushing::{push_line, push_piece};
+pub use running::run;
 pub use status::Status;
 pub use stop::Stop;

@@ -1,0 +1,49 @@
+use Rattle.std.proofs.Common.{arith, ◌∙◌, subst, take, drop, length, ◌-◌}
+use Rattle.tc_command.specs.KeptBrings.{Brings, brings_more}
+use Rattle.tc_command.specs.Halt.{IsHalt}
+use Rattle.lemmas.specs.Lists.{cut_at, cut_more, within_rest}
+use Rattle.lemmas.specs.Results.{through}
+use Rattle.tc_io.specs.ByteLemmas.{are_bytes}
+use Rattle.tc_command.proofs.running.take_all.Goals as goal
+
+-- the bytes before these were worked on, and then these
+pub bytes-preserved : goal.bytes-preserved
+bytes-preserved g c =
+    let i = c.bytes.invariant in
+    let e = c.in_ok-at.ensures in
+    let n = c.in_ok-at.field-0 in
+    let bytes = c.args.bytes.now in
+    record {
+      within = within_rest c.bytes.at n bytes i.within e.count.1;
+      going = e.going;
+      budget = omega (arith, e.budget, i.budget);
+      falls = λ some. omega (arith, e.budget, i.budget);
+      choice = e.choice ∙ i.choice;
+      works = subst (λ bs. Brings g.O.Output.given (g.M.Machine.stands c.args.machine.now)
+          (g.M.Machine.stands c.take.new.self) c.args.out.now c.take.new.out bs) (cut_more c.bytes.at n bytes)
+          (brings_more g.O.Output.given (g.M.Machine.stands c.args.machine.now) (g.M.Machine.stands c.bytes.machine)
+          (g.M.Machine.stands c.take.new.self) c.args.out.now c.bytes.out c.take.new.out (take c.bytes.at bytes)
+          (take n (take (length bytes - c.bytes.at) (drop c.bytes.at bytes))) (g.O.Output.given_more _ _ _) i.works
+          e.works);
+    }
+
+-- and the rest shows why it halts
+pub returns-in_err-at-clause-halts : goal.returns-in_err-at-clause-halts
+returns-in_err-at-clause-halts g c =
+    let i = c.bytes.invariant in
+    let bytes = c.args.bytes.now in
+    let halts = IsHalt (g.M.Machine.meaning (g.M.Machine.choice c.bytes.machine)) c.in_err-at.field-0.0 in
+    through c.from_residual.result c.from_residual.ensures.1 (λ halt same. rw (same, ← i.choice)
+    (subst (λ bs. Brings g.O.Output.given (g.M.Machine.stands c.args.machine.now) halts c.args.out.now c.take.new.out bs)
+    (cut_at c.bytes.at bytes i.within)
+    (brings_more g.O.Output.given (g.M.Machine.stands c.args.machine.now) (g.M.Machine.stands c.bytes.machine) halts
+    c.args.out.now c.bytes.out c.take.new.out (take c.bytes.at bytes)
+    (take (length bytes - c.bytes.at) (drop c.bytes.at bytes)) (g.O.Output.given_more _ _ _) i.works
+    c.in_err-at.ensures.halts)))
+
+-- the bytes of a slice are bytes
+pub returns-clause-bytes : goal.returns-clause-bytes
+returns-clause-bytes g c = are_bytes c.args.bytes.now c.type_inv.bytes
+
+pub returns-in_err-at-clause-bytes : goal.returns-in_err-at-clause-bytes
+returns-in_err-at-clause-bytes g c = are_bytes c.args.bytes.now c.type_inv.bytes
