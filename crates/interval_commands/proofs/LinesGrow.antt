@@ -1,6 +1,5 @@
 -- What was printed grows by the lines of the events that an interval brings, and the last line counts all of them.
 use Rattle.std.proofs.Common.{◌≡◌, ℕ, ◌+◌, List, [], ◌∷◌, ◌++◌, count_by, sym, ◌∙◌, ap, subst}
-use Rattle.std.specs.declared.option.Option.{Option}
 use Rattle.std.proofs.lemmas.Grind.{flat_map-append}
 use Rattle.lemmas.specs.Lists.{count_by-append}
 use Rattle.biphase.specs.declared.profile.Profile.{Profile}
@@ -13,12 +12,10 @@ use Rattle.direction_reader.specs.StandsFor.{StandsFor}
 use Rattle.direction_reader.specs.Tracker.{profile_of}
 use Rattle.interval_file.specs.declared.header.IntervalHeader.{IntervalHeader}
 use Rattle.report_text.specs.Texts.{event_line, read_end_line}
-use Rattle.tc_command.specs.PushLemmas.{front_of_more}
-use Rattle.tc_io.specs.Sink.{AppendsFront}
 use Rattle.interval_commands.specs.declared.ltc_read.Report.{Report}
-use Rattle.interval_commands.specs.KeptReport.{Feeds, Prints, Stands}
+use Rattle.interval_commands.specs.KeptReport.{Counts, Feeds, Stands}
 use Rattle.direction_reader.specs.Events.{event_list, listed, is_word, is_refused, is_lost}
-use Rattle.interval_commands.specs.LtcRead.{lines, last_line, IsReadPart, IsReadWhole}
+use Rattle.interval_commands.specs.LtcRead.{lines, last_line, IsReadWhole}
 
 -- the lines of events and of more
 lines_of_more : (header : IntervalHeader) (events more : List Event) (written : List ℕ) → written ≡ lines header events
@@ -31,23 +28,15 @@ pub lines_of_both : (header : IntervalHeader) (events : Events)
     → lines header (event_list events) ≡ lines header (listed events.first) ++ lines header (listed events.second)
 lines_of_both header events = flat_map-append (event_line header) (listed events.first) (listed events.second)
 
--- a front of the first of them
-pub front_of_first : (header : IntervalHeader) (events : Events) (old new : Option (List ℕ))
-    → AppendsFront old new (lines header (listed events.first))
-    → AppendsFront old new (lines header (event_list events))
-front_of_first header events old new front =
-    subst (λ (l : List ℕ). AppendsFront old new l) (sym (lines_of_both header events)) (front_of_more old new _ _ front)
-
 -- one interval more
 pub more_printed : (r next : Report) (profile : Profile) (header : IntervalHeader) (intervals written : List ℕ) (x : ℕ)
-    (own : Events)
-    (old new : Option (List ℕ)) → Stands r profile header intervals written → next.header ≡ r.header
+    (own : Events) → Stands r profile header intervals written → next.header ≡ r.header
     → Takes r.reader x next.reader → Feeds r next x own
-    → Prints r next (event_list own) old new
+    → Counts r next (event_list own)
     → ((reader : ReaderState) (intervals : List ℕ) (events : List Event) → StandsFor reader intervals events
     → AreEvents reader.system (profile_of reader.tracker) intervals events)
     → Stands next profile header (intervals ++ x ∷ []) (written ++ lines r.header (event_list own))
-more_printed r next profile header intervals written x own old new s same takes feeds prints law =
+more_printed r next profile header intervals written x own s same takes feeds prints law =
     let all = s.events ++ event_list own in
     let system = takes.system ∙ s.system in
     let keeps = takes.profile ∙ s.keeps in
@@ -69,26 +58,6 @@ more_printed r next profile header intervals written x own old new s same takes 
           ∙ sym (count_by-append is_refused s.events (event_list own));
       lost = prints.lost ∙ ap (λ (n : ℕ). n + count_by is_lost (event_list own)) s.lost
           ∙ sym (count_by-append is_lost s.events (event_list own));
-    }
-
--- the part that is due with one interval more
-pub part_of_more : (r next : Report) (profile : Profile) (header : IntervalHeader) (intervals written : List ℕ) (x : ℕ)
-    (own : Events)
-    → Stands r profile header intervals written → Takes r.reader x next.reader → Feeds r next x own
-    → ((reader : ReaderState) (intervals : List ℕ) (events : List Event) → StandsFor reader intervals events
-    → AreEvents reader.system (profile_of reader.tracker) intervals events)
-    → IsReadPart profile header (intervals ++ x ∷ []) (written ++ lines r.header (event_list own))
-part_of_more r next profile header intervals written x own s takes feeds law =
-    let all = s.events ++ event_list own in
-    record {
-      events = all;
-      are_events = subst (λ (p : Profile). AreEvents header.system p (intervals ++ x ∷ []) all)
-          (takes.profile ∙ s.keeps)
-          (subst (λ (y : System). AreEvents y (profile_of next.reader.tracker) (intervals ++ x ∷ []) all)
-          (takes.system ∙ s.system)
-          (law next.reader _ all (feeds.stands intervals s.events s.reader)));
-      are = ap (λ (h : IntervalHeader). written ++ lines h (event_list own)) s.says
-          ∙ lines_of_more header s.events (event_list own) written s.are;
     }
 
 -- the same numbers give the same line

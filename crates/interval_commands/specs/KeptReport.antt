@@ -1,7 +1,5 @@
 -- What the engine of `ltc-read` keeps. No promise speaks of it.
 use Rattle.std.specs.Prelude.{◌≡◌, ℕ, ◌+◌, ◌*◌, ◌≤◌, List, [], ◌∷◌, ◌++◌, length, count_by, IfSome}
-use Rattle.std.specs.declared.option.Option.{Option}
-use Rattle.std.specs.Io.KnownBytes.{Appends}
 use Rattle.direction_reader.specs.declared.event.Event.{Event}
 use Rattle.direction_reader.specs.declared.event.Event.TheVariants.{Word, Refused, Lost}
 use Rattle.biphase.specs.declared.profile.Profile.{Profile}
@@ -44,9 +42,8 @@ pub record Feeds (before after : Report) (x : ℕ) (own : Events) : Type 0 where
   pub stands : (intervals : List ℕ) (events : List Event) → StandsFor before.reader intervals events
       → StandsFor after.reader (intervals ++ x ∷ []) (events ++ event_list own)
 
--- the lines of these events were pushed, and each of them was counted
-pub record Prints (before after : Report) (events : List Event) (old new : Option (List ℕ)) : Type 0 where
-  pub pushed : Appends old new (lines before.header events)
+-- each of these events was counted
+pub record Counts (before after : Report) (events : List Event) : Type 0 where
   pub words : after.words ≡ before.words + count_by is_word events
   pub refused : after.refused ≡ before.refused + count_by is_refused events
   pub lost : after.lost ≡ before.lost + count_by is_lost events

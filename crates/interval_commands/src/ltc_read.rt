@@ -1,7 +1,6 @@
 //! The engine of `ltc-read`: intervals become events, and events become lines. Read next:
 //! `direction_reader/src/reader.rt`, and `report_text/src/event.rt` for the lines.
-ghost use Rattle.std.specs.Prelude.{◌≡◌, ◌≤◌, ◌<◌, ◌+◌, ◌*◌, List, ◌∷◌, ◌++◌, [], ℕ, OnOk, OnErr, IfOk, IfErr, IfSome};
-ghost use Rattle.std.specs.Io.KnownBytes.{Appends};
+ghost use Rattle.std.specs.Prelude.{◌≡◌, ◌≤◌, ◌<◌, ◌+◌, ◌*◌, List, ◌∷◌, ◌++◌, [], ℕ, IfSome};
 ghost use Rattle.limits.specs.declared.recording.TheConstants.{MAX_INTERVAL, MAX_INTERVALS};
 ghost use Rattle.direction_reader.specs.declared.event.Event.{Event};
 ghost use Rattle.direction_reader.specs.declared.event.Events.{Events};
@@ -11,11 +10,8 @@ ghost use Rattle.direction_reader.specs.StandsFor.{MayTell, Tells};
 ghost use Rattle.interval_file.specs.declared.header.IntervalHeader.{IntervalHeader};
 ghost use Rattle.interval_file.specs.IntervalHeader.{IsTickRate};
 ghost use Rattle.report_text.specs.Texts.{event_line, read_end_line, FitsLine};
-ghost use Rattle.tc_io.specs.Sink.{AppendsFront};
-ghost use Rattle.tc_io.specs.Source.{Rose};
-ghost use Rattle.tc_command.specs.Causes.{HasOutCause};
 ghost use Rattle.interval_commands.specs.LtcRead.{lines, report};
-ghost use Rattle.interval_commands.specs.KeptReport.{counted, all_counted, Feeds, FitLines, FitsReport, Prints, Stands};
+ghost use Rattle.interval_commands.specs.KeptReport.{counted, all_counted, Counts, Feeds, FitLines, FitsReport, Stands};
 ghost use Rattle.tc_command.specs.Told.{IsLawful, IsTold, WorksAsTold};
 ghost use Rattle.interval_commands.specs.Tape.{told_ltc_read};
 ghost use Rattle.biphase.specs.declared.profile.Profile.{Profile};
@@ -34,8 +30,8 @@ use interval_file::IntervalHeader;
 use limits::{MAX_INTERVAL, MAX_INTERVALS};
 use line_text::Text;
 use report_text::{event_text, read_end_text};
-use tc_command::{Stop, push_line};
-use tc_io::{Failed, Sink, Source};
+use tc_command::{Output, Stop};
+use tc_io::{Sink, Source};
 
 /// Works `ltc-read`, and under the other tolerances its like: a line for each event of a recording, and the
 /// last line.
@@ -82,102 +78,72 @@ struct Report {
 }
 
 impl Report {
-    /// Takes an interval, of `x` ticks, and pushes the lines of what it brought.
+    /// Takes an interval, of `x` ticks, and writes the lines of what it brought.
     #[inline(always)]
-    fn feed<K: Sink>(&mut self, x: u32, out: &mut K) -> Result<(), Stop>
+    fn feed<O: Output>(&mut self, x: u32, out: &mut O)
         requires least { 1 ≤ x }
         requires most { x ≤ MAX_INTERVAL }
         requires room { self.old.reader.intervals < MAX_INTERVALS }
         requires fits { FitsReport self.old }
-        ensures fits { OnOk result (FitsReport self.new) }
+        ensures fits { FitsReport self.new }
         ensures takes { Takes self.old.reader x self.new.reader }
         ensures header { self.new.header ≡ self.old.header }
-        ensures prints { OnOk result ((own : Events) × Feeds self.old self.new x own
-            × Prints self.old self.new (event_list own) (K.written out.old) (K.written out.new)) }
-        ensures front { OnErr result ((own : Events) × Feeds self.old self.new x own
-            × AppendsFront (K.written out.old) (K.written out.new) (lines self.old.header (event_list own))) }
-        ensures why { IfErr result (λ stop. stop ≡ Stop.WriteFault) }
-        ensures cause { HasOutCause (K.faults out.old) (K.faults out.new) result }
+        ensures prints { (own : Events) × Feeds self.old self.new x own × Counts self.old self.new (event_list own)
+            × O.given out.old out.new (lines self.old.header (event_list own)) }
     {
         match self.reader.step(x) {
-            Brought::Nothing => Ok(()),
-            brought => match self.print(brought, out) {
-                Ok(()) => Ok(()),
-                Err(Failed) => Err(Stop::WriteFault),
-            },
+            Brought::Nothing => (),
+            brought => self.print(brought, out),
         }
     }
 
-    /// Prints what the latest interval brought. Nearly every interval brings nothing, and a small answer
-    /// costs those nothing.
-    // An answer that may be a `Stop` goes through memory: with it `ltc-read` took 63.6 instructions an interval in
-    // place of 59.5.
+    /// Prints what the latest interval brought. Nearly every interval brings nothing.
     #[cold]
     #[inline(never)]
-    fn print<K: Sink>(&mut self, brought: Brought, out: &mut K) -> Result<(), Failed>
+    fn print<O: Output>(&mut self, brought: Brought, out: &mut O)
         requires taken { 1 ≤ self.old.reader.intervals }
         requires within { self.old.reader.intervals ≤ MAX_INTERVALS }
         requires sum { self.old.reader.tick ≤ self.old.reader.intervals * MAX_INTERVAL }
         requires may { MayTell self.old.reader brought }
         requires header { IsTickRate self.old.header.tick_rate }
         requires events { self.old.words + self.old.refused + self.old.lost + 2 ≤ 2 * self.old.reader.intervals }
-        ensures fits { OnOk result (FitsReport self.new) }
+        ensures fits { FitsReport self.new }
         ensures reader { self.new.reader ≡ self.old.reader }
         ensures header { self.new.header ≡ self.old.header }
-        ensures prints { OnOk result ((own : Events) × Tells self.old.reader brought own
-            × Prints self.old self.new (event_list own) (K.written out.old) (K.written out.new)) }
-        ensures front { OnErr result ((own : Events) × Tells self.old.reader brought own
-            × AppendsFront (K.written out.old) (K.written out.new) (lines self.old.header (event_list own))) }
-        ensures same { OnOk result (K.faults out.new ≡ K.faults out.old) }
-        ensures rose { OnErr result (Rose (K.faults out.old) (K.faults out.new)) }
+        ensures prints { (own : Events) × Tells self.old.reader brought own × Counts self.old self.new (event_list own)
+            × O.given out.old out.new (lines self.old.header (event_list own)) }
     {
         let events = self.reader.events(brought);
-        match self.push(events, out) {
-            Ok(()) => Ok(()),
-            Err(_) => Err(Failed),
-        }
+        self.write(events, out);
     }
 
-    /// Counts the events of an interval, and pushes their lines.
-    fn push<K: Sink>(&mut self, events: Events, out: &mut K) -> Result<(), Stop>
+    /// Counts the events of an interval, and writes their lines.
+    fn write<O: Output>(&mut self, events: Events, out: &mut O)
         requires lines { FitLines events }
         requires header { IsTickRate self.old.header.tick_rate }
         requires room { self.old.words + self.old.refused + self.old.lost ≤ 2 * MAX_INTERVALS }
-        ensures counted { OnOk result (self.new ≡ all_counted (event_list events) self.old) }
+        ensures counted { self.new ≡ all_counted (event_list events) self.old }
         ensures reader { self.new.reader ≡ self.old.reader }
         ensures header { self.new.header ≡ self.old.header }
-        ensures all { OnOk result (Appends (K.written out.old) (K.written out.new)
-            (lines self.old.header (event_list events))) }
-        ensures front { OnErr result (AppendsFront (K.written out.old) (K.written out.new)
-            (lines self.old.header (event_list events))) }
-        ensures why { IfErr result (λ stop. stop ≡ Stop.WriteFault) }
-        ensures cause { HasOutCause (K.faults out.old) (K.faults out.new) result }
+        ensures lines { O.given out.old out.new (lines self.old.header (event_list events)) }
     {
-        self.push_one(&events.first, out)?;
-        self.push_one(&events.second, out)
+        self.write_one(&events.first, out);
+        self.write_one(&events.second, out);
     }
 
-    /// Counts an event and pushes its line, if there is one.
-    fn push_one<K: Sink>(&mut self, event: &Option<Event>, out: &mut K) -> Result<(), Stop>
+    /// Counts an event and writes its line, if there is one.
+    fn write_one<O: Output>(&mut self, event: &Option<Event>, out: &mut O)
         requires line { IfSome event.now FitsLine }
         requires header { IsTickRate self.old.header.tick_rate }
         requires room { self.old.words + self.old.refused + self.old.lost ≤ 2 * MAX_INTERVALS + 1 }
         ensures counted { self.new ≡ all_counted (listed event.now) self.old }
         ensures reader { self.new.reader ≡ self.old.reader }
         ensures header { self.new.header ≡ self.old.header }
-        ensures all { OnOk result (Appends (K.written out.old) (K.written out.new)
-            (lines self.old.header (listed event.now))) }
-        ensures front { OnErr result (AppendsFront (K.written out.old) (K.written out.new)
-            (lines self.old.header (listed event.now))) }
-        ensures why { IfErr result (λ stop. stop ≡ Stop.WriteFault) }
-        ensures cause { HasOutCause (K.faults out.old) (K.faults out.new) result }
+        ensures line { O.given out.old out.new (lines self.old.header (listed event.now)) }
     {
-        match event {
-            Some(event) => {
-                self.count(event);
-                push_line(out, &event_text(event, &self.header))
-            }
-            None => Ok(()),
+        if let Some(event) = event {
+            self.count(event);
+            out.write(&event_text(event, &self.header));
         }
     }
 
@@ -210,7 +176,6 @@ impl Report {
 }
 
 impl Behind for Report {
-    ghost use Rattle.std.specs.Prelude.{⊤};
     ghost use Rattle.interval_commands.specs.LtcRead.{report};
     ghost use Rattle.interval_commands.specs.KeptReport.{FitsReport, Stands, stands_well};
 
@@ -222,34 +187,24 @@ impl Behind for Report {
 
     ghost stands = { λ r profile header intervals written. Stands r profile header intervals written };
 
-    ghost is_settled = { λ _. ⊤ };
-
-    ghost stands_well = { λ r profile header intervals written settled stands.
+    ghost stands_well = { λ r profile header intervals written stands.
         stands_well r profile header intervals written stands };
 
-    fn begin<K: Sink>(
-        profile: Profile,
-        header: IntervalHeader,
-        _out: &mut K,
-    ) -> Result<Report, Stop> {
+    fn begin<O: Output>(profile: Profile, header: IntervalHeader, _out: &mut O) -> Report {
         a_reader_gives_the_events_of_its_list();
-        Ok(Report {
+        Report {
             header,
             reader: DirectionReader::new(header.system, profile),
             words: 0,
             refused: 0,
             lost: 0,
-        })
+        }
     }
 
     #[inline(always)]
-    fn interval<K: Sink>(&mut self, x: u32, out: &mut K) -> Result<(), Stop> {
+    fn interval<O: Output>(&mut self, x: u32, out: &mut O) {
         a_reader_gives_the_events_of_its_list();
-        self.feed(x, out)
-    }
-
-    fn flush<K: Sink>(&mut self, _out: &mut K) -> Result<(), Stop> {
-        Ok(())
+        self.feed(x, out);
     }
 
     /// It has no limit of its own.
@@ -258,7 +213,7 @@ impl Behind for Report {
         false
     }
 
-    fn finish<K: Sink>(&mut self, out: &mut K) -> Result<(), Stop> {
-        push_line(out, &self.end_text())
+    fn finish<O: Output>(&mut self, out: &mut O) {
+        out.write(&self.end_text());
     }
 }

@@ -1,16 +1,12 @@
 -- What an item of an interval file does to a command along it: nothing, a header or an interval more leaves it
--- standing, and else this is
--- why it stops, whatever bytes follow.
-use Rattle.std.proofs.Common.{◌≡◌, ℕ, inl, inr, ◌+◌, ◌-◌, ◌<◌, ◌≤◌, List, [], ◌∷◌, ◌++◌, length, take, drop, Ok, Err}
+-- standing, and else this is why it halts, whatever bytes follow.
+use Rattle.std.proofs.Common.{◌≡◌, ℕ, ◌+◌, ◌-◌, ◌<◌, ◌≤◌, List, [], ◌∷◌, ◌++◌, length, take, drop, Ok, Err}
 use Rattle.std.proofs.Common.{Bool, true, false, Some, None}
 use Rattle.std.proofs.Common.{refl, sym, ◌∙◌, ap, ap₂, subst, append_assoc, append-nil, fold, arith, length-append}
 use Rattle.std.specs.Prelude.{nat_lt, if◌then◌else◌}
 use Rattle.std.proofs.lemmas.List.{take-append-drop}
 use Rattle.std.specs.declared.option.Option.{Option}
-use Rattle.std.specs.Io.KnownBytes.{Appends}
-use Rattle.std.proofs.KnownBytes.{Appends-nil, Appends-trans}
 use Rattle.std.proofs.lemmas.Bool.{lt-ltb, le-ltb}
-use Rattle.tc_io.specs.Sink.{AppendsFront, IsFront}
 use Rattle.limits.specs.declared.recording.TheConstants.{MAX_INTERVALS}
 use Rattle.interval_file.specs.declared.fault.IntervalFileFault.{IntervalFileFault}
 use Rattle.interval_file.specs.declared.decoder.Taken.{Taken}
@@ -27,13 +23,8 @@ use Rattle.interval_file.specs.Decoding.{with_number, with_taken}
 use Rattle.interval_file.specs.Recording.{Recording, recording_of}
 use Rattle.tc_io.specs.Verdict.{Verdict, good, refused, past_limit, verdict_as}
 use Rattle.tc_command.specs.declared.input_fault.InputFault.TheVariants.{Intervals}
-use Rattle.tc_command.specs.declared.stop.Stop.{Stop}
-use Rattle.tc_command.specs.declared.stop.Stop.TheVariants.{Refused, ReadFault, WriteFault, Limit}
-use Rattle.interval_engine.specs.Along.{Printing, IsPartOf, IsSpentOf, along_intervals}
-use Rattle.tc_command.specs.Causes.{OutCause}
-use Rattle.interval_engine.specs.KeptAlong.{HasHeader, IntervalStops, Printed, Stands, longer, stop_at, Halts, IsHalt}
-use Rattle.tc_command.specs.Status.{status_of}
-use Rattle.tc_command.specs.Stops.{Stops}
+use Rattle.tc_command.specs.declared.halt.Halt.TheVariants.{Refused, Limit}
+use Rattle.interval_engine.specs.KeptAlong.{HasHeader, IsHalt, Printed, Stands, halt_at, longer}
 use Rattle.lemmas.specs.Lists.{cut_at}
 use Rattle.interval_engine.proofs.VerdictStays.{good_step, more_bytes, past_is_all, refused_is_all}
 
@@ -166,101 +157,52 @@ printed_now stands behind choice r s v written printed e =
     (at_verdict stands behind choice r v written printed))
 
 -- past the limit
-pub a_limit : ReadsWhatIsSaid → {B C : Type 0} (p : Printing) (stands : Relation B C)
+pub a_limit : ReadsWhatIsSaid → {B C : Type 0} (stands : Relation B C)
     → (decoder next : Progress) (behind : Option B) (count : ℕ) (choice : C) (x : ℕ) (front bytes rest written : List ℕ)
     → Stands stands decoder behind count choice front written → Completes front bytes (Interval x) next
-    → count ≡ MAX_INTERVALS
-    → IsHalt p stands behind choice Limit (front ++ (bytes ++ rest)) (written ++ [])
-a_limit said p stands decoder next behind count choice x front bytes rest written s is full =
+    → MAX_INTERVALS ≤ count
+    → IsHalt stands behind choice Limit (front ++ (bytes ++ rest)) (written ++ [])
+a_limit said stands decoder next behind count choice x front bytes rest written s is full =
     let r = recording_of front in
     let past : with_item r (Interval x) ≡ verdict_now r past_limit =
     rw (le-ltb (length r.intervals) MAX_INTERVALS (let counts = s.counts in omega arith)) refl in
     let now = ends_past said front bytes rest r (completed front bytes (Interval x) next is s.good ∙ past) in
-    inl (
-      ap (λ (t : Recording). verdict_as Intervals t.verdict) now,
-      printed_now stands behind choice r _ past_limit
-          written s.printed now,
-    )
+    record {
+      shows = ap (λ (t : Recording). verdict_as Intervals t.verdict) now;
+      printed = printed_now stands behind choice r _ past_limit written s.printed now;
+    }
 
 -- a fault
-at_fault : ReadsWhatIsSaid → {B C : Type 0} (p : Printing) (stands : Relation B C)
+at_fault : ReadsWhatIsSaid → {B C : Type 0} (stands : Relation B C)
     → (behind : Option B) (choice : C) (f : IntervalFileFault) (front bytes rest written : List ℕ) (below : Bool)
     → Printed stands behind choice (recording_of front) written
     → recording_of (front ++ bytes) ≡ verdict_now (recording_of front) (if below then refused f else past_limit)
-    → IsHalt p stands behind choice (if below then Refused (Intervals f) else Limit) (front ++ (bytes ++ rest))
+    → IsHalt stands behind choice (if below then Refused (Intervals f) else Limit) (front ++ (bytes ++ rest))
     (written ++ [])
-at_fault said p stands behind choice f front bytes rest written true printed e =
-    let now = ends_refused said front bytes rest f (recording_of front) e in (
-      ap (λ (t : Recording). verdict_as Intervals t.verdict) now,
-      printed_now stands behind choice (recording_of front) _
-          (refused f) written printed now,
-    )
-at_fault said p stands behind choice f front bytes rest written false printed e =
+at_fault said stands behind choice f front bytes rest written true printed e =
+    let now = ends_refused said front bytes rest f (recording_of front) e in
+    record {
+      shows = ap (λ (t : Recording). verdict_as Intervals t.verdict) now;
+      printed = printed_now stands behind choice (recording_of front) _ (refused f) written printed now;
+    }
+at_fault said stands behind choice f front bytes rest written false printed e =
     let now = ends_past said front bytes rest (recording_of front) e in
-    inl (
-      ap (λ (t : Recording). verdict_as Intervals t.verdict) now,
-      printed_now stands behind choice
-          (recording_of front) _ past_limit written printed now,
-    )
+    record {
+      shows = ap (λ (t : Recording). verdict_as Intervals t.verdict) now;
+      printed = printed_now stands behind choice (recording_of front) _ past_limit written printed now;
+    }
 
-pub a_fault : ReadsWhatIsSaid → {B C : Type 0} (p : Printing) (stands : Relation B C)
+pub a_fault : ReadsWhatIsSaid → {B C : Type 0} (stands : Relation B C)
     → (decoder next : Progress) (behind : Option B) (count : ℕ) (choice : C) (f : IntervalFileFault)
     (front bytes rest written : List ℕ)
     → Stands stands decoder behind count choice front written → Completes front bytes (Fault f) next
-    → IsHalt p stands behind choice (stop_at count f) (front ++ (bytes ++ rest)) (written ++ [])
-a_fault said p stands decoder next behind count choice f front bytes rest written s is =
-    subst (λ (n : ℕ). IsHalt p stands behind choice (stop_at n f) (front ++ (bytes ++ rest)) (written ++ []))
+    → IsHalt stands behind choice (halt_at count f) (front ++ (bytes ++ rest)) (written ++ [])
+a_fault said stands decoder next behind count choice f front bytes rest written s is =
+    subst (λ (n : ℕ). IsHalt stands behind choice (halt_at n f) (front ++ (bytes ++ rest)) (written ++ []))
     (sym s.counts)
-    (at_fault said p stands behind choice f front bytes rest written
+    (at_fault said stands behind choice f front bytes rest written
     (nat_lt (length (recording_of front).intervals) MAX_INTERVALS) s.printed
     (completed front bytes (Fault f) next is s.good))
-
--- a push that failed: a front of what was due with the item was written
-front_of_part : (m : List ℕ → List ℕ → Type 0) (old new : Option (List ℕ)) (front bytes rest written part : List ℕ)
-    → m (front ++ bytes) (written ++ part)
-    → AppendsFront old new part
-    → (more : List ℕ) × Appends old new more
-    × ((due whole : List ℕ) × IsFront due (front ++ (bytes ++ rest)) × m due whole × IsFront (written ++ more) whole)
-front_of_part m old new front bytes rest written part is f =
-    let e : written ++ part ≡ (written ++ f.0) ++ f.1.0 = ap (λ (l : List ℕ). written ++ l) f.1.1
-    ∙ sym (append_assoc written f.0 f.1.0) in
-    (f.0, f.2, (front ++ bytes, written ++ part, (rest, sym (append_assoc front bytes rest)), is, (f.1.0, e)))
-
--- of an interval
-pub a_write_fault : {B C : Type 0} (printing : C → Printing) (stands : Relation B C)
-    → (decoder next : Progress) (b : B) (count : ℕ) (choice : C) (x : ℕ) (old new : Option (List ℕ))
-    (front bytes rest written : List ℕ)
-    → Stands stands decoder (Some b) count choice front written → Completes front bytes (Interval x) next
-    → IntervalStops (printing choice) stands (Some b) count choice old new x WriteFault
-    → Stops (along_intervals (printing choice)) WriteFault old new (front ++ (bytes ++ rest)) written
-a_write_fault printing stands decoder next b count choice x old new front bytes rest written s is why =
-    let same = one_longer stands decoder next (Some b) count choice x front bytes written s is why.0 in
-    let part = why.1 (recording_of front) written s.printed in
-    front_of_part (λ due w. IsPartOf (printing choice) (recording_of due) w) old new front bytes rest written part.0
-    (subst (λ (r : Recording). IsPartOf (printing choice) r (written ++ part.0)) (sym same) part.1) part.2
-
--- of a header
-pub a_header_fault : {B C : Type 0} (printing : C → Printing) (stands : Relation B C)
-    → (decoder next : Progress) (before : Option B) (count : ℕ) (choice : C) (header : IntervalHeader)
-    (old new : Option (List ℕ))
-    (front bytes rest written part : List ℕ) → HasHeader before decoder.taken → decoder.taken + 1 ≡ 12
-    → Stands stands decoder before count choice front written → Completes front bytes (Header header) next
-    → Printing.part (printing choice) header [] part → AppendsFront old new part
-    → Stops (along_intervals (printing choice)) WriteFault old new (front ++ (bytes ++ rest)) written
-a_header_fault printing stands decoder next (Some b) count choice header old new front bytes rest written part has
-    twelve s is begun pushed =
-    absurd (omega (arith, has, twelve))
-a_header_fault printing stands decoder next None count choice header old new front bytes rest written part has twelve s
-    is begun pushed =
-    let p = s.printed in
-    let same = completed front bytes (Header header) next is s.good in
-    let first : Recording = record { header = Some header; intervals = []; verdict = (recording_of front).verdict } in
-    let begins : recording_of (front ++ bytes) ≡ first = same ∙ rw (p.0, p.1) refl in
-    let now : Printing.part (printing choice) header [] (written ++ part) =
-    subst (λ (w : List ℕ). Printing.part (printing choice) header [] w) (ap (λ (w : List ℕ). w ++ part) (sym p.2)) begun
-    in
-    front_of_part (λ due w. IsPartOf (printing choice) (recording_of due) w) old new front bytes rest written part
-    (subst (λ (r : Recording). IsPartOf (printing choice) r (written ++ part)) (sym begins) now) pushed
 
 -- ---- the bytes of an item
 
@@ -283,161 +225,6 @@ by_byte said decoder front byte item same says =
     completes said front (byte ∷ []) item (after decoder byte)
     (ap₂ (λ (p : Progress) (i : Taken). record { progress = after p byte; recording = with_taken (decoded front) i })
     (sym same) (ap (λ (p : Progress). answer p byte) (sym same) ∙ sym says))
-
--- why an interval stops the command
-pub interval_stops : ReadsWhatIsSaid → {B C : Type 0} (printing : C → Printing) (stands : Relation B C)
-    → (decoder next : Progress) (behind after : Option B) (count : ℕ) (choice : C) (x : ℕ) (old new : Option (List ℕ))
-    (front bytes rest written : List ℕ)
-    (stop : Stop) → HasHeader behind decoder.taken → 12 ≤ decoder.taken
-    → Stands stands decoder behind count choice front written → Completes front bytes (Interval x) next
-    → IntervalStops (printing choice) stands behind count choice old new x stop → (stop ≡ Limit → after ≡ behind)
-    → Halts (printing choice) stands after choice stop old new (front ++ (bytes ++ rest)) written
-interval_stops said printing stands decoder next behind now count choice x old new front bytes rest written
-    Limit has late s is why stays = (
-      [],
-      why.1,
-      subst (λ (b : Option _). IsHalt (printing choice) stands b choice Limit (front ++ (bytes ++ rest))
-          (written ++ [])) (sym (stays refl))
-          (a_limit said (printing choice) stands decoder next behind count choice x front bytes rest written s is
-          why.0),
-    )
-interval_stops said printing stands decoder next None now count choice x old new front bytes rest written
-    WriteFault has late s is why stays =
-    absurd (omega (arith, has, late))
-interval_stops said printing stands decoder next (Some b) now count choice x old new front bytes rest written
-    WriteFault has late s is why stays =
-    a_write_fault printing stands decoder next b count choice x old new front bytes rest written s is why
-interval_stops said printing stands decoder next behind now count choice x old new front bytes rest written
-    ReadFault has late s is why stays =
-    absurd why
-interval_stops said printing stands decoder next behind now count choice x old new front bytes rest written
-    (Refused f) has late s is why stays =
-    absurd why
-
--- ---- what is gathered is pushed
-
--- what a push of it does
-abbrev pub Pushes : {B C : Type 0} → Relation B C → C → Option B → Option B → Option (List ℕ) → Option (List ℕ) → Type 0
-Pushes stands choice before after old new = (r : Recording) (written : List ℕ) → Printed stands before choice r written
-    → (more : List ℕ) × Appends old new more × Printed stands after choice r (written ++ more)
-
-abbrev pub PushesFront : {B C : Type 0} → Printing → Relation B C → C → Option B → Option (List ℕ) → Option (List ℕ)
-    → Type 0
-PushesFront p stands choice before old new = (r : Recording) (written : List ℕ) → Printed stands before choice r written
-    → (part : List ℕ) × IsPartOf p r (written ++ part) × AppendsFront old new part
-
--- it was pushed behind what was written before
-both_pushed : {B C : Type 0} (stands : Relation B C) (before after : Option B) (choice : C)
-    (old mid new : Option (List ℕ))
-    (r : Recording) (written more : List ℕ) → Appends old mid more → Printed stands before choice r (written ++ more)
-    → Pushes stands choice before after mid new → (all : List ℕ) × Appends old new all
-    × Printed stands after choice r (written ++ all)
-both_pushed stands before now choice old mid new r written more first printed pushes =
-    let second = pushes r (written ++ more) printed in (
-      more ++ second.0,
-      Appends-trans old mid new more second.0 first second.1,
-      subst (λ (w : List ℕ). Printed stands now choice r w) (append_assoc written more second.0) second.2,
-    )
-
--- what was written is the part of the output, if nothing is gathered
-abbrev pub PrintsWell : {B C : Type 0} → Printing → Relation B C → C → Option B → Type 0
-PrintsWell p stands choice after = (r : Recording) (written : List ℕ) → Printed stands after choice r written
-    → IsPartOf p r written
-
--- all bytes are a front of themselves
-all_of : (bytes : List ℕ) → IsFront bytes bytes
-all_of bytes = ([], sym (append-nil bytes))
-
--- the part is written when the command stopped, within a limit of its own
-pub settled_stop : {B C : Type 0} (p : Printing) (stands : Relation B C) (before after : Option B) (choice : C)
-    (stop : Stop)
-    (old mid new : Option (List ℕ)) (pulled written : List ℕ) → (stop ≡ WriteFault → ⊥)
-    → Halts p stands before choice stop old mid pulled written → Pushes stands choice before after mid new
-    → PrintsWell p stands choice after
-    → ((r : Recording) (w : List ℕ) → Printed stands after choice r w → ¬ IsSpentOf p r)
-    → Stops (along_intervals p) stop old new pulled written
-settled_stop p stands before now choice (Refused f) old mid new pulled written other h pushes well within =
-    let all = both_pushed stands before now choice old mid new (recording_of pulled) written h.0 h.1 h.2.1 pushes in
-    (all.0, all.1, (record { is = h.2.0; unspent = within _ _ all.2 }, well _ _ all.2))
-settled_stop p stands before now choice Limit old mid new pulled written other (more, first, inl h) pushes well within =
-    let all = both_pushed stands before now choice old mid new (recording_of pulled) written more first h.1 pushes in
-    (all.0, all.1, inl (record { is = h.0; unspent = within _ _ all.2 }, well _ _ all.2))
-settled_stop p stands before now choice Limit old mid new pulled written other (more, first, inr h) pushes well within =
-    let all = both_pushed stands before now choice old mid new (recording_of h.0) written more first h.3 pushes in
-    (all.0, all.1, inr (h.0, h.1, h.2, well _ _ all.2))
-settled_stop p stands before now choice WriteFault old mid new pulled written other h pushes well within =
-    absurd (other refl)
-settled_stop p stands before now choice ReadFault old mid new pulled written other h pushes well within = absurd h.2
-
--- and if it passes a limit of its own, that is why it stops
-pub spent_stop : {B C : Type 0} (p : Printing) (stands : Relation B C) (before after : Option B) (choice : C)
-    (stop : Stop)
-    (old mid new : Option (List ℕ)) (pulled written : List ℕ) → (stop ≡ WriteFault → ⊥)
-    → Halts p stands before choice stop old mid pulled written → Pushes stands choice before after mid new
-    → PrintsWell p stands choice after
-    → ((r : Recording) (w : List ℕ) → Printed stands after choice r w → IsSpentOf p r)
-    → Stops (along_intervals p) Limit old new pulled written
-spent_stop p stands before now choice (Refused f) old mid new pulled written other h pushes well past =
-    let all = both_pushed stands before now choice old mid new (recording_of pulled) written h.0 h.1 h.2.1 pushes in
-    (all.0, all.1, inr (pulled, all_of pulled, past _ _ all.2, well _ _ all.2))
-spent_stop p stands before now choice Limit old mid new pulled written other (more, first, inl h) pushes well past =
-    let all = both_pushed stands before now choice old mid new (recording_of pulled) written more first h.1 pushes in
-    (all.0, all.1, inr (pulled, all_of pulled, past _ _ all.2, well _ _ all.2))
-spent_stop p stands before now choice Limit old mid new pulled written other (more, first, inr h) pushes well past =
-    let all = both_pushed stands before now choice old mid new (recording_of h.0) written more first h.3 pushes in
-    (all.0, all.1, inr (h.0, h.1, h.2, well _ _ all.2))
-spent_stop p stands before now choice WriteFault old mid new pulled written other h pushes well past =
-    absurd (other refl)
-spent_stop p stands before now choice ReadFault old mid new pulled written other h pushes well past = absurd h.2
-
--- if the push fails, a front of the part is written
-front_pushed : {B C : Type 0} (p : Printing) (stands : Relation B C) (before : Option B) (choice : C)
-    (old mid new : Option (List ℕ))
-    (due pulled written more : List ℕ) → IsFront due pulled → Appends old mid more
-    → Printed stands before choice (recording_of due) (written ++ more)
-    → PushesFront p stands choice before mid new → Stops (along_intervals p) WriteFault old new pulled written
-front_pushed p stands before choice old mid new due pulled written more comes first printed pushes =
-    let second = pushes (recording_of due) (written ++ more) printed in
-    let f = second.2 in
-    let e : (written ++ more) ++ second.0 ≡ (written ++ (more ++ f.0)) ++ f.1.0 =
-    ap (λ (l : List ℕ). (written ++ more) ++ l) f.1.1 ∙ sym (append_assoc (written ++ more) f.0 f.1.0)
-    ∙ ap (λ (l : List ℕ). l ++ f.1.0) (append_assoc written more f.0) in (
-      more ++ f.0,
-      Appends-trans old mid new more f.0 first f.2,
-      (due, (written ++ more) ++ second.0, comes, second.1, (f.1.0, e)),
-    )
-
-pub unsettled_stop : {B C : Type 0} (p : Printing) (stands : Relation B C) (before : Option B) (choice : C)
-    (stop : Stop)
-    (old mid new : Option (List ℕ)) (pulled written : List ℕ) → (stop ≡ WriteFault → ⊥)
-    → Halts p stands before choice stop old mid pulled written → PushesFront p stands choice before mid new
-    → Stops (along_intervals p) WriteFault old new pulled written
-unsettled_stop p stands before choice (Refused f) old mid new pulled written other h pushes =
-    front_pushed p stands before choice old mid new pulled pulled written h.0 (all_of pulled) h.1 h.2.1 pushes
-unsettled_stop p stands before choice Limit old mid new pulled written other (more, first, inl h) pushes =
-    front_pushed p stands before choice old mid new pulled pulled written more (all_of pulled) first h.1 pushes
-unsettled_stop p stands before choice Limit old mid new pulled written other (more, first, inr h) pushes =
-    front_pushed p stands before choice old mid new h.0 pulled written more h.1 first h.3 pushes
-unsettled_stop p stands before choice WriteFault old mid new pulled written other h pushes = absurd (other refl)
-unsettled_stop p stands before choice ReadFault old mid new pulled written other h pushes = absurd h.2
-
--- and between two pulls
-pub push_stops : {B C : Type 0} (p : Printing) (stands : Relation B C) (behind : Option B) (choice : C)
-    (old new : Option (List ℕ)) (pulled written : List ℕ)
-    → Printed stands behind choice (recording_of pulled) written → PushesFront p stands choice behind old new
-    → Stops (along_intervals p) WriteFault old new pulled written
-push_stops p stands behind choice old new pulled written printed pushes =
-    front_pushed p stands behind choice old old new pulled pulled written [] (all_of pulled) (Appends-nil old)
-    (subst (λ (w : List ℕ). Printed stands behind choice (recording_of pulled) w) (sym (append-nil written)) printed)
-    pushes
-
--- an output that did not fail is as before, whatever the command stops for
-pub no_cause : (stop : Stop) (before now : ℕ) → (stop ≡ WriteFault → ⊥) → OutCause (status_of stop) before now
-    → now ≡ before
-no_cause (Refused f) before now other cause = cause
-no_cause Limit before now other cause = cause
-no_cause ReadFault before now other cause = cause
-no_cause WriteFault before now other cause = absurd (other refl)
 
 -- the `width` bytes of an interval
 pub by_number : ReadsWhatIsSaid → (decoder : Progress) (front bytes : List ℕ) (width x : ℕ)

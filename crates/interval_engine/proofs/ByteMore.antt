@@ -1,25 +1,17 @@
 -- A byte that completes no fault leaves the command going: no fault was met, and its counts fit each other.
 use Rattle.std.proofs.Common.{◌≡◌, ℕ, ◌+◌, ◌-◌, ◌<◌, ◌≤◌, List, [], ◌++◌, length, Some, None, refl, sym, ◌∙◌, ap, arith}
 use Rattle.std.proofs.lemmas.Grind.{common_steps}
-use Rattle.std.proofs.Common.{append-nil, take, length-append, subst, Bool, true, false, Err}
-use Rattle.std.specs.Prelude.{◌≢◌, IsSome, nat_lt, if◌then◌else◌}
+use Rattle.std.proofs.Common.{take, length-append}
+use Rattle.std.specs.Prelude.{◌≢◌, IsSome}
 use Rattle.std.specs.declared.option.Option.{Option}
-use Rattle.std.specs.declared.result.Result.{Result}
 use Rattle.limits.specs.declared.recording.TheConstants.{MAX_INTERVALS}
-use Rattle.interval_file.specs.declared.fault.IntervalFileFault.{IntervalFileFault}
 use Rattle.interval_file.specs.declared.decoder.Taken.{Taken}
 use Rattle.interval_file.specs.IntervalFile.{after, answer, fault_in}
 use Rattle.interval_file.specs.Decoding.{FitsBytes, too_many_bytes}
 use Rattle.interval_file.specs.Progress.{Progress}
-use Rattle.tc_command.specs.declared.input_fault.InputFault.TheVariants.{Intervals}
-use Rattle.tc_command.specs.declared.stop.Stop.{Stop}
-use Rattle.tc_command.specs.declared.stop.Stop.TheVariants.{Refused, ReadFault, Limit}
-use Rattle.tc_command.specs.Causes.{OutCause}
-use Rattle.tc_command.specs.KeptWorks.{works_on}
-use Rattle.std.proofs.KnownBytes.{Appends-nil}
 use Rattle.interval_file.specs.FileLemmas.{next_fault}
-use Rattle.tc_command.specs.Status.{status_of}
-use Rattle.interval_engine.specs.KeptAlong.{Advanced, FitsBehind, HasHeader, IsGoing, Stands, stop_at}
+use Rattle.tc_command.specs.KeptBrings.{brings_more, brings_none}
+use Rattle.interval_engine.specs.KeptAlong.{Advanced, FitsBehind, HasHeader, IsGoing, Stands}
 use Rattle.interval_engine.proofs.AnItemMore.{Relation}
 
 -- and is counted
@@ -59,58 +51,33 @@ pub none_before : {B : Type 0} (fits : B → ℕ → Type 0) (before : Option B)
 none_before fits None taken count has twelve keeps = keeps
 none_before fits (Some before) taken count has twelve keeps = absurd (omega (arith, has, twelve))
 
--- a fault of the file leaves the output as it is
-fault_cause : (fault : IntervalFileFault) (faults : ℕ) (below : Bool)
-    → OutCause (status_of (if below then Refused (Intervals fault) else Limit)) faults faults
-fault_cause fault faults true = refl
-fault_cause fault faults false = refl
-
-pub fault_keeps : (count : ℕ) (fault : IntervalFileFault) (faults : ℕ) → OutCause
-    (status_of (stop_at count fault)) faults faults
-fault_keeps count fault faults = fault_cause fault faults (nat_lt count MAX_INTERVALS)
-
--- and no pull failed
-no_failed_pull : (fault : IntervalFileFault) (below : Bool) →
-    (if below then Refused (Intervals fault) else Limit) ≢ ReadFault
-no_failed_pull fault true is = absurd cc
-no_failed_pull fault false is = absurd cc
-
-pub fault_is_no_pull : {T : Type 0} (count : ℕ) (fault : IntervalFileFault) (result : Result T Stop) → result ≡ Err
-    (stop_at count fault)
-    → result ≡ Err ReadFault → ⊥
-fault_is_no_pull count fault result told is = no_failed_pull fault (nat_lt count MAX_INTERVALS) cc
-
 -- ---- one after another
 
--- nothing was worked on
-pub nothing_advanced : {B C : Type 0} (fits : B → ℕ → Type 0) (stands : Relation B C) (decoder : Progress)
-    (behind : Option B) (count : ℕ)
-    (choice : C) (now : Option (List ℕ)) → IsGoing fits decoder behind count
-    → Advanced fits stands decoder decoder behind behind count count choice now now []
-nothing_advanced fits stands decoder behind count choice now going = record {
+-- nothing was taken
+pub nothing_advanced : {B C O : Type 0} (given : O → O → List ℕ → Type 0) (fits : B → ℕ → Type 0) (stands : Relation B C)
+    (decoder : Progress) (behind : Option B) (count : ℕ) (choice : C) (out : O) → given out out []
+    → IsGoing fits decoder behind count
+    → Advanced given fits stands decoder decoder behind behind count count choice out out []
+nothing_advanced given fits stands decoder behind count choice out none going = record {
   going = going;
   taken = omega arith;
-  works = λ front written before. (
-    [],
-    Appends-nil now,
-    subst (λ (w : List ℕ). Stands stands decoder behind count choice (front ++ []) w) (sym (append-nil written))
-        (subst (λ (b : List ℕ). Stands stands decoder behind count choice b written) (sym (append-nil front)) before),
-  );
+  works = brings_none given (Stands stands decoder behind count choice) out none;
 }
 
--- what was worked on first, and then
-pub advanced_on : {B C : Type 0} (fits : B → ℕ → Type 0) (stands : Relation B C) (first second third : Progress)
-    (before between behind : Option B) (count mid now : ℕ) (choice : C) (old middle new : Option (List ℕ))
-    (bytes more : List ℕ)
-    → Advanced fits stands first second before between count mid choice old middle bytes
-    → Advanced fits stands second third between behind mid now choice middle new more
-    → Advanced fits stands first third before behind count now choice old new (bytes ++ more)
-advanced_on fits stands first second third before between behind count mid now choice old middle new bytes more one two
-    = record {
+-- what was taken first, and then
+pub advanced_on : {B C O : Type 0} (given : O → O → List ℕ → Type 0) (fits : B → ℕ → Type 0) (stands : Relation B C)
+    (first second third : Progress) (before between behind : Option B) (count mid now : ℕ) (choice : C)
+    (old middle new : O) (bytes more : List ℕ)
+    → ((x y : List ℕ) → given old middle x → given middle new y → given old new (x ++ y))
+    → Advanced given fits stands first second before between count mid choice old middle bytes
+    → Advanced given fits stands second third between behind mid now choice middle new more
+    → Advanced given fits stands first third before behind count now choice old new (bytes ++ more)
+advanced_on given fits stands first second third before between behind count mid now choice old middle new bytes more
+    join one two = record {
       going = two.going;
       taken = (let a = one.taken in let b = two.taken in rw (length-append bytes more) (omega (arith, a, b)));
-      works = works_on (Stands stands first before count choice) (Stands stands second between mid choice)
-          (Stands stands third behind now choice) old middle new bytes more one.works two.works;
+      works = brings_more given (Stands stands first before count choice) (Stands stands second between mid choice)
+          (Stands stands third behind now choice) old middle new bytes more join one.works two.works;
     }
 
 -- `count` bytes are as many as come before that place

@@ -6,27 +6,22 @@ use Rattle.interval_commands.proofs.CountedEvents.{brought_fits}
 use Rattle.interval_commands.proofs.ltc_read.Report.print.Goals as goal
 
 -- the limits of the file keep the numbers of the events small
-pub push-requires-clause-lines : goal.push-requires-clause-lines
-push-requires-clause-lines g c =
+pub write-requires-clause-lines : goal.write-requires-clause-lines
+write-requires-clause-lines g c =
     brought_fits _ _ c.events-events.result c.requires.within c.requires.sum c.events-events.ensures.brings
 
--- the events of the interval were counted and pushed
-pub returns-in-Ok-clause-prints : goal.returns-in-Ok-clause-prints
-returns-in-Ok-clause-prints g c =
+-- the events of the interval were counted and written
+pub returns-clause-prints : goal.returns-clause-prints
+returns-clause-prints g c =
     let own = c.events-events.result in
     let events = event_list own in
-    let counted = c.in-Ok.ensures.counted in (
+    let counted = c.write.ensures.counted in (
       own,
       c.events-events.ensures.told c.requires.may,
       record {
-        pushed = c.in-Ok.ensures.all;
         words = ap (λ (r : Report). r.words) counted ∙ words-all_counted events _;
         refused = ap (λ (r : Report). r.refused) counted ∙ refused-all_counted events _;
         lost = ap (λ (r : Report). r.lost) counted ∙ lost-all_counted events _;
       },
+      c.write.ensures.lines,
     )
-
--- a front of their lines was pushed
-pub returns-in-Err-clause-front : goal.returns-in-Err-clause-front
-returns-in-Err-clause-front g c =
-    (c.events-events.result, c.events-events.ensures.told c.requires.may, c.in-Err.ensures.front)

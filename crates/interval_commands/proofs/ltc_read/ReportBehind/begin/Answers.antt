@@ -1,5 +1,4 @@
 use Rattle.std.proofs.Common.{[], refl, ap, subst, ◌≡◌}
-use Rattle.std.proofs.KnownBytes.{Appends-nil}
 use Rattle.biphase.specs.declared.profile.Profile.{Profile}
 use Rattle.tc_address.specs.declared.system.System.{System}
 use Rattle.direction_reader.specs.ListEvents.{AreEvents}
@@ -16,7 +15,7 @@ returns-clause-begins g c =
     c.new.ensures.value in
     let law = c.a_reader_gives_the_events_of_its_list.ensures reader [] [] c.new.ensures.stands in (
       [],
-      Appends-nil _,
+      g.O.Output.given_none c.args._out.now,
       record {
         says = refl;
         system = system;

@@ -1,10 +1,10 @@
-use Rattle.std.proofs.Common.{◌≡◌, ◌+◌, ◌-◌, ◌≤◌, take, length}
+use Rattle.std.proofs.Common.{◌≡◌, ◌+◌, ◌-◌, ◌≤◌, ◌<◌, take, length, [], true, false}
 use Rattle.std.specs.Prelude.{Some}
 use Rattle.limits.specs.declared.recording.TheConstants.{MAX_INTERVALS}
 use Rattle.interval_file.specs.Piece.{MayBeWhole}
 use Rattle.interval_file.specs.Decoding.{FitsBytes}
+use Rattle.tc_command.specs.KeptBrings.{Brings}
 use Rattle.interval_engine.specs.KeptAlong.{FitsBehind, Stands}
-use Rattle.tc_command.specs.KeptWorks.{Works}
 use Rattle.interval_engine.proofs.along.Along.run.Given as goal
 
 -- the decoder stands as it was; with the intervals so far passed over it would stand for them
@@ -15,13 +15,12 @@ invariant-run g l = record {
   whole : MayBeWhole l.version l.at;
   keeps : FitsBehind g.B.Behind.fits (Some l.behind) l.intervals;
   counts : FitsBytes (record l.fn.self.decoder { taken = l.fn.self.decoder.taken + l.at }) l.intervals;
-  works : Works (λ front written. Stands g.B.Behind.stands l.fn.self.decoder l.fn.self.behind l.fn.self.intervals
+  works : Brings g.O.Output.given (λ front written. Stands g.B.Behind.stands l.fn.self.decoder l.fn.self.behind l.fn.self.intervals
       l.fn.self.choice front written)
-      (λ front written. Stands g.B.Behind.stands (record l.fn.self.decoder { taken = l.fn.self.decoder.taken + l.at })
-      (Some l.behind) l.intervals
+      (λ front written. Stands g.B.Behind.stands
+      (record l.fn.self.decoder { taken = l.fn.self.decoder.taken + l.at }) (Some l.behind) l.intervals
       l.fn.self.choice front written)
-      (g.K.Sink.written l.fn.out) (g.K.Sink.written l.out) (take l.at l.bytes);
-  same : g.K.Sink.faults l.out ≡ g.K.Sink.faults l.fn.out;
+      l.fn.out l.out (take l.at l.bytes);
 }
 
 abbrev pub decreases-run : goal.decreases-run
