@@ -2,14 +2,11 @@
 use Rattle.std.proofs.Common.{◌≡◌, ℕ, ◌+◌, ◌≤◌, List, [], ◌∷◌, ◌++◌, count_by, sym, ◌∙◌, ap, subst, arith}
 use Rattle.std.proofs.Common.{append_assoc, append-nil, length-append}
 use Rattle.std.specs.Prelude.{sum}
-use Rattle.std.specs.declared.option.Option.{Option}
-use Rattle.std.specs.Io.KnownBytes.{Appends}
 use Rattle.lemmas.specs.Lists.{count_by-append}
 use Rattle.std.proofs.lemmas.List.Sums.{sum_by-append}
 use Rattle.std.proofs.lemmas.Grind.{flat_map-append}
 use Rattle.biphase.specs.declared.profile.Profile.{Profile}
 use Rattle.tc_address.specs.declared.system.System.{System}
-use Rattle.tc_io.specs.Sink.{AppendsFront}
 use Rattle.direction_reader.specs.declared.event.Event.{Event}
 use Rattle.flywheel.specs.declared.frame.Frame.{Frame}
 use Rattle.flywheel.specs.declared.heard.HeardWord.{HeardWord}
@@ -23,9 +20,9 @@ use Rattle.tc_job.specs.declared.witness.Witness.{Witness}
 use Rattle.frame_commands.specs.declared.frames.Frames.{Frames}
 use Rattle.frame_commands.specs.Heard.{AreHeard, AreHeardYet}
 use Rattle.frame_commands.specs.Hearing.{Hearer, HearsOn, due_at}
-use Rattle.frame_commands.specs.KeptFlight.{Counts, CountsAll, GivesAll, GivesDue, GivesFirst, Sends, SendsFront}
+use Rattle.frame_commands.specs.KeptFlight.{Counts, CountsAll, GivesAll, GivesDue, Sends}
 use Rattle.frame_commands.specs.KeptFlight.{Stands}
-use Rattle.frame_commands.specs.OfFrames.{FrameText, IsFlightPart, IsFlightWhole, frames_of, frames_until, heard_in}
+use Rattle.frame_commands.specs.OfFrames.{FrameText, IsFlightWhole, frames_of, heard_in}
 use Rattle.frame_commands.specs.OfFrames.{words_heard}
 use Rattle.frame_commands.proofs.FramesInOrder.{Given}
 
@@ -65,19 +62,19 @@ sum_of_one : (intervals : List ℕ) (x : ℕ) → sum (intervals ++ x ∷ []) �
 sum_of_one intervals x = omega (arith, sum_by-append (λ (n : ℕ). n) intervals (x ∷ []))
 
 -- one interval more
-pub flown : {S C : Type 0} (witness : Witness) (flight : C → Flight) (made : C → FrameText) (has : Given S C)
-    (h now : Hearer) (f next : Frames) (sink after : S) (choice : C) (header : IntervalHeader)
+pub flown : {S C O : Type 0} (witness : Witness) (flight : C → Flight) (made : C → FrameText) (has : Given S C)
+    (given : O → O → List ℕ → Type 0) (h now : Hearer) (f next : Frames) (sink after : S) (choice : C) (header : IntervalHeader)
     (intervals written : List ℕ) (x : ℕ) (own : List Event) (words : List HeardWord) (more : List Frame)
-    (old new : Option (List ℕ))
+    (old new : O)
     → Stands witness flight made has h f sink choice header intervals written → HearsOn h x now
     → Reads h now x own → TheHeard witness now → words ≡ words_heard own → h.until ≤ due_at words now.until
     → next.wheel.limit ≡ f.wheel.limit → GivesAll f.wheel next.wheel now.until words more → Counts f next more
-    → Sends made has sink after old new more
-    → (bytes : List ℕ) × Appends old new bytes
+    → Sends made has given sink after old new more
+    → (bytes : List ℕ) × given old new bytes
     × Stands witness flight made has now next after choice header (intervals ++ x ∷ []) (written ++ bytes)
-flown witness flight made has h now f next sink after choice header intervals written x own words more old new s takes
+flown witness flight made has given h now f next sink after choice header intervals written x own words more old new s takes
     grows law is before same gives counts sends =
-    let given = gives (words_heard s.events) h.until s.given s.wheel.0 before in
+    let all_given = gives (words_heard s.events) h.until s.given s.wheel.0 before in
     let all = ap (λ (ws : List HeardWord). words_heard s.events ++ ws) is ∙ sym (words_now s.events own) in
     let sent = sends choice header s.given s.sent in
     let count = s.count in
@@ -97,7 +94,7 @@ flown witness flight made has h now f next sink after choice header intervals wr
         are_events = events_now witness header.system (flight choice).profile h now intervals s.events x own s.system
             s.keeps s.reader takes grows law;
         given = s.given ++ more;
-        wheel = subst (λ (ws : List HeardWord). flies.HasGivenAll next.wheel ws now.until (s.given ++ more)) all given;
+        wheel = subst (λ (ws : List HeardWord). flies.HasGivenAll next.wheel ws now.until (s.given ++ more)) all all_given;
         sent = sent.0;
         are = ap (λ (l : List ℕ). l ++ sent.1.0) s.are ∙ sym sent.1.1;
         heard = counts.heard ∙ ap (λ (n : ℕ). n + count_by is_heard more) s.heard
@@ -107,46 +104,6 @@ flown witness flight made has h now f next sink after choice header intervals wr
         gone = counts.gone ∙ ap (λ (n : ℕ). n + count_by is_gone more) s.gone
             ∙ sym (count_by-append is_gone s.given more);
       },
-    )
-
--- the frames of some words more come first
-all_frames : (limit : ℕ) (wheel : Wheel) (events own : List Event) (words : List HeardWord) (until : ℕ)
-    (given more rest : List Frame) → wheel.limit ≡ limit → words ≡ words_heard own
-    → frames wheel.limit (words_heard events ++ words) until ≡ (given ++ more) ++ rest
-    → frames_until limit (events ++ own) until ≡ given ++ (more ++ rest)
-all_frames limit wheel events own words until given more rest same is comes =
-    ap (λ (n : ℕ). frames n (words_heard (events ++ own)) until) (sym same)
-    ∙ ap (λ (ws : List HeardWord). frames wheel.limit ws until)
-    (words_now events own ∙ ap (λ (ws : List HeardWord). words_heard events ++ ws) (sym is))
-    ∙ comes ∙ append_assoc given more rest
-
--- the part that is due with one interval more, of which a front was sent
-pub flown_part : {S C : Type 0} (witness : Witness) (flight : C → Flight) (made : C → FrameText) (has : Given S C)
-    (h now : Hearer) (f : Frames) (sink : S) (choice : C) (header : IntervalHeader)
-    (intervals written : List ℕ) (x : ℕ) (own : List Event) (words : List HeardWord) (more : List Frame)
-    (old new : Option (List ℕ))
-    → Stands witness flight made has h f sink choice header intervals written → HearsOn h x now
-    → Reads h now x own → TheHeard witness now → words ≡ words_heard own → h.until ≤ due_at words now.until
-    → GivesFirst f.wheel now.until words more → SendsFront made has sink old new more
-    → (part : List ℕ)
-    × IsFlightPart witness (flight choice) (made choice) header (intervals ++ x ∷ []) (written ++ part)
-    × AppendsFront old new part
-flown_part witness flight made has h now f sink choice header intervals written x own words more old new s takes grows
-    law is before gives sends =
-    let comes = gives (words_heard s.events) h.until s.given s.wheel.0 before in
-    let sent = sends choice header s.given comes.0 s.sent in
-    let text = (made choice).text header in
-    let all = all_frames (flight choice).limit f.wheel s.events own words now.until s.given more comes.0 s.limit_is is
-    comes.1 in (
-      sent.0,
-      record {
-        events = s.events ++ own;
-        until = now.until;
-        are_events = events_now witness header.system (flight choice).profile h now intervals s.events x own s.system
-            s.keeps s.reader takes grows law;
-        are = ap (λ (l : List ℕ). l ++ sent.0) s.are ∙ sym sent.1 ∙ ap text (sym all);
-      },
-      sent.2,
     )
 
 -- ---- the end
@@ -166,35 +123,35 @@ heard_all witness flight made has h f sink choice header intervals written own s
     (subst (λ (y : System). AreHeard witness y h.profile intervals all) s.system (ends intervals s.events s.reader))
 
 -- what was counted and sent by then
-pub record EndsWell {S C : Type 0} (witness : Witness) (flight : C → Flight) (made : C → FrameText)
-    (has : Given S C) (h : Hearer) (f next : Frames) (after : S) (choice : C) (header : IntervalHeader)
-    (intervals written : List ℕ) (old new : Option (List ℕ)) : Type 0 where
+pub record EndsWell {S C O : Type 0} (witness : Witness) (flight : C → Flight) (made : C → FrameText)
+    (has : Given S C) (given : O → O → List ℕ → Type 0) (h : Hearer) (f next : Frames) (after : S) (choice : C) (header : IntervalHeader)
+    (intervals written : List ℕ) (old new : O) : Type 0 where
   pub frames_given : List Frame
   pub has_all : has after choice header frames_given
   pub counts : CountsAll next h.count h.tick intervals frames_given
   pub bytes : List ℕ
-  pub sent : Appends old new bytes
+  pub sent : given old new bytes
   pub whole : IsFlightWhole witness (flight choice) (made choice) header intervals
       (written ++ (bytes ++ (made choice).last header intervals frames_given))
 
-pub flown_end : {S C : Type 0} (witness : Witness) (flight : C → Flight) (made : C → FrameText) (has : Given S C)
-    (h : Hearer) (f next : Frames) (sink after : S) (choice : C) (header : IntervalHeader)
+pub flown_end : {S C O : Type 0} (witness : Witness) (flight : C → Flight) (made : C → FrameText) (has : Given S C)
+    (given : O → O → List ℕ → Type 0) (h : Hearer) (f next : Frames) (sink after : S) (choice : C) (header : IntervalHeader)
     (intervals written : List ℕ) (own : List Event) (words : List HeardWord) (more : List Frame)
-    (old new : Option (List ℕ))
+    (old new : O)
     → Stands witness flight made has h f sink choice header intervals written → Ends witness h own
     → words ≡ words_heard own → h.until ≤ due_at words h.tick
     → next.wheel.limit ≡ f.wheel.limit → GivesAll f.wheel next.wheel h.tick words more → Counts f next more
-    → Sends made has sink after old new more
-    → EndsWell witness flight made has h f next after choice header intervals written old new
-flown_end witness flight made has h f next sink after choice header intervals written own words more old new s ends is
+    → Sends made has given sink after old new more
+    → EndsWell witness flight made has given h f next after choice header intervals written old new
+flown_end witness flight made has given h f next sink after choice header intervals written own words more old new s ends is
     before same gives counts sends =
-    let given = gives (words_heard s.events) h.until s.given s.wheel.0 before in
+    let all_given = gives (words_heard s.events) h.until s.given s.wheel.0 before in
     let sent = sends choice header s.given s.sent in
     let text = (made choice).text header in
     let last = (made choice).last header intervals in
     let limit = (flight choice).limit in
     let all : s.given ++ more ≡ frames_of limit intervals (s.events ++ own) =
-    sym given.1 ∙ ap (λ (n : ℕ). frames n (words_heard s.events ++ words) h.tick) (same ∙ s.limit_is)
+    sym all_given.1 ∙ ap (λ (n : ℕ). frames n (words_heard s.events ++ words) h.tick) (same ∙ s.limit_is)
     ∙ ap (λ (ws : List HeardWord). frames limit ws h.tick)
     (ap (λ (ws : List HeardWord). words_heard s.events ++ ws) is ∙ sym (words_now s.events own))
     ∙ ap (λ (t : ℕ). frames limit (words_heard (s.events ++ own)) t) s.ticks in
@@ -221,36 +178,3 @@ flown_end witness flight made has h f next sink after choice header intervals wr
             ∙ ap (λ (fs : List Frame). text fs ++ last fs) all;
       };
     }
-
--- a front of what is sent at the end
-pub flown_end_part : {S C : Type 0} (witness : Witness) (flight : C → Flight) (made : C → FrameText) (has : Given S C)
-    (h : Hearer) (f : Frames) (sink : S) (choice : C) (header : IntervalHeader)
-    (intervals written : List ℕ) (own : List Event) (words : List HeardWord) (more : List Frame)
-    (old new : Option (List ℕ))
-    → Stands witness flight made has h f sink choice header intervals written → Ends witness h own
-    → words ≡ words_heard own → h.until ≤ due_at words h.tick → GivesFirst f.wheel h.tick words more
-    → SendsFront made has sink old new more
-    → (first last : List ℕ) × IsFlightWhole witness (flight choice) (made choice) header intervals
-    (written ++ (first ++ last))
-    × AppendsFront old new first
-flown_end_part witness flight made has h f sink choice header intervals written own words more old new s ends is before
-    gives sends =
-    let comes = gives (words_heard s.events) h.until s.given s.wheel.0 before in
-    let sent = sends choice header s.given comes.0 s.sent in
-    let text = (made choice).text header in
-    let limit = (flight choice).limit in
-    let all = all_frames limit f.wheel s.events own words h.tick s.given more comes.0 s.limit_is is comes.1 in
-    let whole : frames_of limit intervals (s.events ++ own) ≡ s.given ++ (more ++ comes.0) =
-    ap (λ (t : ℕ). frames limit (words_heard (s.events ++ own)) t) (sym s.ticks) ∙ all in
-    let last = (made choice).last header intervals (frames_of limit intervals (s.events ++ own)) in (
-      sent.0,
-      last,
-      record {
-        events = s.events ++ own;
-        are_events = heard_all witness flight made has h f sink choice header intervals written own s ends;
-        are = sym (append_assoc written sent.0 last)
-            ∙ ap (λ (l : List ℕ). l ++ last) (ap (λ (l : List ℕ). l ++ sent.0) s.are ∙ sym sent.1
-            ∙ ap text (sym whole));
-      },
-      sent.2,
-    )

@@ -1,9 +1,7 @@
 -- Frames are counted and sent one after another.
 use Rattle.std.proofs.Common.{◌≡◌, ℕ, ◌+◌, List, [], ◌∷◌, ◌++◌, count_by, Bool, sym, ◌∙◌, ap, subst, arith}
 use Rattle.std.proofs.Common.{append-nil, append_assoc, cond, refl}
-use Rattle.std.specs.declared.option.Option.{Option}
 use Rattle.std.proofs.lemmas.List.Sums.{sum_by-cons}
-use Rattle.std.proofs.KnownBytes.{Appends-nil, Appends-trans}
 use Rattle.lemmas.specs.Lists.{count_by-append}
 use Rattle.flywheel.specs.declared.frame.Frame.{Frame}
 use Rattle.flywheel.specs.declared.frame.Frame.TheVariants.{Heard, Invented, Gone}
@@ -11,9 +9,8 @@ use Rattle.flywheel.specs.Kinds.{is_gone, is_heard, is_invented}
 use Rattle.flywheel.specs.Wheel.{IsPast}
 use Rattle.interval_file.specs.declared.header.IntervalHeader.{IntervalHeader}
 use Rattle.frame_commands.specs.declared.frames.Frames.{Frames}
-use Rattle.frame_commands.specs.KeptFlight.{counted, frames_counted, Counts, Sends, SendsFront}
+use Rattle.frame_commands.specs.KeptFlight.{counted, frames_counted, Counts, Sends}
 use Rattle.frame_commands.specs.OfFrames.{FrameText}
-use Rattle.tc_command.specs.PushLemmas.{front_of_piece}
 
 -- ---- counts
 
@@ -93,49 +90,34 @@ abbrev pub Given : (S C : Type 0) → Type 1
 Given S C = S → C → IntervalHeader → List Frame → Type 0
 
 -- nothing is sent of no frame
-pub sends_none : {S C : Type 0} (made : C → FrameText) (given : Given S C) (sink : S) (out : Option (List ℕ))
-    → Sends made given sink sink out out []
-sends_none made given sink out = λ choice header frames was. (
-  subst (λ (fs : List Frame). given sink choice header fs) (sym (append-nil frames)) was,
+pub sends_none : {S C O : Type 0} (made : C → FrameText) (has : Given S C) (given : O → O → List ℕ → Type 0) (sink : S)
+    (out : O) → given out out [] → Sends made has given sink sink out out []
+sends_none made has given sink out none = λ choice header frames was. (
+  subst (λ (fs : List Frame). has sink choice header fs) (sym (append-nil frames)) was,
   (
     [],
     ap ((made choice).text header) (append-nil frames) ∙ sym (append-nil ((made choice).text header frames)),
-    Appends-nil out,
+    none,
   ),
 )
 
 -- some frames, and then more
-pub sends_both : {S C : Type 0} (made : C → FrameText) (given : Given S C) (a b c : S)
-    (one two three : Option (List ℕ)) (fs more : List Frame)
-    → Sends made given a b one two fs → Sends made given b c two three more
-    → Sends made given a c one three (fs ++ more)
-sends_both made given a b c one two three fs more first second = λ choice header frames was.
+pub sends_both : {S C O : Type 0} (made : C → FrameText) (has : Given S C) (given : O → O → List ℕ → Type 0) (a b c : S)
+    (one two three : O) (fs more : List Frame)
+    → ((x y : List ℕ) → given one two x → given two three y → given one three (x ++ y))
+    → Sends made has given a b one two fs → Sends made has given b c two three more
+    → Sends made has given a c one three (fs ++ more)
+sends_both made has given a b c one two three fs more join first second = λ choice header frames was.
     let f = first choice header frames was in
     let s = second choice header (frames ++ fs) f.0 in
     let same = append_assoc frames fs more in
     let text = (made choice).text header in (
-      subst (λ (l : List Frame). given c choice header l) same s.0,
+      subst (λ (l : List Frame). has c choice header l) same s.0,
       (
         f.1.0 ++ s.1.0,
         ap text (sym same) ∙ s.1.1 ∙ ap (λ (l : List ℕ). l ++ s.1.0) f.1.1 ∙ append_assoc (text frames) f.1.0 s.1.0,
-        Appends-trans one two three f.1.0 s.1.0 f.1.2 s.1.2,
+        join f.1.0 s.1.0 f.1.2 s.1.2,
       ),
-    )
-
--- some frames, and then a front of more
-pub sends_then_front : {S C : Type 0} (made : C → FrameText) (given : Given S C) (a b : S)
-    (one two three : Option (List ℕ)) (fs more : List Frame)
-    → Sends made given a b one two fs → SendsFront made given b two three more
-    → SendsFront made given a one three (fs ++ more)
-sends_then_front made given a b one two three fs more first second = λ choice header frames rest was.
-    let f = first choice header frames was in
-    let s = second choice header (frames ++ fs) rest f.0 in
-    let text = (made choice).text header in
-    let same : frames ++ ((fs ++ more) ++ rest) ≡ (frames ++ fs) ++ (more ++ rest) =
-    ap (λ (l : List Frame). frames ++ l) (append_assoc fs more rest) ∙ sym (append_assoc frames fs (more ++ rest)) in (
-      f.1.0 ++ s.0,
-      ap text same ∙ s.1 ∙ ap (λ (l : List ℕ). l ++ s.0) f.1.1 ∙ append_assoc (text frames) f.1.0 s.0,
-      front_of_piece one two three (f.1.0 ++ s.0) f.1.0 s.0 s.0 [] refl (sym (append-nil s.0)) f.1.2 s.2,
     )
 
 -- ---- frames that are due

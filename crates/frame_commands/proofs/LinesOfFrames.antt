@@ -14,13 +14,6 @@ lines_and_one fs frame line is =
     flat_map-append frame_line fs (frame ∷ [])
     ∙ ap (λ (l : List ℕ). frame_lines fs ++ l) (append-nil (frame_line frame) ∙ sym is)
 
--- and then those of more
-pub lines_and_more : (fs : List Frame) (frame : Frame) (rest : List Frame) (line : List ℕ) → line ≡ frame_line frame
-    → frame_lines (fs ++ frame ∷ rest) ≡ frame_lines fs ++ (line ++ frame_lines rest)
-lines_and_more fs frame rest line is =
-    flat_map-append frame_line fs (frame ∷ rest) ∙ ap (λ (l : List ℕ). frame_lines fs ++ (l ++ frame_lines rest))
-    (sym is)
-
 -- the same numbers give the same line
 same_line : (i h v g t i' h' v' g' t' : ℕ) → i ≡ i' → h ≡ h' → v ≡ v' → g ≡ g' → t ≡ t'
     → fly_end_line i h v g t ≡ fly_end_line i' h' v' g' t'

@@ -16,7 +16,7 @@ use Rattle.flywheel.specs.Wheel.{Wheel, IsPast, is_next_due, running, still}
 use Rattle.report_text.specs.FrameTexts.{FitsFrameLine}
 use Rattle.frame_commands.specs.declared.frames.Frames.{Frames}
 use Rattle.frame_commands.specs.Hearing.{due_at, word_ticks}
-use Rattle.frame_commands.specs.KeptFlight.{Comes, GivesDue, HasGiven, HeardBy}
+use Rattle.frame_commands.specs.KeptFlight.{GivesDue, HeardBy}
 
 -- ---- words in turn
 
@@ -59,30 +59,6 @@ pub record InOrder : Type 0 where
       → flies.StandsFor wheel words tick given → (rest : List Frame) × (frames wheel.limit words tick ≡ given ++ rest)
   pub later : (limit tick last : ℕ) (words more : List HeardWord) → tick ≤ last → All (λ word. tick ≤ word.tick) more
       → (rest : List Frame) × (frames limit (words ++ more) last ≡ frames limit words tick ++ rest)
-
-not_before : (at from until : ℕ) (words : List HeardWord) → at ≤ from → DoNotFall from (word_ticks words) until
-    → All (λ (word : HeardWord). at ≤ word.tick) words
-not_before at from until [] before turn = All-nil (λ (word : HeardWord). at ≤ word.tick)
-not_before at from until (word ∷ more) before turn =
-    let first = turn.0 in
-    let late : at ≤ word.tick = omega (arith, first, before) in
-    All-cons (λ (w : HeardWord). at ≤ w.tick) word more late (not_before at word.tick until more late turn.1)
-
--- the frames that were given come first
-pub given_comes_first : InOrder → (f : Frames) (until from : ℕ) (words : List HeardWord) (given : List Frame)
-    → DoNotFall from (word_ticks f.words) until → HasGiven f until words given → Comes f.wheel.limit words until given
-given_comes_first order f until from words given turn has =
-    let limit = f.wheel.limit in
-    let due = due_at f.words until in
-    let before = has.before in
-    let end = due_end f.words from until turn in
-    let first = order.given f.wheel has.heard has.earlier given has.wheel in
-    let later = order.later limit has.earlier until has.heard f.words (omega (arith, before, end))
-    (not_before has.earlier due until f.words before (due_turn f.words from until turn)) in (
-      first.0 ++ later.0,
-      ap (λ (ws : List HeardWord). frames limit ws until) has.are ∙ later.1
-          ∙ ap (λ (fs : List Frame). fs ++ later.0) first.1 ∙ append_assoc given first.0 later.0,
-    )
 
 -- the numbers of a frame that is due fit its line
 pub due_fits : (frame : Frame) (tick : ℕ) → IsPast frame tick → tick < 2 ^ 60 → FitsFrameLine frame

@@ -14,7 +14,6 @@ use Rattle.frame_commands.specs.declared.frames.Frames.{Frames}
 use Rattle.frame_commands.specs.KeptFlight.{CountsAll}
 use Rattle.frame_commands.specs.KeptSpans.{HasTold}
 use Rattle.frame_commands.specs.LtcSpans.{spans_counted}
-use Rattle.frame_commands.proofs.FramesFirst.{FinalLinesFirst}
 
 -- a frame that fits its line has a tick that fits
 pub fits_tick : (frame : Frame) → FitsFrameLine frame → FitsTick frame
@@ -43,21 +42,6 @@ pub cut_added : (tape : Tape) (rate : ℕ) (system : System) (header : IntervalH
 cut_added tape rate system header frames frame cut told lines =
     lines ∙ ap (λ (l : List ℕ). final_lines header.tick_rate header.system frames ++ l)
     (same_cut rate _ system _ cut told.rate_is told.system_is)
-
--- and whatever frames follow, these come next
-pub cut_first : FinalLinesFirst → (header : IntervalHeader) (frames : List Frame) (frame : Frame) (rest : List Frame)
-    (lines : List ℕ)
-    → final_lines header.tick_rate header.system (frames ++ frame ∷ []) ≡ final_lines header.tick_rate header.system
-    frames ++ lines
-    → (more : List ℕ) × (final_lines header.tick_rate header.system (frames ++ (frame ∷ [] ++ rest))
-    ≡ final_lines header.tick_rate header.system frames ++ (lines ++ more))
-cut_first law header frames frame rest lines added =
-    let all = final_lines header.tick_rate header.system in
-    let later = law header.tick_rate header.system (frames ++ frame ∷ []) rest in (
-      later.0,
-      ap all (sym (append_assoc frames (frame ∷ []) rest)) ∙ later.1 ∙ ap (λ (l : List ℕ). l ++ later.0) added
-          ∙ append_assoc (all frames) lines later.0,
-    )
 
 -- the line of the open span, with the header's rate and system
 pub open_is : (tape : Tape) (rate : ℕ) (system : System) (header : IntervalHeader) (frames : List Frame)

@@ -1,7 +1,6 @@
 -- What a command along the frames of a recording keeps. No promise speaks of it.
 use Rattle.std.specs.Prelude.{◌≡◌, ℕ, ◌+◌, ◌*◌, ◌^◌, ◌<◌, ◌≤◌, List, [], ◌∷◌, ◌++◌, count_by, length, sum}
 use Rattle.std.specs.Prelude.{All, IfSome, None, Option, Some}
-use Rattle.std.specs.Io.KnownBytes.{Appends}
 use Rattle.std.proofs.Common.{sym, ◌∙◌, ap}
 use Rattle.direction_reader.specs.declared.event.Event.{Event}
 use Rattle.limits.specs.declared.recording.TheConstants.{MAX_INTERVALS}
@@ -16,7 +15,6 @@ use Rattle.interval_file.specs.declared.header.IntervalHeader.{IntervalHeader}
 use Rattle.frame_commands.specs.declared.frames.Frames.{Frames}
 use Rattle.tc_job.specs.declared.flight.Flight.{Flight}
 use Rattle.tc_job.specs.declared.witness.Witness.{Witness}
-use Rattle.tc_io.specs.Sink.{AppendsFront}
 use Rattle.frame_commands.specs.Heard.{AreHeardYet}
 use Rattle.frame_commands.specs.Hearing.{Hearer, due_at, word_ticks}
 use Rattle.frame_commands.specs.OfFrames.{FrameText, IsFlightPart, words_heard}
@@ -85,10 +83,6 @@ pub record IsGiving (f : Frames) (most until : ℕ) : Type 0 where
 abbrev pub frames_to_come : Frames → ℕ
 frames_to_come f = 257 * length f.words + frames_left f.wheel
 
--- these frames come first among those of the words up to the tick
-abbrev pub Comes : ℕ → List HeardWord → ℕ → List Frame → Type 0
-Comes limit words tick front = (rest : List Frame) × (frames limit words tick ≡ front ++ rest)
-
 -- these frames were given of these words up to the tick, and the last of the words wait to be heard
 pub record HasGiven (f : Frames) (until : ℕ) (words : List HeardWord) (given : List Frame) : Type 0 where
   pub heard : List HeardWord
@@ -100,8 +94,7 @@ pub record HasGiven (f : Frames) (until : ℕ) (words : List HeardWord) (given :
 -- the next frame is the first of those still to come, and there is none where all were given
 abbrev pub GivesNext : Frames → ℕ → List HeardWord → List Frame → Option Frame → Type 0
 GivesNext f until words given None = flies.HasGivenAll f.wheel words until given
-GivesNext f until words given (Some frame) =
-    HasGiven f until words (given ++ frame ∷ []) × Comes f.wheel.limit words until (given ++ frame ∷ [])
+GivesNext f until words given (Some frame) = HasGiven f until words (given ++ frame ∷ [])
 
 -- with these frames more, all that were due up to a later tick were given
 abbrev pub GivesDue : Wheel → Wheel → ℕ → List Frame → Type 0
@@ -115,12 +108,6 @@ GivesAll before after until more_words more =
     (words : List HeardWord) (earlier : ℕ) (given : List Frame) → flies.StandsFor before words earlier given
     → earlier ≤ due_at more_words until → flies.HasGivenAll after (words ++ more_words) until (given ++ more)
 
--- they come first
-abbrev pub GivesFirst : Wheel → ℕ → List HeardWord → List Frame → Type 0
-GivesFirst before until more_words more =
-    (words : List HeardWord) (earlier : ℕ) (given : List Frame) → flies.StandsFor before words earlier given
-    → earlier ≤ due_at more_words until → Comes before.limit (words ++ more_words) until (given ++ more)
-
 -- before the first interval
 pub record BeginsFlight (f : Frames) (limit : ℕ) : Type 0 where
   pub limit_is : f.wheel.limit ≡ limit
@@ -131,27 +118,17 @@ pub record BeginsFlight (f : Frames) (limit : ℕ) : Type 0 where
   pub invented : f.invented ≡ 0
   pub gone : f.gone ≡ 0
 
--- ---- what becomes of frames, in a sink of frames. `made` says what it writes, and `given` which frames it was given
+-- ---- what becomes of frames, in a sink of frames: `made` says what it writes, and `has_given` which frames it
+-- was given
 
--- with these frames more, all of their bytes were written
-abbrev pub Sends : {S C : Type 0} → (C → FrameText) → (S → C → IntervalHeader → List Frame → Type 0) → S → S
-    → Option (List ℕ) → Option (List ℕ)
-    → List Frame → Type 0
-Sends {S} {C} made given before after old new more =
-    (choice : C) (header : IntervalHeader) (frames : List Frame) → given before choice header frames
-    → given after choice header (frames ++ more)
+-- with these frames more, their bytes were given to the output
+abbrev pub Sends : {S C O : Type 0} → (C → FrameText) → (S → C → IntervalHeader → List Frame → Type 0)
+    → (O → O → List ℕ → Type 0) → S → S → O → O → List Frame → Type 0
+Sends {S} {C} {O} made has_given given before after old new more =
+    (choice : C) (header : IntervalHeader) (frames : List Frame) → has_given before choice header frames
+    → has_given after choice header (frames ++ more)
     × ((bytes : List ℕ) × ((made choice).text header (frames ++ more) ≡ (made choice).text header frames ++ bytes)
-    × Appends old new bytes)
-
--- a front of their bytes was written, whatever frames come after them
-abbrev pub SendsFront : {S C : Type 0} → (C → FrameText) → (S → C → IntervalHeader → List Frame → Type 0) → S
-    → Option (List ℕ) → Option (List ℕ)
-    → List Frame → Type 0
-SendsFront {S} {C} made given before old new more =
-    (choice : C) (header : IntervalHeader) (frames rest : List Frame) → given before choice header frames
-    → (bytes : List ℕ)
-    × ((made choice).text header (frames ++ (more ++ rest)) ≡ (made choice).text header frames ++ bytes)
-    × AppendsFront old new bytes
+    × given old new bytes)
 
 -- the intervals and frames were counted
 pub record CountsAll (f : Frames) (count ticks : ℕ) (intervals : List ℕ) (given : List Frame) : Type 0 where

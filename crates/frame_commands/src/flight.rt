@@ -1,11 +1,10 @@
 //! The way along the frames of a recording, the same for each command that makes something of them: words
 //! become frames, and these go to the command's sink. Read next: `hearing`, then `frames`, and with the frames
 //! `frame_sink`.
-ghost use Rattle.std.specs.Prelude.{◌≡◌, ◌≤◌, ◌<◌, ◌^◌, ℕ, List, [], ◌∷◌, ◌++◌, OnOk, OnErr, IfSome, None, All, length};
+ghost use Rattle.std.specs.Prelude.{◌≡◌, ◌≤◌, ◌<◌, ◌^◌, ℕ, List, [], ◌∷◌, ◌++◌, IfSome, None, All, length};
 ghost use Rattle.direction_reader.specs.declared.event.Event.{Event};
 ghost use Rattle.flywheel.specs.declared.frame.Frame.{Frame};
 ghost use Rattle.flywheel.specs.Wheel.{IsInRange};
-ghost use Rattle.tc_io.specs.Source.{Rose};
 ghost use Rattle.limits.specs.declared.recording.TheConstants.{MAX_INTERVAL, MAX_INTERVALS};
 ghost use Rattle.frame_commands.specs.Hearing.{Hearer, HearsOn};
 ghost use Rattle.frame_commands.specs.KeptFlight.{
@@ -14,11 +13,9 @@ ghost use Rattle.frame_commands.specs.KeptFlight.{
   FitsSink,
   GivesAll,
   GivesDue,
-  GivesFirst,
   HeardBy,
   IsReady,
   Sends,
-  SendsFront,
   TakesTurns,
 };
 
@@ -28,8 +25,7 @@ use crate::hearing::{Hearing, step_aside};
 use crate::laws::what_is_heard_is_in_order;
 use interval_engine::Behind;
 use interval_file::IntervalHeader;
-use tc_command::Stop;
-use tc_io::{Failed, Sink};
+use tc_command::Output;
 
 /// What a command makes of the frames of a recording, along its intervals.
 #[derive(Drop)]
@@ -77,40 +73,30 @@ impl<R: Hearing, T: FrameSink> FlightTo<R, T> {
         }
     }
 
-    /// Gives the sink the frames of the words that wait, up to a tick. Nearly every interval brings none, and a
-    /// small answer costs those nothing.
+    /// Gives the sink the frames of the words that wait, up to a tick. Nearly every interval brings none.
     #[cold]
     #[inline(never)]
-    fn give<K: Sink>(&mut self, until: u64, out: &mut K) -> Result<(), Failed>
+    fn give<O: Output>(&mut self, until: u64, out: &mut O)
         requires ready { (most : ℕ) × IsReady self.old.frames most until }
         requires room { T.taken self.old.sink ≤ frames_counted self.old.frames }
         requires few { length self.old.frames.words ≤ 2 }
         requires range { All IsInRange self.old.frames.words }
         requires turns { TakesTurns self.old.frames until }
         ensures reader { self.new.reader ≡ self.old.reader }
-        ensures limit { OnOk result (self.new.frames.wheel.limit ≡ self.old.frames.wheel.limit) }
-        ensures fits { OnOk result ((most : ℕ) → IsReady self.old.frames most until
-            → FitsSink self.new.frames (T.taken self.new.sink) most until) }
-        ensures gives { OnOk result ((more : List Frame) × Counts self.old.frames self.new.frames more
-            × Sends T.made T.given self.old.sink self.new.sink (K.written out.old) (K.written out.new) more
-            × GivesAll self.old.frames.wheel self.new.frames.wheel until self.old.frames.words more) }
-        ensures front { OnErr result ((more : List Frame)
-            × SendsFront T.made T.given self.old.sink (K.written out.old) (K.written out.new) more
-            × GivesFirst self.old.frames.wheel until self.old.frames.words more) }
-        ensures same { OnOk result (K.faults out.new ≡ K.faults out.old) }
-        ensures rose { OnErr result (Rose (K.faults out.old) (K.faults out.new)) }
+        ensures limit { self.new.frames.wheel.limit ≡ self.old.frames.wheel.limit }
+        ensures fits { (most : ℕ) → IsReady self.old.frames most until
+            → FitsSink self.new.frames (T.taken self.new.sink) most until }
+        ensures gives { (more : List Frame) × Counts self.old.frames self.new.frames more
+            × Sends T.made T.given O.given self.old.sink self.new.sink out.old out.new more
+            × GivesAll self.old.frames.wheel self.new.frames.wheel until self.old.frames.words more }
     {
         while let Some(frame) = self.frames.next(until) {
-            if let Err(_) = self.sink.frame(&frame, out) {
-                return Err(Failed);
-            }
+            self.sink.frame(&frame, out);
         }
-        Ok(())
     }
 }
 
 impl<R: Hearing, T: FrameSink> Behind for FlightTo<R, T> {
-    ghost use Rattle.std.specs.Prelude.{⊤};
     ghost use Rattle.frame_commands.specs.KeptFlight.{FitsHearing, Stands, stands_well};
     ghost use Rattle.frame_commands.specs.OfFrames.{along_frames_with};
 
@@ -123,47 +109,31 @@ impl<R: Hearing, T: FrameSink> Behind for FlightTo<R, T> {
     ghost stands = { λ s choice header intervals written.
         Stands R.witness T.flight T.made T.given (R.hearer s.reader) s.frames s.sink choice header intervals written };
 
-    ghost is_settled = { λ _. ⊤ };
-
-    ghost stands_well = { λ s choice header intervals written settled stands.
+    ghost stands_well = { λ s choice header intervals written stands.
         stands_well R.witness T.flight T.made T.given (R.hearer s.reader) s.frames s.sink choice header intervals
         written stands };
 
-    fn begin<K: Sink>(
-        choice: T::Choice,
-        header: IntervalHeader,
-        out: &mut K,
-    ) -> Result<FlightTo<R, T>, Stop> {
+    fn begin<O: Output>(choice: T::Choice, header: IntervalHeader, out: &mut O) -> FlightTo<R, T> {
         R::what_is_told_is_heard();
         let flight = T::flight(choice);
         let reader = R::start(header.system, flight.profile);
         let frames = Frames::new(flight.limit);
-        let sink = T::begin(choice, &header, out)?;
-        Ok(FlightTo {
+        let sink = T::begin(choice, &header, out);
+        FlightTo {
             reader,
             frames,
             sink,
-        })
-    }
-
-    #[inline(always)]
-    fn interval<K: Sink>(&mut self, x: u32, out: &mut K) -> Result<(), Stop> {
-        R::what_is_told_is_heard();
-        match self.hear(x) {
-            None => Ok(()),
-            Some(brought) => {
-                let until = self.reader.until();
-                self.reader.words(brought, &mut self.frames.words);
-                match self.give(until, out) {
-                    Ok(()) => Ok(()),
-                    Err(Failed) => Err(Stop::WriteFault),
-                }
-            }
         }
     }
 
-    fn flush<K: Sink>(&mut self, _out: &mut K) -> Result<(), Stop> {
-        Ok(())
+    #[inline(always)]
+    fn interval<O: Output>(&mut self, x: u32, out: &mut O) {
+        R::what_is_told_is_heard();
+        if let Some(brought) = self.hear(x) {
+            let until = self.reader.until();
+            self.reader.words(brought, &mut self.frames.words);
+            self.give(until, out);
+        }
     }
 
     /// Its frames pass the limit of their sink.
@@ -174,14 +144,12 @@ impl<R: Hearing, T: FrameSink> Behind for FlightTo<R, T> {
     }
 
     /// The frames of the words that waited, and then what comes last.
-    fn finish<K: Sink>(&mut self, out: &mut K) -> Result<(), Stop> {
+    fn finish<O: Output>(&mut self, out: &mut O) {
         R::what_is_told_is_heard();
         let ticks = self.reader.ticks();
         self.frames.words = self.reader.last_words();
-        if let Err(Failed) = self.give(ticks, out) {
-            return Err(Stop::WriteFault);
-        }
+        self.give(ticks, out);
         self.sink
-            .finish(&self.frames, self.reader.intervals(), ticks, out)
+            .finish(&self.frames, self.reader.intervals(), ticks, out);
     }
 }

@@ -65,8 +65,6 @@ impl Frames {
             → GivesNext self.new until words given result }
         ensures none { result ≡ None → HeardBy until self.new.wheel }
     {
-        frames_come_in_order();
-        frames_of_a_front_come_first();
         if let Some(frame) = self.wheel.passed(self.words.due_at(until)) {
             self.count(&frame);
             return Some(frame);

@@ -1,5 +1,5 @@
 //! What `ltc-jam` makes of frames: a clean recording. Read next: `ltc_jam/src/cells.rt`, and then
-//! `tc_command/src/pushing.rt`.
+//! `tc_command/src/output.rt`.
 ghost use Rattle.std.specs.Prelude.{◌≡◌, ◌≤◌, ◌+◌, ◌*◌, ◌++◌, length};
 ghost use Rattle.arrayvec.specs.ArrayVec.{array_vec_len};
 ghost use Rattle.interval_file.specs.declared.header.FileVersion.TheVariants.{One};
@@ -22,7 +22,7 @@ use interval_engine::work_along;
 use interval_file::{FileVersion, IntervalHeader, interval_header};
 use ltc_jam::laws::a_clean_recording_is_written_frame_by_frame;
 use ltc_jam::{frame_cells, lead};
-use tc_command::{PIECE, Piece, Stop, push_piece, put_interval};
+use tc_command::{Output, PIECE, Piece, Stop, put_interval};
 use tc_io::{Sink, Source, put_bytes};
 use tc_job::{Flight, Jam, Witness};
 
@@ -89,11 +89,7 @@ impl FrameSink for CleanRecording {
     }
 
     /// The header, and the cells by which a reader locks.
-    fn begin<K: Sink>(
-        jam: Jam,
-        header: &IntervalHeader,
-        out: &mut K,
-    ) -> Result<CleanRecording, Stop> {
+    fn begin<O: Output>(jam: Jam, header: &IntervalHeader, out: &mut O) -> CleanRecording {
         a_clean_recording_is_written_frame_by_frame();
         let header = interval_header(&IntervalHeader {
             version: FileVersion::One,
@@ -103,16 +99,16 @@ impl FrameSink for CleanRecording {
         let mut room = Piece::new();
         put_bytes(&mut room, &header);
         push_intervals(&mut room, &lead(jam.cell()));
-        push_piece(out, &room)?;
-        Ok(CleanRecording { jam })
+        out.write(&room);
+        CleanRecording { jam }
     }
 
-    /// The cells of a frame go out in one push. The end of invention has none.
-    fn frame<K: Sink>(&mut self, frame: &Frame, out: &mut K) -> Result<(), Stop> {
+    /// The cells of a frame go out at once. The end of invention has none.
+    fn frame<O: Output>(&mut self, frame: &Frame, out: &mut O) {
         a_clean_recording_is_written_frame_by_frame();
         let mut room = Piece::new();
         push_intervals(&mut room, &frame_cells(self.jam.cell(), frame));
-        push_piece(out, &room)
+        out.write(&room);
     }
 
     /// It has no limit of its own.
@@ -121,15 +117,7 @@ impl FrameSink for CleanRecording {
         false
     }
 
-    fn finish<K: Sink>(
-        &self,
-        _frames: &Frames,
-        _intervals: u64,
-        _ticks: u64,
-        _out: &mut K,
-    ) -> Result<(), Stop> {
-        Ok(())
-    }
+    fn finish<O: Output>(&self, _frames: &Frames, _intervals: u64, _ticks: u64, _out: &mut O) {}
 }
 
 /// Intervals for which there is room.

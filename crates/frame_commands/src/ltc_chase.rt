@@ -26,7 +26,7 @@ use interval_file::IntervalHeader;
 use line_text::Text;
 use std::marker::Model;
 use tc_address::Count;
-use tc_command::{Stop, push_line};
+use tc_command::{Output, Stop};
 use tc_io::{Sink, Source};
 use tc_job::{ChaseRun, Flight, Witness};
 
@@ -141,45 +141,35 @@ impl FrameSink for StepLines {
         run.flight()
     }
 
-    fn begin<K: Sink>(
-        run: ChaseRun,
-        _header: &IntervalHeader,
-        _out: &mut K,
-    ) -> Result<StepLines, Stop> {
+    fn begin<O: Output>(run: ChaseRun, _header: &IntervalHeader, _out: &mut O) -> StepLines {
         a_frame_adds_a_line();
         let label = run.label();
-        Ok(StepLines {
+        StepLines {
             chase: CodeChase::new(&label, run.seed(), run.bound()),
             count: label.count(),
             steps: 0,
             losses: 0,
             is_spent: false,
-        })
+        }
     }
 
     /// The line of a step goes out at once. A frame past the limit is not followed.
-    fn frame<K: Sink>(&mut self, frame: &Frame, out: &mut K) -> Result<(), Stop> {
+    fn frame<O: Output>(&mut self, frame: &Frame, out: &mut O) {
         a_frame_adds_a_line();
         if self.steps == MAX_FRAMES {
             self.is_spent = true;
-            return Ok(());
+            return;
         }
         let line = self.step(frame);
-        push_line(out, &line)
+        out.write(&line);
     }
 
     fn is_spent(&self) -> bool {
         self.is_spent
     }
 
-    fn finish<K: Sink>(
-        &self,
-        _frames: &Frames,
-        _intervals: u64,
-        _ticks: u64,
-        out: &mut K,
-    ) -> Result<(), Stop> {
+    fn finish<O: Output>(&self, _frames: &Frames, _intervals: u64, _ticks: u64, out: &mut O) {
         a_frame_adds_a_line();
-        push_line(out, &step_end_text(self.steps, self.losses))
+        out.write(&step_end_text(self.steps, self.losses));
     }
 }

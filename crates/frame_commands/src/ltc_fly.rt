@@ -17,7 +17,7 @@ use interval_engine::laws::recordings_grow;
 use interval_engine::work_along;
 use interval_file::IntervalHeader;
 use report_text::frame_text;
-use tc_command::{Stop, push_line};
+use tc_command::{Output, Stop};
 use tc_io::{Sink, Source};
 use tc_job::{Flight, Witness};
 
@@ -83,16 +83,12 @@ impl FrameSink for FrameLines {
         choice
     }
 
-    fn begin<K: Sink>(
-        _choice: Flight,
-        _header: &IntervalHeader,
-        _out: &mut K,
-    ) -> Result<FrameLines, Stop> {
-        Ok(FrameLines)
+    fn begin<O: Output>(_choice: Flight, _header: &IntervalHeader, _out: &mut O) -> FrameLines {
+        FrameLines
     }
 
-    fn frame<K: Sink>(&mut self, frame: &Frame, out: &mut K) -> Result<(), Stop> {
-        push_line(out, &frame_text(frame))
+    fn frame<O: Output>(&mut self, frame: &Frame, out: &mut O) {
+        out.write(&frame_text(frame));
     }
 
     /// It has no limit of its own.
@@ -101,13 +97,7 @@ impl FrameSink for FrameLines {
         false
     }
 
-    fn finish<K: Sink>(
-        &self,
-        frames: &Frames,
-        intervals: u64,
-        ticks: u64,
-        out: &mut K,
-    ) -> Result<(), Stop> {
-        push_line(out, &frames.end_text(intervals, ticks))
+    fn finish<O: Output>(&self, frames: &Frames, intervals: u64, ticks: u64, out: &mut O) {
+        out.write(&frames.end_text(intervals, ticks));
     }
 }

@@ -17,7 +17,7 @@ use interval_engine::laws::recordings_grow;
 use interval_engine::work_along;
 use interval_file::IntervalHeader;
 use quarter_frame::QuarterWriter;
-use tc_command::{Stop, push_piece};
+use tc_command::{Output, Stop};
 use tc_io::{Sink, Source};
 use tc_job::{Flight, Witness};
 
@@ -87,21 +87,17 @@ impl FrameSink for FrameMessages {
         choice
     }
 
-    fn begin<K: Sink>(
-        _choice: Flight,
-        _header: &IntervalHeader,
-        _out: &mut K,
-    ) -> Result<FrameMessages, Stop> {
-        Ok(FrameMessages {
+    fn begin<O: Output>(_choice: Flight, _header: &IntervalHeader, _out: &mut O) -> FrameMessages {
+        FrameMessages {
             writer: QuarterWriter::new(),
-        })
+        }
     }
 
-    /// The messages of a frame go out in one push. The end of invention has none.
-    fn frame<K: Sink>(&mut self, frame: &Frame, out: &mut K) -> Result<(), Stop> {
+    /// The messages of a frame go out at once. The end of invention has none.
+    fn frame<O: Output>(&mut self, frame: &Frame, out: &mut O) {
         let mut room = [0; 18];
         let count = self.writer.frame(frame, &mut room);
-        push_piece(out, &room[..count])
+        out.write(&room[..count]);
     }
 
     /// It has no limit of its own.
@@ -110,13 +106,5 @@ impl FrameSink for FrameMessages {
         false
     }
 
-    fn finish<K: Sink>(
-        &self,
-        _frames: &Frames,
-        _intervals: u64,
-        _ticks: u64,
-        _out: &mut K,
-    ) -> Result<(), Stop> {
-        Ok(())
-    }
+    fn finish<O: Output>(&self, _frames: &Frames, _intervals: u64, _ticks: u64, _out: &mut O) {}
 }

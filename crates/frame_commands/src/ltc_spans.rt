@@ -1,11 +1,8 @@
 //! What `ltc-spans` makes of frames: a line of each span, and of each gap between two. Read next:
 //! `tape_spans/src/tape.rt`, and then `tape_spans/src/texts.rt` for the lines.
-ghost use Rattle.std.specs.Prelude.{◌≡◌, ◌<◌, ◌^◌, OnOk, OnErr, IfErr, IfSome};
-ghost use Rattle.std.specs.Io.KnownBytes.{Appends};
+ghost use Rattle.std.specs.Prelude.{◌<◌, ◌^◌, IfSome};
 ghost use Rattle.tape_spans.specs.StandsFor.{cut_lines, ended_lines, gap_lines};
 ghost use Rattle.tape_spans.specs.Tape.{FitsCut, FitsSpan};
-ghost use Rattle.tc_io.specs.Sink.{AppendsFront};
-ghost use Rattle.tc_command.specs.Causes.{HasOutCause};
 ghost use Rattle.tc_command.specs.Told.{IsLawful, IsTold, WorksAsTold};
 ghost use Rattle.frame_commands.specs.LtcSpans.{told_ltc_spans};
 ghost use Rattle.tc_job.specs.declared.flight.Flight.{Flight};
@@ -25,12 +22,12 @@ use interval_engine::laws::recordings_grow;
 use interval_engine::work_along;
 use interval_file::IntervalHeader;
 use tape_spans::laws::{
-    a_span_ends_stepped, final_lines_come_first, spans_come_in_order, spans_share_the_frames_out,
+    a_span_ends_stepped, spans_come_in_order, spans_share_the_frames_out,
     the_open_span_has_the_last_line,
 };
-use tape_spans::{Cut, Gap, Span, SpanText, TapeSpans, gap_text, span_text};
+use tape_spans::{Cut, Gap, Span, TapeSpans, gap_text, span_text};
 use tc_address::System;
-use tc_command::{Stop, push_line, push_piece};
+use tc_command::{Output, Stop};
 use tc_io::{Sink, Source};
 use tc_job::{Flight, Witness};
 
@@ -89,60 +86,34 @@ pub(crate) struct SpanLines {
     system: System,
 }
 
-/// Writes the line of a span.
-fn push_span_line<K: Sink>(out: &mut K, line: &SpanText) -> Result<(), Stop>
-    ensures all { OnOk result (Appends (K.written out.old) (K.written out.new) line.now.items) }
-    ensures front { OnErr result (AppendsFront (K.written out.old) (K.written out.new) line.now.items) }
-    ensures why { IfErr result (λ stop. stop ≡ Stop.WriteFault) }
-    ensures cause { HasOutCause (K.faults out.old) (K.faults out.new) result }
-{
-    push_piece(out, line)
-}
-
 /// Writes the line of a gap, if there is one.
-fn push_gap<K: Sink>(gap: Option<Gap>, out: &mut K) -> Result<(), Stop>
+fn write_gap<O: Output>(gap: Option<Gap>, out: &mut O)
     requires { IfSome gap (λ gap. gap.ticks < 2 ^ 60) }
-    ensures all { OnOk result (Appends (K.written out.old) (K.written out.new) (gap_lines gap)) }
-    ensures front { OnErr result (AppendsFront (K.written out.old) (K.written out.new) (gap_lines gap)) }
-    ensures why { IfErr result (λ stop. stop ≡ Stop.WriteFault) }
-    ensures cause { HasOutCause (K.faults out.old) (K.faults out.new) result }
+    ensures { O.given out.old out.new (gap_lines gap) }
 {
-    match gap {
-        Some(gap) => push_line(out, &gap_text(&gap)),
-        None => Ok(()),
+    if let Some(gap) = gap {
+        out.write(&gap_text(&gap));
     }
 }
 
 impl SpanLines {
     /// Writes the line of a span, if there is one.
-    fn push_span<K: Sink>(&self, span: Option<Span>, out: &mut K) -> Result<(), Stop>
+    fn write_span<O: Output>(&self, span: Option<Span>, out: &mut O)
         requires { IfSome span FitsSpan }
-        ensures all { OnOk result
-            (Appends (K.written out.old) (K.written out.new) (ended_lines self.now.tick_rate self.now.system span)) }
-        ensures front { OnErr result
-            (AppendsFront (K.written out.old) (K.written out.new)
-            (ended_lines self.now.tick_rate self.now.system span)) }
-        ensures why { IfErr result (λ stop. stop ≡ Stop.WriteFault) }
-        ensures cause { HasOutCause (K.faults out.old) (K.faults out.new) result }
+        ensures { O.given out.old out.new (ended_lines self.now.tick_rate self.now.system span) }
     {
-        match span {
-            Some(span) => push_span_line(out, &span_text(&span, self.tick_rate, self.system)),
-            None => Ok(()),
+        if let Some(span) = span {
+            out.write(&span_text(&span, self.tick_rate, self.system));
         }
     }
 
     /// Writes what a frame completes: the span that ended, and the gap behind it.
-    fn push_cut<K: Sink>(&self, cut: Cut, out: &mut K) -> Result<(), Stop>
+    fn write_cut<O: Output>(&self, cut: Cut, out: &mut O)
         requires { FitsCut cut }
-        ensures all { OnOk result
-            (Appends (K.written out.old) (K.written out.new) (cut_lines self.now.tick_rate self.now.system cut)) }
-        ensures front { OnErr result
-            (AppendsFront (K.written out.old) (K.written out.new) (cut_lines self.now.tick_rate self.now.system cut)) }
-        ensures why { IfErr result (λ stop. stop ≡ Stop.WriteFault) }
-        ensures cause { HasOutCause (K.faults out.old) (K.faults out.new) result }
+        ensures { O.given out.old out.new (cut_lines self.now.tick_rate self.now.system cut) }
     {
-        self.push_span(cut.ended, out)?;
-        push_gap(cut.gap, out)
+        self.write_span(cut.ended, out);
+        write_gap(cut.gap, out);
     }
 }
 
@@ -165,23 +136,18 @@ impl FrameSink for SpanLines {
         choice
     }
 
-    fn begin<K: Sink>(
-        _choice: Flight,
-        header: &IntervalHeader,
-        _out: &mut K,
-    ) -> Result<SpanLines, Stop> {
-        Ok(SpanLines {
+    fn begin<O: Output>(_choice: Flight, header: &IntervalHeader, _out: &mut O) -> SpanLines {
+        SpanLines {
             tape: TapeSpans::new(),
             tick_rate: header.tick_rate,
             system: header.system,
-        })
+        }
     }
 
     #[tactic(auto, using(crate::proofs::SpansOfFrames::fits_tick))]
-    fn frame<K: Sink>(&mut self, frame: &Frame, out: &mut K) -> Result<(), Stop> {
-        final_lines_come_first();
+    fn frame<O: Output>(&mut self, frame: &Frame, out: &mut O) {
         let cut = self.tape.frame(frame);
-        self.push_cut(cut, out)
+        self.write_cut(cut, out);
     }
 
     /// It has no limit of its own.
@@ -190,14 +156,8 @@ impl FrameSink for SpanLines {
         false
     }
 
-    fn finish<K: Sink>(
-        &self,
-        _frames: &Frames,
-        intervals: u64,
-        ticks: u64,
-        out: &mut K,
-    ) -> Result<(), Stop> {
-        self.push_span(self.tape.current(), out)?;
-        push_line(out, &self.tape.end_text(intervals, ticks))
+    fn finish<O: Output>(&self, _frames: &Frames, intervals: u64, ticks: u64, out: &mut O) {
+        self.write_span(self.tape.current(), out);
+        out.write(&self.tape.end_text(intervals, ticks));
     }
 }

@@ -1,10 +1,9 @@
 use Rattle.std.proofs.Common.{◌++◌, ◌∷◌, [], ℕ, List, refl, ap, sym, ◌∙◌, arith, append-nil, append_assoc, subst}
 use Rattle.flywheel.specs.declared.frame.Frame.{Frame}
-use Rattle.flywheel.specs.Frames.{frames}
 use Rattle.flywheel.specs.StandsFor as flies
 use Rattle.frame_commands.specs.KeptFlight.{Counts, HasGiven}
 use Rattle.frame_commands.proofs.FramesInOrder.{both_counted, none_counted, one_more}
-use Rattle.frame_commands.proofs.FramesInOrder.{sends_both, sends_none, sends_then_front}
+use Rattle.frame_commands.proofs.FramesInOrder.{sends_both, sends_none}
 use Rattle.frame_commands.proofs.flight.FlightTo.give.Goals as goal
 
 -- the words wait, and no frame was given yet
@@ -32,11 +31,11 @@ loop-frame-init g c =
       reader = refl {a = c.args.self.now.reader};
       limit = refl {a = f.wheel.limit};
       room = c.requires.room;
-      same = refl {a = g.K.Sink.faults c.args.out.now};
       given = (
         [],
         record { heard = none.heard; invented = none.invented; gone = none.gone },
-        sends_none g.T.FrameSink.made g.T.FrameSink.given c.args.self.now.sink _,
+        sends_none g.T.FrameSink.made g.T.FrameSink.given g.O.Output.given c.args.self.now.sink c.args.out.now
+            (g.O.Output.given_none c.args.out.now),
         (λ earlier_words earlier given stands before. record {
           heard = earlier_words;
           are = refl {a = earlier_words ++ words};
@@ -62,7 +61,7 @@ loop-frame-preserved g c =
     let next = c.next.new.self in
     let frame = c.in-Some.frame in
     let n = c.in-Some.ensures in
-    let sent = c.in_default-frame.ensures in
+    let sent = c.frame.ensures in
     let taken = sent.taken in
     let room = i.room in
     let more = one_more now.frames next frame n.counted in
@@ -71,16 +70,15 @@ loop-frame-preserved g c =
       reader = i.reader;
       limit = n.limit ∙ i.limit;
       room = omega (arith, taken, room, more);
-      same = sent.cause ∙ i.same;
       given = (
         m.0 ++ frame ∷ [],
         both_counted c.args.self.now.frames now.frames next m.0 (frame ∷ []) m.1 n.counted,
-        sends_both g.T.FrameSink.made g.T.FrameSink.given c.args.self.now.sink now.sink c.frame.new.self _ _ _ m.0
-            (frame ∷ []) m.2 sent.sends,
+        sends_both g.T.FrameSink.made g.T.FrameSink.given g.O.Output.given c.args.self.now.sink now.sink
+            c.frame.new.self _ _ _ m.0 (frame ∷ []) (g.O.Output.given_more _ _ _) m.2 sent.sends,
         (λ words earlier given stands before.
             let all = words ++ c.args.self.now.frames.words in
             subst (λ (fs : List Frame). HasGiven next c.args.until all fs) (append_assoc given m.0 (frame ∷ []))
-            (n.gives all (given ++ m.0) (m.3 words earlier given stands before)).0),
+            (n.gives all (given ++ m.0) (m.3 words earlier given stands before))),
       );
     }
 
@@ -116,29 +114,4 @@ returns g c =
         (λ words earlier given stands before.
             n.gives (words ++ c.args.self.now.frames.words) (given ++ m.0) (m.3 words earlier given stands before)),
       );
-      front = tt;
-      same = i.same;
-      rose = tt;
     }
-
--- one was not taken: they come first
-pub returns-in-Err-clause-front : goal.returns-in-Err-clause-front
-returns-in-Err-clause-front g c =
-    let i = c.loop-frame.invariant in
-    let m = i.given in
-    let now = c.loop-frame.self in
-    let next = c.next.new.self in
-    let frame = c.in-Some.frame in
-    let n = c.in-Some.ensures in
-    let limit = n.limit ∙ i.limit in (
-      m.0 ++ frame ∷ [],
-      sends_then_front g.T.FrameSink.made g.T.FrameSink.given c.args.self.now.sink now.sink _ _ _ m.0 (frame ∷ []) m.2
-          c.in-Err.ensures.front,
-      (λ words earlier given stands before.
-          let all = words ++ c.args.self.now.frames.words in
-          let comes = (n.gives all (given ++ m.0) (m.3 words earlier given stands before)).1 in (
-            comes.0,
-            ap (λ (k : ℕ). frames k all c.args.until) (sym limit) ∙ comes.1
-                ∙ ap (λ (fs : List Frame). fs ++ comes.0) (append_assoc given m.0 (frame ∷ [])),
-          )),
-    )

@@ -14,10 +14,8 @@ invariant-loop-frame g l = record {
   reader : l.self.reader ≡ l.fn.self.reader;
   limit : l.self.frames.wheel.limit ≡ l.fn.self.frames.wheel.limit;
   room : g.T.FrameSink.taken l.self.sink ≤ frames_counted l.self.frames;
-  same : g.K.Sink.faults l.out ≡ g.K.Sink.faults l.fn.out;
   given : (more : List Frame) × Counts l.fn.self.frames l.self.frames more
-      × Sends g.T.FrameSink.made g.T.FrameSink.given l.fn.self.sink l.self.sink
-      (g.K.Sink.written l.fn.out) (g.K.Sink.written l.out) more
+      × Sends g.T.FrameSink.made g.T.FrameSink.given g.O.Output.given l.fn.self.sink l.self.sink l.fn.out l.out more
       × ((words : List HeardWord) (earlier : ℕ) (given : List Frame)
       → flies.StandsFor l.fn.self.frames.wheel words earlier given → earlier ≤ due_at l.fn.self.frames.words l.fn.until
       → HasGiven l.self.frames l.fn.until (words ++ l.fn.self.frames.words) (given ++ more));

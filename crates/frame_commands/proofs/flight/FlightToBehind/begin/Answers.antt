@@ -3,7 +3,6 @@ use Rattle.biphase.specs.declared.profile.Profile.{Profile}
 use Rattle.flywheel.specs.StandsFor as flies
 use Rattle.tc_address.specs.declared.system.System.{System}
 use Rattle.tc_job.specs.declared.flight.Flight.{Flight}
-use Rattle.lemmas.specs.Results.{through}
 use Rattle.frame_commands.specs.Heard.{AreHeardYet}
 use Rattle.frame_commands.proofs.flight.FlightToBehind.begin.Goals as goal
 
@@ -20,7 +19,7 @@ returns-clause-begins g c =
     let keeps = e.profile_is ∙ ap (λ (f : Flight). f.profile) same in
     let are = subst (λ (p : Profile). AreHeardYet witness c.args.header.system p [] [] h.until) keeps
     (subst (λ (y : System). AreHeardYet witness y h.profile [] [] h.until) e.system_is law) in
-    let b = c.in_ok-sink.ensures.begins in (
+    let b = c.begin-sink.ensures.begins in (
       _,
       b.1,
       record {
@@ -41,28 +40,3 @@ returns-clause-begins g c =
         gone = fr.gone;
       },
     )
-
--- a front of it was
-pub returns-in_err-sink-clause-front : goal.returns-in_err-sink-clause-front
-returns-in_err-sink-clause-front g c =
-    let reader = c.start-reader.result in
-    let h = g.R.Hearing.hearer reader in
-    let witness = g.R.Hearing.witness in
-    let e = c.start-reader.ensures in
-    let law = c.what_is_told_is_heard.ensures reader [] [] e.stands in
-    let keeps = e.profile_is ∙ ap (λ (f : Flight). f.profile) c.flight-flight.ensures in
-    let f = c.in_err-sink.ensures.front in
-    through c.from_residual.result c.from_residual.ensures.1 (λ stop same. (
-      same ∙ f.0,
-      (
-        _,
-        record {
-          events = [];
-          until = h.until;
-          are_events = subst (λ (p : Profile). AreHeardYet witness c.args.header.system p [] [] h.until) keeps
-              (subst (λ (y : System). AreHeardYet witness y h.profile [] [] h.until) e.system_is law);
-          are = refl;
-        },
-        f.1,
-      ),
-    ))

@@ -1,14 +1,14 @@
 use Rattle.std.proofs.Common.{[], ◌+◌, ◌*◌, ◌<◌, refl, arith}
 use Rattle.limits.specs.declared.recording.TheConstants.{MAX_INTERVALS}
-use Rattle.frame_commands.proofs.FlightGrows.{due_alone, flown, flown_part}
+use Rattle.frame_commands.proofs.FlightGrows.{due_alone, flown}
 use Rattle.frame_commands.proofs.FramesInOrder.{none_counted, sends_none}
 use Rattle.frame_commands.proofs.NextFrame.{turn_due}
 use Rattle.frame_commands.proofs.Ready.{given_fits, quiet_fits, ready_for, turns_of}
 use Rattle.frame_commands.proofs.flight.FlightToBehind.interval.Goals as goal
 
 -- nothing came, and nothing was due
-pub returns-in-None-clause-fits : goal.returns-in-None-clause-fits
-returns-in-None-clause-fits g c = λ count fits.
+pub returns-in_default-clause-fits : goal.returns-in_default-clause-fits
+returns-in_default-clause-fits g c = λ count fits.
     let s = c.args.self.now in
     let h = g.R.Hearing.hearer s.reader in
     let now = g.R.Hearing.hearer c.hear.new.self.reader in
@@ -18,10 +18,10 @@ returns-in-None-clause-fits g c = λ count fits.
     rw (c.hear.ensures.frames, c.hear.ensures.sink)
     (quiet_fits h now s.frames (g.T.FrameSink.taken s.sink) count c.args.x
     fits (omega (arith, own, here, room)) c.hear.ensures.next c.hear.ensures.later
-    (c.in-None.ensures.below refl))
+    (c.in_default.ensures.below refl))
 
-pub returns-in-None-clause-works : goal.returns-in-None-clause-works
-returns-in-None-clause-works g c = λ choice header intervals written stands.
+pub returns-in_default-clause-works : goal.returns-in_default-clause-works
+returns-in_default-clause-works g c = λ choice header intervals written stands.
     let s = c.args.self.now in
     let h = g.R.Hearing.hearer s.reader in
     let reader = c.hear.new.self.reader in
@@ -29,12 +29,13 @@ returns-in-None-clause-works g c = λ choice header intervals written stands.
     let made = g.T.FrameSink.made in
     let given = g.T.FrameSink.given in
     let none = none_counted s.frames in
-    rw (c.hear.ensures.frames, c.hear.ensures.sink) (flown g.R.Hearing.witness g.T.FrameSink.flight made given h now
-    s.frames s.frames s.sink s.sink choice header intervals written c.args.x [] [] [] _ _ stands c.hear.ensures.next
-    (c.in-None.ensures.nothing refl) (c.what_is_told_is_heard.ensures reader) refl c.hear.ensures.later refl
-    (due_alone s.frames.wheel s.frames.wheel now.until [] (c.in-None.ensures.quiet refl))
+    rw (c.hear.ensures.frames, c.hear.ensures.sink) (flown g.R.Hearing.witness g.T.FrameSink.flight made given
+    g.O.Output.given h now s.frames s.frames s.sink s.sink choice header intervals written c.args.x [] [] []
+    c.args.out.now c.args.out.now stands c.hear.ensures.next
+    (c.in_default.ensures.nothing refl) (c.what_is_told_is_heard.ensures reader) refl c.hear.ensures.later refl
+    (due_alone s.frames.wheel s.frames.wheel now.until [] (c.in_default.ensures.quiet refl))
     (record { heard = none.heard; invented = none.invented; gone = none.gone })
-    (sends_none made given s.sink _))
+    (sends_none made given g.O.Output.given s.sink c.args.out.now (g.O.Output.given_none c.args.out.now)))
 
 -- there is room for the frames of two words
 pub give-requires-clause-ready : goal.give-requires-clause-ready
@@ -59,9 +60,9 @@ give-requires-clause-turns g c =
     c.words.new.words c.requires.fits.2 (c.words.ensures.in_turn h.until c.in-Some.ensures.may))
 
 -- the frames that were due, and those of the words, were sent
-pub returns-in-Ok-clause-fits : goal.returns-in-Ok-clause-fits
-returns-in-Ok-clause-fits g c = λ count fits.
-    let gave_here = rw c.hear.ensures.frames at c.in-Ok.ensures.fits in
+pub returns-in-Some-clause-fits : goal.returns-in-Some-clause-fits
+returns-in-Some-clause-fits g c = λ count fits.
+    let gave_here = rw c.hear.ensures.frames at c.give.ensures.fits in
     let s = c.args.self.now in
     let h = g.R.Hearing.hearer s.reader in
     let now = g.R.Hearing.hearer c.hear.new.self.reader in
@@ -74,13 +75,13 @@ returns-in-Ok-clause-fits g c = λ count fits.
     let ready = ready_for h now s.frames c.words.new.words (g.T.FrameSink.taken s.sink) count c.args.x fits room_here
     c.hear.ensures.next below in
     let sink = rw c.until-until.ensures.value at gave_here in
-    rw c.in-Ok.ensures.reader (given_fits h now s.frames after.frames (g.T.FrameSink.taken s.sink)
+    rw c.give.ensures.reader (given_fits h now s.frames after.frames (g.T.FrameSink.taken s.sink)
     (g.T.FrameSink.taken after.sink) count c.args.x fits room_here c.hear.ensures.next below
     (sink (2 * (count + 1)) ready))
 
-pub returns-in-Ok-clause-works : goal.returns-in-Ok-clause-works
-returns-in-Ok-clause-works g c = λ choice header intervals written stands.
-    let e = c.in-Ok.ensures in
+pub returns-in-Some-clause-works : goal.returns-in-Some-clause-works
+returns-in-Some-clause-works g c = λ choice header intervals written stands.
+    let e = c.give.ensures in
     let s = c.args.self.now in
     let h = g.R.Hearing.hearer s.reader in
     let reader = c.hear.new.self.reader in
@@ -91,29 +92,9 @@ returns-in-Ok-clause-works g c = λ choice header intervals written stands.
     let gives = rw (c.hear.ensures.frames, c.hear.ensures.sink) at e.gives in
     let limit = rw c.hear.ensures.frames at e.limit in
     let all = rw c.until-until.ensures.value at gives.3 in
-    rw e.reader (flown g.R.Hearing.witness g.T.FrameSink.flight g.T.FrameSink.made g.T.FrameSink.given h
-    now s.frames after.frames s.sink after.sink choice header intervals written c.args.x told.0 words gives.0 _ _ stands
+    rw e.reader (flown g.R.Hearing.witness g.T.FrameSink.flight g.T.FrameSink.made g.T.FrameSink.given
+    g.O.Output.given h now s.frames after.frames s.sink after.sink choice header intervals written c.args.x told.0 words gives.0 _ _ stands
     c.hear.ensures.next (λ xs es st. c.in-Some.ensures.stands xs es told.0 st told.1)
     (c.what_is_told_is_heard.ensures reader) told.2
     (turn_due words h.until now.until (c.words.ensures.in_turn h.until c.in-Some.ensures.may)) limit all
     (record { heard = gives.1.heard; invented = gives.1.invented; gone = gives.1.gone }) gives.2)
-
--- a front of them was
-pub returns-in-Err-clause-front : goal.returns-in-Err-clause-front
-returns-in-Err-clause-front g c = (
-  refl,
-  (λ choice header intervals written stands.
-      let s = c.args.self.now in
-      let h = g.R.Hearing.hearer s.reader in
-      let reader = c.hear.new.self.reader in
-      let now = g.R.Hearing.hearer reader in
-      let front = rw (c.hear.ensures.frames, c.hear.ensures.sink) at c.in-Err.ensures.front in
-      let told = c.words.ensures.told in
-      let words = c.words.new.words in
-      let first = rw c.until-until.ensures.value at front.2 in
-      flown_part g.R.Hearing.witness g.T.FrameSink.flight g.T.FrameSink.made g.T.FrameSink.given h now s.frames
-      s.sink choice header intervals written c.args.x told.0 words front.0 _ _ stands c.hear.ensures.next
-      (λ xs es st. c.in-Some.ensures.stands xs es told.0 st told.1) (c.what_is_told_is_heard.ensures reader)
-      told.2 (turn_due words h.until now.until (c.words.ensures.in_turn h.until c.in-Some.ensures.may)) first
-      front.1),
-)

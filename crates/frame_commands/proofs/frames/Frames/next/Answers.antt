@@ -9,10 +9,10 @@ use Rattle.flywheel.specs.StandsFor as flies
 use Rattle.flywheel.specs.Wheel.{Wheel, IsInRange}
 use Rattle.frame_commands.specs.declared.frames.Frames.{Frames}
 use Rattle.frame_commands.specs.Hearing.{due_at, word_ticks}
-use Rattle.frame_commands.specs.KeptFlight.{counted, HasGiven}
+use Rattle.frame_commands.specs.KeptFlight.{counted}
 use Rattle.frame_commands.proofs.FramesInOrder.{not_heard, one_counted}
-use Rattle.frame_commands.proofs.NextFrame.{due_end, due_fits, due_turn, given_comes_first, heard_later, none_due}
-use Rattle.frame_commands.proofs.NextFrame.{turn_due, turn_end, InOrder}
+use Rattle.frame_commands.proofs.NextFrame.{due_end, due_fits, due_turn, heard_later, none_due}
+use Rattle.frame_commands.proofs.NextFrame.{turn_due, turn_end}
 use Rattle.frame_commands.proofs.frames.Frames.next.Goals as goal
 
 -- the tick at which a frame may be due
@@ -53,10 +53,6 @@ returns-in-Some c =
     let turns = g.turns in
     let end = due_end f.words turns.from until turns.turn in
     let below = g.below in
-    let order : InOrder = record {
-      given = c.frames_come_in_order.ensures.given;
-      later = c.frames_of_a_front_come_first.ensures;
-    } in
     record {
       ready = λ most giving.
           let fits = giving.fits in
@@ -78,16 +74,13 @@ returns-in-Some c =
       counted = one_counted f mid last frame refl refl refl e.counted;
       fewer = rw (e.words, e.wheel) (omega (arith, fewer));
       gives = λ words given has.
-          let after : HasGiven last until words (given ++ frame ∷ []) = record {
+          record {
             heard = has.heard;
             are = rw e.words has.are;
             earlier = tick;
             before = rw e.words (omega (arith, is));
             wheel = rw e.wheel (c.in-Some.ensures.stands has.heard has.earlier given has.wheel (rw is has.before));
-          } in (
-            after,
-            given_comes_first order last until turns.from words (given ++ frame ∷ []) (rw e.words turns.turn) after,
-          );
+          };
       none = λ no. absurd cc;
     }
 
@@ -186,10 +179,6 @@ returns c =
     let tick = (All-head IsInRange word rest all).tick in
     let turns = g.turns in
     let turn = subst (λ (ws : List HeardWord). DoNotFall turns.from (word_ticks ws) until) takes turns.turn in
-    let order : InOrder = record {
-      given = c.frames_come_in_order.ensures.given;
-      later = c.frames_of_a_front_come_first.ensures;
-    } in
     record {
       ready = λ most giving.
           let fits = giving.fits in
@@ -214,16 +203,13 @@ returns c =
           let due = c.in_default.ensures.stands has.heard has.earlier given has.wheel (rw c.due_at.ensures has.before)
           in
           let given_all = h.stands has.heard c.due_at.result given due.0 (omega (arith, same)) in
-          let after : HasGiven last until words (given ++ frame ∷ []) = record {
+          record {
             heard = has.heard ++ word ∷ [];
             are = rw e.words (has.are ∙ ap (λ (ws : List HeardWord). has.heard ++ ws) takes
                 ∙ sym (append_assoc has.heard (word ∷ []) rest));
             earlier = word.tick;
             before = rw e.words (turn_due rest word.tick until turn.1);
             wheel = rw e.wheel given_all.0;
-          } in (
-            after,
-            given_comes_first order last until word.tick words (given ++ frame ∷ []) (rw e.words turn.1) after,
-          );
+          };
       none = λ no. absurd cc;
     }

@@ -1,6 +1,4 @@
 use Rattle.std.proofs.Common.{◌∙◌, ap, ap₂, sym, subst, refl, ℕ, List}
-use Rattle.std.specs.Io.KnownBytes.{Appends}
-use Rattle.std.proofs.KnownBytes.{Appends-nil}
 use Rattle.code_chase.specs.CodeTrace.{begun_at}
 use Rattle.tc_address.specs.Label.{Address}
 use Rattle.frame_commands.specs.declared.ltc_chase.TheConstants.{MAX_FRAMES}
@@ -17,6 +15,6 @@ returns-clause-begins g c =
           c.label-label.ensures.value
           ∙ ap₂ (begun_at c.args.run.label) c.seed.ensures c.bound.ensures.value)
           (c.count.ensures.value ∙ ap (λ (label : Address). label.count) c.label-label.ensures.value) refl refl refl,
-      subst (λ (l : List ℕ). Appends (g.K.Sink.written c.args._out.now) (g.K.Sink.written c.args._out.now) l)
-          (sym (no_text laws MAX_FRAMES c.args.run)) (Appends-nil _),
+      subst (λ (l : List ℕ). g.O.Output.given c.args._out.now c.args._out.now l)
+          (sym (no_text laws MAX_FRAMES c.args.run)) (g.O.Output.given_none c.args._out.now),
     )

@@ -1,10 +1,7 @@
 use Rattle.std.proofs.Common.{[], ◌∷◌, ◌++◌, ◌<◌, ◌∙◌, ◌≡◌, ap, sym, subst, append_assoc, ℕ, List, true, arith}
-use Rattle.std.proofs.KnownBytes.{Appends-nil}
 use Rattle.frame_commands.specs.KeptSteps.{HasFollowed, Stepping}
 use Rattle.frame_commands.specs.declared.ltc_chase.TheConstants.{MAX_FRAMES}
-use Rattle.tc_command.specs.KeptWorks.{on_ok, on_err}
-use Rattle.tc_command.specs.PushLemmas.{front_of_more}
-use Rattle.frame_commands.proofs.StepsGrow.{TraceLaws, line_added, lines_grow, lines_within, no_line_added}
+use Rattle.frame_commands.proofs.StepsGrow.{TraceLaws, line_added, no_line_added}
 use Rattle.frame_commands.proofs.StepsGrow.{not_followed, step_followed}
 use Rattle.frame_commands.proofs.ltc_chase.StepLinesFrameSink.frame.Goals as goal
 
@@ -17,12 +14,16 @@ returns-then-self-eq-MAX_FRAMES-clause-sends g c = λ run header frames given.
       subst (λ (s : Stepping). HasFollowed MAX_FRAMES run (record s { is_spent = true }) (frames ++ frame ∷ []))
           (sym c.self.view_is)
           (not_followed MAX_FRAMES run c.args.self.now frames frame given full),
-      ([], no_line_added MAX_FRAMES run c.args.self.now frames (frame ∷ []) given full, Appends-nil _),
+      (
+        [],
+        no_line_added MAX_FRAMES run c.args.self.now frames (frame ∷ []) given full,
+        g.O.Output.given_none c.args.out.now,
+      ),
     )
 
--- the line of the step was pushed
+-- the line of the step was written
 pub returns-clause-sends : goal.returns-clause-sends
-returns-clause-sends g c = on_ok c.push_line.result c.push_line.ensures.all (λ pushed run header frames given.
+returns-clause-sends g c = λ run header frames given.
     let law = c.a_frame_adds_a_line.ensures in
     let laws : TraceLaws = record { none = law.none; line = law.line; lines = law.lines } in
     let line = c.step-line.result.items in
@@ -35,26 +36,6 @@ returns-clause-sends g c = on_ok c.push_line.result c.push_line.ensures.all (λ 
         line,
         line_added laws MAX_FRAMES run c.args.self.now frames c.args.frame.now line given few
             c.step-line.ensures.line,
-        pushed,
+        rw c.deref.ensures.0 at c.write.ensures,
       ),
-    ))
-
--- a front of it was
-pub returns-clause-front : goal.returns-clause-front
-returns-clause-front g c = on_err c.push_line.result c.push_line.ensures.front (λ front run header frames rest given.
-    let law = c.a_frame_adds_a_line.ensures in
-    let laws : TraceLaws = record { none = law.none; line = law.line; lines = law.lines } in
-    let line = c.step-line.result.items in
-    let frame = c.args.frame.now in
-    let few : c.args.self.now.steps < MAX_FRAMES =
-    let below = c.self.invariant.steps in
-    let apart = c.if-self-eq-MAX_FRAMES.false in subst (λ (s : Stepping). s.steps < MAX_FRAMES) c.self.view_is
-    (omega (arith, below, apart)) in
-    let added = line_added laws MAX_FRAMES run c.args.self.now frames frame line given few c.step-line.ensures.line in
-    let later = lines_grow laws MAX_FRAMES run (frames ++ frame ∷ []) rest in (
-      line ++ later.0,
-      ap (lines_within MAX_FRAMES run) (sym (append_assoc frames (frame ∷ []) rest)) ∙ later.1
-          ∙ ap (λ (l : List ℕ). l ++ later.0) added
-          ∙ append_assoc (lines_within MAX_FRAMES run frames) line later.0,
-      front_of_more _ _ line later.0 front,
-    ))
+    )

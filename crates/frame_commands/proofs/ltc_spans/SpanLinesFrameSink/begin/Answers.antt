@@ -1,6 +1,4 @@
 use Rattle.std.proofs.Common.{List, ℕ, refl, subst, sym}
-use Rattle.std.specs.Io.KnownBytes.{Appends}
-use Rattle.std.proofs.KnownBytes.{Appends-nil}
 use Rattle.frame_commands.proofs.SpansOfFrames.{no_lines}
 use Rattle.frame_commands.proofs.ltc_spans.SpanLinesFrameSink.begin.Goals as goal
 
@@ -9,6 +7,6 @@ pub returns-clause-begins : goal.returns-clause-begins
 returns-clause-begins g c =
     let header = c.args.header.now in (
       record { stands = c.new.ensures.stands; rate_is = refl; system_is = refl },
-      subst (λ (l : List ℕ). Appends (g.K.Sink.written c.args._out.now) (g.K.Sink.written c.args._out.now) l)
-          (sym (no_lines header.tick_rate header.system)) (Appends-nil _),
+      subst (λ (l : List ℕ). g.O.Output.given c.args._out.now c.args._out.now l)
+          (sym (no_lines header.tick_rate header.system)) (g.O.Output.given_none c.args._out.now),
     )
