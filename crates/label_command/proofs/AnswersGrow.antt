@@ -17,12 +17,10 @@ use Rattle.label_text.specs.declared.reader.LineRead.TheVariants.{Nothing, Label
 use Rattle.label_text.specs.LabelText.{IsPlace, Place, Reading, after, at_end, ended_at, fault_said, label_said}
 use Rattle.label_text.specs.LabelText.{labels_of, reading_from, reading_of, said_by, then_read, with_labels}
 use Rattle.tc_address.specs.Label.{Address}
-use Rattle.tc_command.specs.declared.gathered.Gathered.{Gathered}
 use Rattle.tc_command.specs.declared.input_fault.InputFault.TheVariants.{Labels}
-use Rattle.tc_command.specs.declared.stop.Stop.TheVariants as stops
+use Rattle.tc_command.specs.declared.halt.Halt.TheVariants as halts
+use Rattle.tc_command.specs.Halt.{IsHalt}
 use Rattle.tc_command.specs.Meaning.{IsInput, Shows}
-use Rattle.tc_command.specs.Stops.{IsStop, Stops}
-use Rattle.tc_io.specs.Sink.{AppendsFront}
 use Rattle.tc_io.specs.Verdict.{good, past_limit, verdict_as}
 use Rattle.tc_io.specs.VerdictLemmas.{good_too}
 use Rattle.tc_job.specs.LabelRun.{LabelRunning}
@@ -80,8 +78,7 @@ none_more law s q front written stands byte is next =
     record {
       is_good = ap (λ (r : Reading). r.verdict) all;
       place = ap (λ (r : Reading). r.place) all ∙ sym next;
-      are = ap (λ (l : List ℕ). l ++ s.gathered.room.items) (append-nil written)
-          ∙ same_answers s.run (written ++ s.gathered.room.items) labels (reading_of s.run.base (front ++ byte ∷ []))
+      are = append-nil written ∙ same_answers s.run written labels (reading_of s.run.base (front ++ byte ∷ []))
           stands.are (ap (λ (r : Reading). r.labels) all);
     }
 
@@ -98,76 +95,45 @@ labels_more law s front written stands byte label is =
     ∙ ap (λ (r : Reading). with_labels labels (with_labels (label ∷ []) r))
     (nothing_behind (after (Label label) byte s.reader))
 
-answered_more : GoesOn → (s : LabelAnswers) (front written : List ℕ) → Stands s front written
-    → (byte : ℕ) (label : Address) → said_by s.reader byte ≡ Label label
-    → (written ++ s.gathered.room.items) ++ answer_line s.run.base s.run.way label
-    ≡ answers s.run (reading_of s.run.base (front ++ byte ∷ [])).labels
-answered_more law s front written stands byte label is =
-    let labels = (reading_of s.run.base front).labels in
-    let line = answer_line s.run.base s.run.way label in
-    ap (λ (l : List ℕ). l ++ line) stands.are ∙ sym (answers_last s.run labels label)
-    ∙ ap (answers s.run) (sym (ap (λ (r : Reading). r.labels) (labels_more law s front written stands byte label is)))
-
--- its line was gathered, and what did not fit before it was pushed
-pub one_more : GoesOn → (s : LabelAnswers) (q : Place) (room : Gathered) (front written : List ℕ)
+-- its line was written
+pub one_more : GoesOn → (s : LabelAnswers) (q : Place) (front written : List ℕ)
     → Stands s front written → (byte : ℕ) (label : Address) → said_by s.reader byte ≡ Label label
-    → q ≡ after (Label label) byte s.reader → (more : List ℕ)
-    → s.gathered.room.items ++ answer_line s.run.base s.run.way label ≡ more ++ room.room.items
-    → Stands (record s { reader = q; gathered = room }) (front ++ byte ∷ []) (written ++ more)
-one_more law s q room front written stands byte label is next more put =
+    → q ≡ after (Label label) byte s.reader
+    → Stands (record s { reader = q }) (front ++ byte ∷ []) (written ++ answer_line s.run.base s.run.way label)
+one_more law s q front written stands byte label is next =
     let all = labels_more law s front written stands byte label is in
     let line = answer_line s.run.base s.run.way label in
     record {
       is_good = ap (λ (r : Reading). r.verdict) all;
       place = ap (λ (r : Reading). r.place) all ∙ sym next;
-      are = append_assoc written more room.room.items ∙ ap (λ (l : List ℕ). written ++ l) (sym put)
-          ∙ sym (append_assoc written s.gathered.room.items line)
-          ∙ answered_more law s front written stands byte label is;
+      are = ap (λ (l : List ℕ). l ++ line) stands.are
+          ∙ sym (answers_last s.run (reading_of s.run.base front).labels label)
+          ∙ ap (answers s.run) (sym (ap (λ (r : Reading). r.labels) all));
     }
-
--- a front of what was gathered was pushed
-pub gathered_part : (s : LabelAnswers) (front written rest : List ℕ) (old new : Option (List ℕ))
-    → Stands s front written → AppendsFront old new s.gathered.room.items
-    → Stops (along_labels s.run) stops.WriteFault old new (front ++ rest) written
-gathered_part s front written rest old new stands f = (
-  f.0,
-  f.2,
-  (
-    front,
-    answers s.run (reading_of s.run.base front).labels,
-    (rest, refl),
-    refl,
-    (
-      f.1.0,
-      sym stands.are ∙ ap (λ (l : List ℕ). written ++ l) f.1.1 ∙ sym (append_assoc written f.0 f.1.0),
-    ),
-  ),
-)
 
 -- ---- a fault, and the limit
 
 pub a_fault : GoesOn → (s : LabelAnswers) (front written : List ℕ) → Stands s front written
     → (byte : ℕ) (rest : List ℕ) (fault : LineFault) → said_by s.reader byte ≡ Fault fault
-    → IsStop (along_labels s.run) (stops.Refused (Labels fault)) (front ++ byte ∷ rest)
-    (written ++ s.gathered.room.items)
+    → IsHalt (along_labels s.run) (halts.Refused (Labels fault)) (front ++ byte ∷ rest) (written ++ [])
 a_fault law s front written stands byte rest fault is =
     let labels = (reading_of s.run.base front).labels in
     let all = read_on law s front written stands byte rest (Fault fault) is in (
       record { is = ap (λ (r : Reading). verdict_as Labels r.verdict) all; unspent = λ spent. spent },
-      same_answers s.run (written ++ s.gathered.room.items) labels (reading_of s.run.base (front ++ byte ∷ rest))
-          stands.are (ap (λ (r : Reading). r.labels) all),
+      append-nil written ∙ same_answers s.run written labels (reading_of s.run.base (front ++ byte ∷ rest)) stands.are
+          (ap (λ (r : Reading). r.labels) all),
     )
 
 pub the_limit : GoesOn → (s : LabelAnswers) (front written : List ℕ) → Stands s front written
     → (byte : ℕ) (rest : List ℕ) → said_by s.reader byte ≡ Limit
     → Shows (along_labels s.run) past_limit (front ++ byte ∷ rest)
-    × (written ++ s.gathered.room.items ≡ answers s.run (reading_of s.run.base (front ++ byte ∷ rest)).labels)
+    × (written ++ [] ≡ answers s.run (reading_of s.run.base (front ++ byte ∷ rest)).labels)
 the_limit law s front written stands byte rest is =
     let labels = (reading_of s.run.base front).labels in
     let all = read_on law s front written stands byte rest Limit is in (
       record { is = ap (λ (r : Reading). verdict_as Labels r.verdict) all; unspent = λ spent. spent },
-      same_answers s.run (written ++ s.gathered.room.items) labels (reading_of s.run.base (front ++ byte ∷ rest))
-          stands.are (ap (λ (r : Reading). r.labels) all),
+      append-nil written ∙ same_answers s.run written labels (reading_of s.run.base (front ++ byte ∷ rest)) stands.are
+          (ap (λ (r : Reading). r.labels) all),
     )
 
 -- ---- the end

@@ -1,24 +1,20 @@
 //! The engine of `labels`: a line for each line of a text. Read next: `label_text/src/reader.rt`, then
-//! `label_lines/src/answer.rt`, and then `tc_command/src/gathered.rt`.
-ghost use Rattle.std.specs.Prelude.{◌≡◌, [], OnOk, OnErr, IfErr};
-ghost use Rattle.std.specs.Io.KnownBytes.{Appends};
+//! `label_lines/src/answer.rt`, and then `tc_command/src/output.rt`.
+ghost use Rattle.std.specs.Prelude.{◌≡◌, []};
 ghost use Rattle.label_lines.specs.Answer.{answer_line};
 ghost use Rattle.label_lines.specs.Timebase.{count_of};
 ghost use Rattle.label_command.specs.KeptLabels.{IsGoing, Stands};
 ghost use Rattle.label_command.specs.Labels.{told_labels};
-ghost use Rattle.tc_address.specs.Label.{IsLabel};
-ghost use Rattle.tc_command.specs.Causes.{HasOutCause};
-ghost use Rattle.tc_command.specs.KeptGathered.{IsPut};
 ghost use Rattle.tc_command.specs.Told.{IsLawful, IsTold, WorksAsTold};
-ghost use Rattle.tc_io.specs.Sink.{AppendsFront};
 ghost use Rattle.tc_job.specs.LabelRun.{LabelRunning};
 
 use label_lines::answer_line;
 use label_text::laws::bytes_are_read_in_order;
 use label_text::{LabelReader, LineRead};
+use line_text::Text;
 use tc_address::Label;
 use tc_address::laws::{a_text_is_read_as_its_label, number_and_label_are_inverse};
-use tc_command::{Engine, Gathered, InputFault, Stop, push_line, work};
+use tc_command::{Halt, InputFault, Machine, Output, Stop, run as run_along};
 use tc_io::{Sink, Source};
 use tc_job::LabelRun;
 
@@ -32,7 +28,7 @@ pub fn answer_labels<S: Source, K: Sink>(
         out.old out.new result }
 {
     labels_are_told();
-    work(&mut LabelAnswers::new(run), source, out)
+    run_along(&mut LabelAnswers::new(run), source, out)
 }
 
 /// What is claimed of `labels` holds.
@@ -58,7 +54,6 @@ pub fn labels_are_lawful()
 struct LabelAnswers {
     reader: LabelReader,
     run: LabelRun,
-    gathered: Gathered,
 }
 
 impl LabelAnswers {
@@ -72,43 +67,19 @@ impl LabelAnswers {
         LabelAnswers {
             reader: LabelReader::new(run.base()),
             run: *run,
-            gathered: Gathered::holding(b""),
         }
+    }
+
+    /// The line that is answered to a label.
+    fn answer(&self, label: &Label) -> Text
+        requires { label.now.count ≡ count_of self.now.run.base }
+        ensures { result.items ≡ answer_line self.now.run.base self.now.run.way label.now }
+    {
+        answer_line(self.run.base(), &self.run.way(), label)
     }
 }
 
-/// Gathers the line that is answered to a label.
-fn gather<K: Sink>(
-    gathered: &mut Gathered,
-    run: &LabelRun,
-    label: &Label,
-    out: &mut K,
-) -> Result<(), Stop>
-    requires { label.now.count ≡ count_of run.now.base }
-    ensures all { OnOk result (IsPut (K.written out.old) (K.written out.new) gathered.old.room.items
-        (answer_line run.now.base run.now.way label.now) gathered.new.room.items) }
-    ensures front { OnErr result (AppendsFront (K.written out.old) (K.written out.new) gathered.old.room.items) }
-    ensures why { IfErr result (λ stop. stop ≡ Stop.WriteFault) }
-    ensures cause { HasOutCause (K.faults out.old) (K.faults out.new) result }
-{
-    gathered.put(&answer_line(run.base(), &run.way(), label), out)
-}
-
-/// Pushes the line that is answered to a label.
-fn answer<K: Sink>(run: &LabelRun, label: &Label, out: &mut K) -> Result<(), Stop>
-    requires { label.now.count ≡ count_of run.now.base }
-    ensures all { OnOk result (Appends (K.written out.old) (K.written out.new)
-        (answer_line run.now.base run.now.way label.now)) }
-    ensures front { OnErr result (AppendsFront (K.written out.old) (K.written out.new)
-        (answer_line run.now.base run.now.way label.now)) }
-    ensures why { IfErr result (λ stop. stop ≡ Stop.WriteFault) }
-    ensures cause { HasOutCause (K.faults out.old) (K.faults out.new) result }
-{
-    push_line(out, &answer_line(run.base(), &run.way(), label))
-}
-
-impl Engine for LabelAnswers {
-    ghost use Rattle.std.specs.Prelude.{◌≡◌, []};
+impl Machine for LabelAnswers {
     ghost use Rattle.label_command.specs.KeptLabels.{IsGoing, Stands, bytes_left, stands_well};
     ghost use Rattle.label_command.specs.Labels.{along_labels};
 
@@ -124,38 +95,29 @@ impl Engine for LabelAnswers {
 
     ghost budget = { λ s. bytes_left s.reader };
 
-    ghost is_settled = { λ s. s.gathered.room.items ≡ [] };
+    ghost stands_well = { λ s bytes written stands. stands_well s bytes written stands };
 
-    ghost stands_well = { λ s bytes written settled stands. stands_well s bytes written settled stands };
-
-    fn take<K: Sink>(&mut self, bytes: &[u8], out: &mut K) -> Result<usize, Stop> {
+    fn take<O: Output>(&mut self, bytes: &[u8], out: &mut O) -> Result<usize, Halt> {
         bytes_are_read_in_order();
         match self.reader.take(bytes[0]) {
             LineRead::Nothing => Ok(1),
             LineRead::Label(label) => {
-                gather(&mut self.gathered, &self.run, &label, out)?;
+                out.gather(&self.answer(&label));
                 Ok(1)
             }
-            LineRead::Fault(fault) => {
-                self.gathered.push(out)?;
-                Err(Stop::Refused(InputFault::Labels(fault)))
-            }
-            LineRead::Limit => {
-                self.gathered.push(out)?;
-                Err(Stop::Limit)
-            }
+            LineRead::Fault(fault) => Err(Halt::Refused(InputFault::Labels(fault))),
+            LineRead::Limit => Err(Halt::Limit),
         }
     }
 
-    fn flush<K: Sink>(&mut self, out: &mut K) -> Result<(), Stop> {
-        self.gathered.push(out)
-    }
-
-    fn finish<K: Sink>(&mut self, out: &mut K) -> Result<(), Stop> {
+    fn finish<O: Output>(&mut self, out: &mut O) -> Result<(), InputFault> {
         match self.reader.finish() {
+            LineRead::Label(label) => {
+                out.write(&self.answer(&label));
+                Ok(())
+            }
+            LineRead::Fault(fault) => Err(InputFault::Labels(fault)),
             LineRead::Nothing => Ok(()),
-            LineRead::Label(label) => answer(&self.run, &label, out),
-            LineRead::Fault(fault) => Err(Stop::Refused(InputFault::Labels(fault))),
             LineRead::Limit => Ok(()),
         }
     }
