@@ -47,6 +47,6 @@ pub use notes::{push_note, stop_note, usage_note};
 pub use output::Output;
 pub use piece::{PIECE, Piece, put_interval};
 pub use pushing::{push_line, push_piece};
-pub use running::run;
+pub use running::{run, run_behind};
 pub use status::Status;
 pub use stop::Stop;

@@ -1,6 +1,6 @@
 //! The way of the input into an engine, and of what it writes to the output, the same for each command. Here alone
 //! pulls and pushes may fail. Read next: `outlet`.
-ghost use Rattle.std.specs.Prelude.{◌≡◌, ℕ, ◌<◌, List, ◌++◌, [], length, true, false, OnOk, IfErr, Err};
+ghost use Rattle.std.specs.Prelude.{◌≡◌, ℕ, ◌<◌, ◌≤◌, List, ◌++◌, [], length, true, false, OnOk, IfErr, Err};
 ghost use Rattle.std.specs.Io.KnownBytes.{Appends};
 ghost use Rattle.tc_io.specs.Bytes.{AreBytes};
 ghost use Rattle.tc_command.specs.Causes.{HasOutCause, HasSourceCause};
@@ -32,22 +32,41 @@ pub fn run<M: Machine, S: Source, K: Sink>(
     ensures { IsWorked (M.meaning (M.choice machine.old)) S.left S.ends S.faults K.written K.faults
         source.old source.new out.old out.new result }
 {
+    run_behind(&[], machine, source, out)
+}
+
+/// The same of a command that writes these bytes before the first one of its input comes, as a header.
+pub fn run_behind<M: Machine, S: Source, K: Sink>(
+    first: &[u8],
+    machine: &mut M,
+    source: &mut S,
+    out: &mut K,
+) -> Result<(), Stop>
+    requires fits { length first.now ≤ 4096 }
+    requires going { M.is_going machine.old }
+    requires new { M.stands machine.old [] first.now }
+    requires reads { Meaning.reads (M.meaning (M.choice machine.old)) ≡ true }
+    ensures { IsWorked (M.meaning (M.choice machine.old)) S.left S.ends S.faults K.written K.faults
+        source.old source.new out.old out.new result }
+{
     let mut outlet = Outlet::new(out);
-    let ended = pull_all(machine, source, &mut outlet);
+    let ended = pull_all(first, machine, source, &mut outlet);
     let Outlet { sink, .. } = outlet;
     // Nothing happens here. The proof reads what the sink is from this use of it.
     let _ = &*sink;
     ended
 }
 
-/// Pulls the input to its end.
+/// Writes what comes first, and pulls the input to its end.
 fn pull_all<M: Machine, S: Source, K: Sink>(
+    first: &[u8],
     machine: &mut M,
     source: &mut S,
     out: &mut Outlet<'_, K>,
 ) -> Result<(), Stop>
+    requires fits { length first.now ≤ 4096 }
     requires going { M.is_going machine.old }
-    requires new { M.stands machine.old [] [] }
+    requires new { M.stands machine.old [] first.now }
     requires reads { Meaning.reads (M.meaning (M.choice machine.old)) ≡ true }
     requires empty { out.old.gathered.items ≡ [] }
     requires pushes { out.old.has_failed ≡ false }
@@ -61,6 +80,7 @@ fn pull_all<M: Machine, S: Source, K: Sink>(
     ensures once { SeesOneEnd (S.ends source.old) (S.ends source.new) result }
     ensures out { HasOutCause (K.faults out.old.sink.now) (K.faults out.new.sink.now) result }
 {
+    out.gather(first);
     let mut buf = [0; PULLED];
     'pulls: loop {
         out.flush()?;
