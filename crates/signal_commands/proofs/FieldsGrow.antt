@@ -11,17 +11,14 @@ use Rattle.std.specs.Option.{option_map}
 use Rattle.line_file.specs.declared.fault.LineFileFault.{LineFileFault}
 use Rattle.tc_io.specs.Verdict.{good}
 use Rattle.tc_command.specs.declared.input_fault.InputFault.TheVariants.{Lines}
-use Rattle.tc_io.specs.Sink.{AppendsFront}
 use Rattle.line_file.specs.declared.decoder.TheConstants.{MAX_FIELDS}
 use Rattle.line_file.specs.LineFile.{reading_of}
 use Rattle.line_file.specs.StandsFor as reads
 use Rattle.line_file.specs.StandsFor.{Decoding, IsTold}
 use Rattle.line_file.specs.Texts.{field_line, field_end_line}
 use Rattle.signal_commands.specs.declared.vitc_read.FieldReport.{FieldReport}
-use Rattle.tc_command.specs.declared.stop.Stop.TheVariants as stops
 use Rattle.signal_commands.specs.KeptFields.{FitsFields, Stands, counted, most_bytes}
-use Rattle.tc_command.specs.Stops.{Stops}
-use Rattle.signal_commands.specs.VitcRead.{along_fields, answer_lines, is_agreed, is_conflict, is_nothing}
+use Rattle.signal_commands.specs.VitcRead.{answer_lines, is_agreed, is_conflict, is_nothing}
 use Rattle.signal_commands.specs.VitcRead.{last_field_line}
 
 -- what the law of the decoder says
@@ -162,29 +159,6 @@ one_more law r next front written taken answer s reads_on counts =
       conflict = count_now is_conflict r.conflict next.conflict s.answers answer s.conflict counts.conflict;
       nothing = count_now is_nothing r.nothing next.nothing s.answers answer s.nothing counts.nothing;
     }
-
--- a front of the line of a field was written
-pub one_more_part : TellsTheFile → (r : FieldReport) (d : Decoding) (front written bytes taken behind : List ℕ)
-    (answer : FieldAnswer)
-    (old new : Option (List ℕ)) → (s : Stands r front written)
-    → reads.StandsFor d (front ++ taken) (s.answers ++ answer ∷ []) → bytes ≡ taken ++ behind
-    → AppendsFront old new (field_line r.fields answer)
-    → Stops along_fields stops.WriteFault old new (front ++ bytes) written
-one_more_part law r d front written bytes taken behind answer old new s reads_on split f = (
-  f.0,
-  f.2,
-  (
-    front ++ taken,
-    answer_lines 0 (s.answers ++ answer ∷ []),
-    (behind, ap (λ (l : List ℕ). front ++ l) split ∙ sym (append_assoc front taken behind)),
-    (s.answers ++ answer ∷ [], (law d (front ++ taken) (s.answers ++ answer ∷ []) reads_on).1, refl),
-    (
-      f.1.0,
-      sym (lines_now written r.fields s.answers answer s.are s.fields) ∙ ap (λ (l : List ℕ). written ++ l) f.1.1
-          ∙ sym (append_assoc written f.0 f.1.0),
-    ),
-  ),
-)
 
 -- ---- the last line
 

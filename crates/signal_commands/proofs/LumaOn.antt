@@ -1,4 +1,4 @@
--- With some bytes more a row is longer, or a field is whole and its lines are pushed or gathered.
+-- With some bytes more a row is longer, or a field is whole and its lines are written.
 use Rattle.std.proofs.Common.{◌≡◌, ◌≢◌, ℕ, ◌+◌, ◌*◌, ◌%◌, ◌==◌, ◌<◌, ◌≤◌, ◌⊎◌, inl, inr, Bool, cond, Some, None, List}
 use Rattle.std.proofs.Common.{[], ◌∷◌}
 use Rattle.std.proofs.Common.{◌++◌, length, map, take, refl, sym, ◌∙◌, ap, ap₂, subst, append_assoc, append-nil}
@@ -17,16 +17,12 @@ use Rattle.luma_field.specs.KeptReader.{FieldReading, StandsFor}
 use Rattle.luma_field.specs.Parts.{whole_parts}
 use Rattle.luma_field.specs.Raster.{size_of, RasterSize}
 use Rattle.luma_field.specs.Rows.{SaysLines}
-use Rattle.tc_command.specs.declared.gathered.Gathered.{Gathered}
 use Rattle.tc_command.specs.declared.input_fault.InputFault.TheVariants.{HalfField}
-use Rattle.tc_command.specs.declared.stop.Stop.{Stop}
-use Rattle.tc_command.specs.declared.stop.Stop.TheVariants as stops
-use Rattle.tc_command.specs.Stops.{Stops}
-use Rattle.tc_io.specs.Sink.{AppendsFront}
+use Rattle.tc_command.specs.declared.halt.Halt.TheVariants as halts
+use Rattle.tc_command.specs.Halt.{IsHalt}
 use Rattle.tc_job.specs.LumaRun.{LumaReading}
 use Rattle.signal_commands.specs.declared.luma_vitc.ReadPixels.{ReadPixels}
-use Rattle.signal_commands.specs.KeptLuma.{Stands}
-use Rattle.signal_commands.specs.KeptStops.{StopsBehind, of_both}
+use Rattle.signal_commands.specs.KeptLuma.{Stands, stands_well}
 use Rattle.signal_commands.specs.LumaVitc.{along_pixels, cut_field, luma_header, most_pixels, written_lines, IsLumaFile}
 use Rattle.signal_commands.proofs.LumaIsCommand.{longer_file}
 use Rattle.signal_commands.proofs.MidiLimit.{is_past}
@@ -45,62 +41,23 @@ at_none {X} Q o is says = subst (λ (it : Option X). IfNone it Q) is says
 
 -- ---- what stands
 
--- the part of bytes within the limit
-pub part_of : (s : ReadPixels) (bytes written : List ℕ) (stands : Stands s bytes written)
-    → IsLumaFile s.run (whole_parts (size_of s.run.raster) (take (most_pixels s.run) bytes))
-    (written ++ s.gathered.room.items)
-part_of s bytes written stands =
-    let most = most_pixels s.run in
-    let long : length bytes ≡ s.taken = ap length stands.are ∙ sym stands.has.taken in
-    let all : stands.fields ≡ whole_parts (size_of s.run.raster) (take most bytes) =
-    sym stands.whole ∙ ap (λ (l : List ℕ). whole_parts (size_of s.run.raster) l)
-    (sym (take_all most bytes (omega (arith, long, stands.has.within)))) in
-    record {
-      lines = stands.lines;
-      say = subst (λ (fs : List (List ℕ)). AllZip (SaysLines s.run.raster) fs stands.lines) all stands.say;
-      file = stands.file;
-    }
-
--- what is gathered was not taken
-pub gathered_fails : (s : ReadPixels) (bytes written more : List ℕ) (old new : Option (List ℕ)) → Stands s bytes written
-    → AppendsFront old new s.gathered.room.items
-    → Stops (along_pixels s.run) stops.WriteFault old new (bytes ++ more) written
-gathered_fails s bytes written more old new stands f = (
-  f.0,
-  f.2,
-  (
-    bytes,
-    written ++ s.gathered.room.items,
-    (more, refl),
-    part_of s bytes written stands,
-    (f.1.0, ap (λ (l : List ℕ). written ++ l) f.1.1 ∙ sym (append_assoc written f.0 f.1.0)),
-  ),
-)
-
--- at the limit: what is gathered was pushed, and is the part of the bytes; or it was not
-pub at_limit : (s : ReadPixels) (bytes written more : List ℕ) (stop : Stop) (old new : Option (List ℕ))
-    → Stands s bytes written → s.taken ≡ most_pixels s.run → 0 < length more
-    → StopsBehind stops.Limit old new s.gathered.room.items stop
-    → Stops (along_pixels s.run) stop old new (bytes ++ more) written
-at_limit s bytes written more stop old new stands full some behind =
+-- at the limit what was written is the part of the bytes
+pub at_limit : (s : ReadPixels) (bytes written more : List ℕ) → Stands s bytes written → s.taken ≡ most_pixels s.run
+    → 0 < length more → IsHalt (along_pixels s.run) halts.Limit (bytes ++ more) (written ++ [])
+at_limit s bytes written more stands full some =
     let most = most_pixels s.run in
     let size = size_of s.run.raster in
     let long : length bytes ≡ s.taken = ap length stands.are ∙ sym stands.has.taken in
     let both = length-append bytes more in
     let front : take most (bytes ++ more) ≡ take most bytes =
     take-append-le most bytes more (omega (arith, long, full)) in
-    of_both (λ (x : Stop). Stops (along_pixels s.run) x old new (bytes ++ more) written) stops.Limit stop
-    old new s.gathered.room.items behind
-    (λ pushed. (
-      s.gathered.room.items,
-      pushed,
-      inl (
-        record { is = is_past most (bytes ++ more) (omega (arith, long, full, both, some)); unspent = λ spent. spent },
-        subst (λ (l : List ℕ). IsLumaFile s.run (whole_parts size l) (written ++ s.gathered.room.items)) (sym front)
-            (part_of s bytes written stands),
-      ),
-    ))
-    (gathered_fails s bytes written more old new stands)
+    inl (
+      record { is = is_past most (bytes ++ more) (omega (arith, long, full, both, some)); unspent = λ spent. spent },
+      subst (λ (w : List ℕ). IsLumaFile s.run (whole_parts size (take most (bytes ++ more))) w)
+          (sym (append-nil written))
+          (subst (λ (l : List ℕ). IsLumaFile s.run (whole_parts size l) written) (sym front)
+          (stands_well s bytes written stands).1),
+    )
 
 -- ---- bytes more
 
@@ -168,27 +125,25 @@ one_more_field fields field =
     ∙ ap (λ (l : List ℕ). concat fields ++ l) (append-nil field)
 
 -- its lines behind those before
-file_with : (luma : LumaReading) (lines : List (List ℕ)) (line written first pushed room : List ℕ)
-    → written ++ first ≡ file_of (luma_header luma) (map written_lines lines)
-    → first ++ field_bytes (written_lines line) ≡ pushed ++ room
-    → (written ++ pushed) ++ room ≡ file_of (luma_header luma) (map written_lines (lines ++ line ∷ []))
-file_with luma lines line written first pushed room are put =
+file_with : (luma : LumaReading) (lines : List (List ℕ)) (line written : List ℕ)
+    → written ≡ file_of (luma_header luma) (map written_lines lines)
+    → written ++ field_bytes (written_lines line)
+    ≡ file_of (luma_header luma) (map written_lines (lines ++ line ∷ []))
+file_with luma lines line written are =
     let new = field_bytes (written_lines line) in
-    append_assoc written pushed room ∙ ap (λ (l : List ℕ). written ++ l) (sym put)
-    ∙ sym (append_assoc written first new)
-    ∙ ap (λ (l : List ℕ). l ++ new) are
+    ap (λ (l : List ℕ). l ++ new) are
     ∙ ap (λ (l : List ℕ). file_of (luma_header luma) (map written_lines lines) ++ l) (sym (append-nil new))
     ∙ sym (longer_file luma lines (line ∷ []))
 
 -- a field is whole
-pub field_whole : TakenApart → AreAsLong → (s next : ReadPixels) (bytes written more line pushed : List ℕ)
+pub field_whole : TakenApart → AreAsLong → (s next : ReadPixels) (bytes written more line : List ℕ)
     (stands : Stands s bytes written) → next.run ≡ s.run → next.reader.raster ≡ s.reader.raster
     → next.taken ≡ s.taken + length more → s.taken < most_pixels s.run
     → length (stands.part ++ more) ≡ size_of s.reader.raster → SaysLines s.reader.raster (stands.part ++ more) line
     → StandsFor next.reader []
-    → s.gathered.room.items ++ field_bytes (written_lines line) ≡ pushed ++ next.gathered.room.items
-    → Stands next (bytes ++ more) (written ++ pushed)
-field_whole apart long s next bytes written more line pushed stands run same count room whole says begun put =
+    → Stands next (bytes ++ more) (written ++ field_bytes (written_lines line))
+field_whole apart long s next bytes written more line stands run same count room whole says begun =
+    let pushed = field_bytes (written_lines line) in
     let here = stands.has.raster in
     let size = size_of s.run.raster in
     let field = stands.part ++ more in
@@ -221,48 +176,19 @@ field_whole apart long s next bytes written more line pushed stands run same cou
       lines = stands.lines ++ line ∷ [];
       say = one_more_says (SaysLines s.run.raster) stands.fields stands.lines field line stands.say
           (subst (λ (x : RasterSize). SaysLines x field line) here says);
-      file = file_with s.run stands.lines line written s.gathered.room.items pushed next.gathered.room.items
-          stands.file put;
+      file = file_with s.run stands.lines line written stands.file;
     } in
     subst (λ (x : LumaReading). Stands (record next { run = x }) (bytes ++ more) (written ++ pushed)) (sym run) now
-
--- what was gathered was pushed
-pub all_pushed : (s : ReadPixels) (g : Gathered) (bytes written : List ℕ) → Stands s bytes written → g.room.items ≡ []
-    → Stands (record s { gathered = g }) bytes (written ++ s.gathered.room.items)
-all_pushed s g bytes written stands empty = record {
-  fields = stands.fields;
-  part = stands.part;
-  has = record {
-    raster = stands.has.raster;
-    taken = stands.has.taken;
-    within = stands.has.within;
-    sizes = stands.has.sizes;
-    begun = stands.has.begun;
-  };
-  are = stands.are;
-  whole = stands.whole;
-  lines = stands.lines;
-  say = stands.say;
-  file = ap (λ (l : List ℕ). (written ++ s.gathered.room.items) ++ l) empty
-      ∙ append-nil (written ++ s.gathered.room.items) ∙ stands.file;
-}
-
--- or it was not
-pub push_fails : (s : ReadPixels) (bytes written : List ℕ) (old new : Option (List ℕ)) → Stands s bytes written
-    → AppendsFront old new s.gathered.room.items → Stops (along_pixels s.run) stops.WriteFault old new bytes written
-push_fails s bytes written old new stands f =
-    subst (λ (l : List ℕ). Stops (along_pixels s.run) stops.WriteFault old new l written) (append-nil bytes)
-    (gathered_fails s bytes written [] old new stands f)
 
 -- ---- the end
 
 -- the lines of all fields were written
-pub all_fields : (s : ReadPixels) (bytes written : List ℕ) → s.gathered.room.items ≡ [] → Stands s bytes written
+pub all_fields : (s : ReadPixels) (bytes written : List ℕ) → Stands s bytes written
     → IsLumaFile s.run (whole_parts (size_of s.run.raster) bytes) written
-all_fields s bytes written settled stands = record {
+all_fields s bytes written stands = record {
   lines = stands.lines;
   say = subst (λ (fs : List (List ℕ)). AllZip (SaysLines s.run.raster) fs stands.lines) (sym stands.whole) stands.say;
-  file = sym (append-nil written) ∙ ap (λ (l : List ℕ). written ++ l) (sym settled) ∙ stands.file;
+  file = stands.file;
 }
 
 pub length-taken : (s : ReadPixels) (bytes written : List ℕ) → Stands s bytes written → length bytes ≡ s.taken

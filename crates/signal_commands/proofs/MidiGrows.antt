@@ -1,9 +1,7 @@
 -- The lines of MIDI bytes grow by the line of the event that a byte gives, and the last line counts all of them.
 use Rattle.std.proofs.Common.{◌≡◌, ℕ, ◌+◌, ◌≤◌, List, [], ◌∷◌, ◌++◌, length, take, drop, count_by, Bool, cond, sym, ◌∙◌}
 use Rattle.std.proofs.Common.{ap, arith, append_assoc, append-nil}
-use Rattle.std.specs.declared.option.Option.{Option}
 use Rattle.std.proofs.lemmas.Grind.{flat_map-append}
-use Rattle.std.proofs.lemmas.List.{take-append-drop}
 use Rattle.std.proofs.lemmas.List.Sums.{sum_by-cons}
 use Rattle.lemmas.specs.Lists.{count_by-append}
 use Rattle.mtc_reader.specs.declared.event.MtcEvent.{MtcEvent}
@@ -11,14 +9,10 @@ use Rattle.mtc_reader.specs.declared.event.MtcEvent.TheVariants.{Full, Quarter, 
 use Rattle.mtc_reader.specs.Events.{events_in}
 use Rattle.mtc_reader.specs.StandsFor as reads
 use Rattle.mtc_reader.specs.Texts.{event_line, end_line}
-use Rattle.tc_io.specs.Sink.{AppendsFront}
 use Rattle.signal_commands.specs.declared.mtc_read.MtcReport.{MtcReport}
 use Rattle.signal_commands.specs.declared.mtc_read.TheConstants.{MAX_BYTES}
-use Rattle.tc_command.specs.declared.stop.Stop.TheVariants as stops
 use Rattle.signal_commands.specs.KeptMtc.{counted, Stands}
-use Rattle.signal_commands.specs.MtcRead.{along_midi, event_lines, is_full, is_quarter, is_refused, last_mtc_line}
-use Rattle.tc_command.specs.Stops.{Stops}
-use Rattle.signal_commands.proofs.MidiLimit.{lines_of_all}
+use Rattle.signal_commands.specs.MtcRead.{event_lines, is_full, is_quarter, is_refused, last_mtc_line}
 
 -- ---- counts
 
@@ -98,34 +92,6 @@ grown r next front written bytes events s within reader grows counts = record {
   refused = both is_refused r.refused next.refused (events_in front) events (events_in (front ++ bytes)) grows s.refused
       counts.refused;
 }
-
--- a front of the line of an event was written
-pub grown_part : (r : MtcReport) (front written bytes : List ℕ) (count : ℕ) (event : MtcEvent)
-    (old new : Option (List ℕ)) → Stands r front written
-    → length (front ++ take count bytes) ≤ MAX_BYTES → events_in (front ++ take count bytes) ≡ events_in front ++ event
-    ∷ []
-    → AppendsFront old new (event_line event) → Stops along_midi stops.WriteFault old new (front ++ bytes) written
-grown_part r front written bytes count event old new s within grows f =
-    let taken = take count bytes in (
-      f.0,
-      f.2,
-      (
-        front ++ taken,
-        event_lines (events_in (front ++ taken)),
-        (
-          drop count bytes,
-          ap (λ (l : List ℕ). front ++ l) (sym (take-append-drop count bytes))
-              ∙ sym (append_assoc front taken (drop count bytes)),
-        ),
-        sym (lines_of_all MAX_BYTES (front ++ taken) within),
-        (
-          f.1.0,
-          sym (lines_now front written taken (event ∷ []) s.are grows)
-              ∙ ap (λ (l : List ℕ). written ++ l) (append-nil (event_line event) ∙ f.1.1)
-              ∙ sym (append_assoc written f.0 f.1.0),
-        ),
-      ),
-    )
 
 -- ---- the last line
 

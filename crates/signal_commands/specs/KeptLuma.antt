@@ -1,7 +1,7 @@
 -- What the engine of `luma-vitc` keeps. No promise speaks of it.
 use Rattle.std.specs.Prelude.{◌≡◌, ℕ, ◌≤◌, Bool, cond, List, [], ◌++◌, length, map, take}
 use Rattle.std.specs.List.{concat, All, AllZip}
-use Rattle.std.proofs.Common.{ap, append-nil, arith, subst, sym, ◌∙◌}
+use Rattle.std.proofs.Common.{ap, arith, subst, sym, ◌∙◌}
 use Rattle.std.proofs.lemmas.Bool.{le-ltb}
 use Rattle.std.proofs.lemmas.List.{take_all}
 use Rattle.line_file.specs.Grammar.{file_of}
@@ -22,7 +22,7 @@ pub record HasPixels (s : ReadPixels) (fields : List (List ℕ)) (part : List �
   pub sizes : All (λ field. length field ≡ size_of s.run.raster) fields
   pub begun : StandsFor s.reader part
 
--- it was given these bytes; what was written, and then what is gathered, are the header and the whole fields
+-- it was given these bytes; what was written are the header and the whole fields
 pub record Stands (s : ReadPixels) (bytes written : List ℕ) : Type 0 where
   pub fields : List (List ℕ)
   pub part : List ℕ
@@ -31,17 +31,17 @@ pub record Stands (s : ReadPixels) (bytes written : List ℕ) : Type 0 where
   pub whole : whole_parts (size_of s.run.raster) bytes ≡ fields
   pub lines : List (List ℕ)
   pub say : AllZip (SaysLines s.run.raster) fields lines
-  pub file : written ++ s.gathered.room.items ≡ file_of (luma_header s.run) (map written_lines lines)
+  pub file : written ≡ file_of (luma_header s.run) (map written_lines lines)
 
 -- it was given some bytes
 abbrev pub IsGoing : ReadPixels → Type 0
 IsGoing s = (bytes written : List ℕ) × Stands s bytes written
 
--- what was written is the part of the bytes, where nothing is gathered
-pub stands_well : (s : ReadPixels) (bytes written : List ℕ) → s.gathered.room.items ≡ [] → Stands s bytes written
+-- what was written is the part of the bytes
+pub stands_well : (s : ReadPixels) (bytes written : List ℕ) → Stands s bytes written
     → Shows (along_pixels s.run) good bytes
     × IsLumaFile s.run (whole_parts (size_of s.run.raster) (take (most_pixels s.run) bytes)) written
-stands_well s bytes written settled stands =
+stands_well s bytes written stands =
     let most = most_pixels s.run in
     let long : length bytes ≡ s.taken = ap length stands.are ∙ sym stands.has.taken in
     let within : length bytes ≤ most = omega (arith, long, stands.has.within) in
@@ -54,6 +54,6 @@ stands_well s bytes written settled stands =
       record {
         lines = stands.lines;
         say = subst (λ (fs : List (List ℕ)). AllZip (SaysLines s.run.raster) fs stands.lines) all stands.say;
-        file = sym (append-nil written) ∙ ap (λ (l : List ℕ). written ++ l) (sym settled) ∙ stands.file;
+        file = stands.file;
       },
     )

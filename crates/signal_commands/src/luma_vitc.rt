@@ -4,16 +4,16 @@ ghost use Rattle.std.specs.Prelude.{◌≡◌, ◌≤◌, ◌^◌, []};
 ghost use Rattle.tc_command.specs.Told.{IsLawful, IsTold, WorksAsTold};
 ghost use Rattle.tc_job.specs.LumaRun.{LumaReading};
 ghost use Rattle.signal_commands.specs.KeptLuma.{IsGoing, Stands};
-ghost use Rattle.signal_commands.specs.LumaVitc.{most_pixels, told_luma_vitc};
+ghost use Rattle.line_file.specs.LineHeader.{header_bytes};
+ghost use Rattle.signal_commands.specs.LumaVitc.{luma_header, most_pixels, told_luma_vitc};
 ghost use Rattle.luma_field.specs.Raster.{size_of};
 
 use crate::luma_lines::{LINE_LENGTH, field_of};
-use crate::stopping::push_before;
 use line_file::laws::{a_file_is_read_as_it_was_written, runs_of_a_line_fit_the_file};
-use line_file::{LineHeader, MAX_FIELDS, line_header};
+use line_file::{HEADER_LENGTH, LineHeader, MAX_FIELDS, line_header};
 use luma_field::PixelReader;
 use luma_field::laws::{a_field_says_its_lines, joined_parts_are_taken_apart};
-use tc_command::{Engine, Gathered, InputFault, Stop, work};
+use tc_command::{Halt, InputFault, Machine, Output, Stop, run_behind};
 use tc_io::{Sink, Source};
 use tc_job::LumaRun;
 use vitc_reader::laws::each_line_has_its_runs;
@@ -28,7 +28,7 @@ pub fn read_pixels<S: Source, K: Sink>(
         out.old out.new result }
 {
     pixels_are_told(run);
-    work(&mut ReadPixels::new(run), source, out)
+    run_behind(&header(run), &mut ReadPixels::new(run), source, out)
 }
 
 /// What is told of `luma-vitc` holds: the file that it writes is read as the lines of its rows.
@@ -59,7 +59,6 @@ struct ReadPixels {
     reader: PixelReader,
     /// Bytes so far.
     taken: u64,
-    gathered: Gathered,
 }
 
 /// The bytes of a field.
@@ -80,29 +79,34 @@ fn most(run: &LumaRun) -> u64
     u64::from(MAX_FIELDS) * size(run)
 }
 
+/// The header of the line file, which is written before the first byte comes.
+fn header(run: &LumaRun) -> [u8; HEADER_LENGTH]
+    ensures { result ≡ header_bytes (luma_header run.now) }
+{
+    line_header(&LineHeader {
+        system: run.system(),
+        length: LINE_LENGTH,
+    })
+}
+
 impl ReadPixels {
-    /// Before the first byte. The header stands already.
+    /// Before the first byte, behind the header.
     fn new(run: &LumaRun) -> ReadPixels
         ensures run { result.run ≡ run.now }
         ensures going { IsGoing result }
-        ensures stands { Stands result [] [] }
+        ensures stands { Stands result [] (header_bytes (luma_header run.now)) }
     {
         joined_parts_are_taken_apart();
-        let header = line_header(&LineHeader {
-            system: run.system(),
-            length: LINE_LENGTH,
-        });
         ReadPixels {
             run: *run,
             reader: PixelReader::new(&run.raster()),
             taken: 0,
-            gathered: Gathered::holding(&header),
         }
     }
 }
 
-impl Engine for ReadPixels {
-    ghost use Rattle.std.specs.Prelude.{◌-◌, ◌+◌, ◌≡◌, []};
+impl Machine for ReadPixels {
+    ghost use Rattle.std.specs.Prelude.{◌-◌, ◌+◌};
     ghost use Rattle.signal_commands.specs.KeptLuma.{IsGoing, Stands, stands_well};
     ghost use Rattle.signal_commands.specs.LumaVitc.{along_pixels, most_pixels};
 
@@ -116,35 +120,29 @@ impl Engine for ReadPixels {
 
     ghost stands = { λ s bytes written. Stands s bytes written };
 
-    ghost is_settled = { λ s. s.gathered.room.items ≡ [] };
-
     ghost budget = { λ s. most_pixels s.run + 1 - s.taken };
 
-    ghost stands_well = { λ s bytes written settled stands. stands_well s bytes written settled stands };
+    ghost stands_well = { λ s bytes written stands. stands_well s bytes written stands };
 
-    fn take<K: Sink>(&mut self, bytes: &[u8], out: &mut K) -> Result<usize, Stop> {
+    fn take<O: Output>(&mut self, bytes: &[u8], out: &mut O) -> Result<usize, Halt> {
         joined_parts_are_taken_apart();
         a_field_says_its_lines();
         if self.taken == most(&self.run) {
-            return Err(push_before(Stop::Limit, &mut self.gathered, out));
+            return Err(Halt::Limit);
         }
         let (count, lines) = self.reader.take(bytes);
         self.taken += count as u64;
         if let Some(lines) = lines {
-            self.gathered.put(field_of(&lines).as_slice(), out)?;
+            out.gather(field_of(&lines).as_slice());
         }
         Ok(count)
     }
 
-    fn flush<K: Sink>(&mut self, out: &mut K) -> Result<(), Stop> {
-        self.gathered.push(out)
-    }
-
-    fn finish<K: Sink>(&mut self, _out: &mut K) -> Result<(), Stop> {
+    fn finish<O: Output>(&mut self, _out: &mut O) -> Result<(), InputFault> {
         let rest = self.taken % size(&self.run);
         if rest == 0 {
             return Ok(());
         }
-        Err(Stop::Refused(InputFault::HalfField(self.taken)))
+        Err(InputFault::HalfField(self.taken))
     }
 }

@@ -1,14 +1,11 @@
 //! The engine of `mtc-read`: a line of each event of MIDI bytes. Read next: `mtc_reader/src/reader.rt`, and
 //! then `mtc_reader/src/texts.rt`.
-ghost use Rattle.std.specs.Prelude.{◌≡◌, ◌≤◌, ◌<◌, ◌+◌, ◌++◌, ℕ, List, [], length, take, OnOk, OnErr, IfErr};
-ghost use Rattle.std.specs.Io.KnownBytes.{Appends};
+ghost use Rattle.std.specs.Prelude.{◌≡◌, ◌≤◌, ◌<◌, ◌+◌, ◌++◌, ℕ, List, [], length, take};
 ghost use Rattle.mtc_reader.specs.declared.event.MtcEvent.{MtcEvent};
 ghost use Rattle.mtc_reader.specs.Events.{events_in};
 ghost use Rattle.mtc_reader.specs.StandsFor as reads;
 ghost use Rattle.mtc_reader.specs.StandsFor.{events_of};
 ghost use Rattle.mtc_reader.specs.Texts.{event_line};
-ghost use Rattle.tc_io.specs.Sink.{AppendsFront};
-ghost use Rattle.tc_command.specs.Causes.{HasOutCause};
 ghost use Rattle.signal_commands.specs.KeptMtc.{counted, FitsReport, Stands};
 ghost use Rattle.signal_commands.specs.MtcRead.{along_midi};
 ghost use Rattle.tc_command.specs.Told.{IsLawful, IsTold, WorksAsTold};
@@ -21,7 +18,7 @@ use mtc_reader::laws::{
     messages_carry_the_events, real_time_bytes_change_places_only,
 };
 use mtc_reader::{MtcEvent, MtcReader, mtc_end_text, push_mtc_text};
-use tc_command::{Engine, Stop, push_line, work};
+use tc_command::{Halt, InputFault, Machine, Output, Stop, run};
 use tc_io::{Sink, Source};
 
 /// How many bytes are read, at most.
@@ -33,7 +30,7 @@ pub fn read_midi<S: Source, K: Sink>(source: &mut S, out: &mut K) -> Result<(), 
         out.old out.new result }
 {
     midi_is_told();
-    work(&mut MtcReport::new(), source, out)
+    run(&mut MtcReport::new(), source, out)
 }
 
 /// What is claimed of `mtc-read` holds: what was sent is what is read, and nothing else is.
@@ -97,15 +94,12 @@ impl MtcReport {
         self.reader.take(&bytes[..bytes.len().min(room)])
     }
 
-    /// Counts an event, and pushes its line.
-    fn print<K: Sink>(&mut self, event: &MtcEvent, out: &mut K) -> Result<(), Stop>
+    /// Counts an event, and writes its line.
+    fn print<O: Output>(&mut self, event: &MtcEvent, out: &mut O)
         requires { self.old.full + self.old.quarter + self.old.refused < MAX_BYTES }
         ensures counted { self.new ≡ counted event.now self.old }
         ensures reader { self.new.reader ≡ self.old.reader }
-        ensures all { OnOk result (Appends (K.written out.old) (K.written out.new) (event_line event.now)) }
-        ensures front { OnErr result (AppendsFront (K.written out.old) (K.written out.new) (event_line event.now)) }
-        ensures why { IfErr result (λ stop. stop ≡ Stop.WriteFault) }
-        ensures cause { HasOutCause (K.faults out.old) (K.faults out.new) result }
+        ensures line { O.given out.old out.new (event_line event.now) }
     {
         match event {
             MtcEvent::Full { .. } => self.full += 1,
@@ -115,12 +109,12 @@ impl MtcReport {
         }
         let mut line = Text::new();
         push_mtc_text(&mut line, event);
-        push_line(out, &line)
+        out.write(&line);
     }
 }
 
-impl Engine for MtcReport {
-    ghost use Rattle.std.specs.Prelude.{◌-◌, ⊤};
+impl Machine for MtcReport {
+    ghost use Rattle.std.specs.Prelude.{◌-◌};
     ghost use Rattle.signal_commands.specs.KeptMtc.{FitsReport, Stands, stands_well};
     ghost use Rattle.signal_commands.specs.MtcRead.{along_midi};
     ghost use Rattle.signal_commands.specs.declared.mtc_read.TheConstants.{MAX_BYTES};
@@ -137,30 +131,27 @@ impl Engine for MtcReport {
 
     ghost budget = { λ s. MAX_BYTES - s.reader.bytes };
 
-    ghost is_settled = { λ _. ⊤ };
+    ghost stands_well = { λ s bytes written stands. stands_well s bytes written stands };
 
-    ghost stands_well = { λ s bytes written settled stands. stands_well s bytes written stands };
-
-    fn take<K: Sink>(&mut self, bytes: &[u8], out: &mut K) -> Result<usize, Stop> {
+    fn take<O: Output>(&mut self, bytes: &[u8], out: &mut O) -> Result<usize, Halt> {
         if self.reader.bytes() == MAX_BYTES {
-            return Err(Stop::Limit);
+            return Err(Halt::Limit);
         }
         let (count, event) = self.read(bytes);
         if let Some(event) = event {
-            self.print(&event, out)?;
+            self.print(&event, out);
         }
         Ok(count)
     }
 
-    fn flush<K: Sink>(&mut self, _out: &mut K) -> Result<(), Stop> {
-        Ok(())
-    }
-
-    fn finish<K: Sink>(&mut self, out: &mut K) -> Result<(), Stop> {
+    fn finish<O: Output>(&mut self, out: &mut O) -> Result<(), InputFault> {
         let bytes = self.reader.bytes();
-        push_line(
-            out,
-            &mtc_end_text(bytes, self.full, self.quarter, self.refused),
-        )
+        out.write(&mtc_end_text(
+            bytes,
+            self.full,
+            self.quarter,
+            self.refused,
+        ));
+        Ok(())
     }
 }

@@ -1,11 +1,8 @@
 //! The engine of `vitc-read`: a line of each field of a line file. Read next: `line_file/src/decoder.rt`, and
 //! then `line_file/src/texts.rt`.
-ghost use Rattle.std.specs.Prelude.{◌≡◌, ◌<◌, ◌≤◌, ◌+◌, [], OnOk, OnErr, IfErr};
-ghost use Rattle.std.specs.Io.KnownBytes.{Appends};
+ghost use Rattle.std.specs.Prelude.{◌≡◌, ◌<◌, ◌≤◌, ◌+◌, []};
 ghost use Rattle.line_file.specs.declared.decoder.TheConstants.{MAX_FIELDS};
 ghost use Rattle.line_file.specs.Texts.{field_line};
-ghost use Rattle.tc_io.specs.Sink.{AppendsFront};
-ghost use Rattle.tc_command.specs.Causes.{HasOutCause};
 ghost use Rattle.signal_commands.specs.KeptFields.{counted, FitsFields, Stands};
 ghost use Rattle.signal_commands.specs.VitcRead.{along_fields};
 ghost use Rattle.tc_command.specs.Told.{IsLawful, IsTold, WorksAsTold};
@@ -16,7 +13,7 @@ use line_file::laws::{
     a_decoder_tells_the_file, a_file_is_read_as_it_was_written, what_is_read_whole_is_a_file,
 };
 use line_file::{LineDecoder, Taken, field_end_text, field_text};
-use tc_command::{Engine, InputFault, Stop, push_line, work};
+use tc_command::{Halt, InputFault, Machine, Output, Stop, run};
 use tc_io::{Sink, Source};
 use vitc_reader::FieldAnswer;
 use vitc_reader::laws::{an_answer_says_whose_lines_they_are, lines_have_one_answer};
@@ -27,7 +24,7 @@ pub fn read_fields<S: Source, K: Sink>(source: &mut S, out: &mut K) -> Result<()
         out.old out.new result }
 {
     fields_are_told();
-    work(&mut FieldReport::new(), source, out)
+    run(&mut FieldReport::new(), source, out)
 }
 
 /// What is claimed of `vitc-read` holds: each field has its answer, which says whose lines its lines are.
@@ -75,17 +72,12 @@ impl FieldReport {
         }
     }
 
-    /// Counts a field, and pushes its line.
-    fn print<K: Sink>(&mut self, answer: &FieldAnswer, out: &mut K) -> Result<(), Stop>
+    /// Counts a field, and writes its line.
+    fn print<O: Output>(&mut self, answer: &FieldAnswer, out: &mut O)
         requires within { self.old.fields < MAX_FIELDS }
         requires counts { self.old.agreed + self.old.conflict + self.old.nothing ≤ self.old.fields }
         ensures counted { self.new ≡ counted answer.now self.old }
-        ensures all { OnOk result
-            (Appends (K.written out.old) (K.written out.new) (field_line self.old.fields answer.now)) }
-        ensures front { OnErr result
-            (AppendsFront (K.written out.old) (K.written out.new) (field_line self.old.fields answer.now)) }
-        ensures why { IfErr result (λ stop. stop ≡ Stop.WriteFault) }
-        ensures cause { HasOutCause (K.faults out.old) (K.faults out.new) result }
+        ensures line { O.given out.old out.new (field_line self.old.fields answer.now) }
     {
         let field = self.fields;
         self.fields += 1;
@@ -95,12 +87,12 @@ impl FieldReport {
             FieldAnswer::NoLine => self.nothing += 1,
             FieldAnswer::Nothing(_) => self.nothing += 1,
         }
-        push_line(out, &field_text(field, answer))
+        out.write(&field_text(field, answer));
     }
 }
 
-impl Engine for FieldReport {
-    ghost use Rattle.std.specs.Prelude.{◌-◌, ◌+◌, length, ⊤};
+impl Machine for FieldReport {
+    ghost use Rattle.std.specs.Prelude.{◌-◌, ◌+◌, length};
     ghost use Rattle.signal_commands.specs.KeptFields.{most_bytes, FitsFields, Stands, stands_well};
     ghost use Rattle.signal_commands.specs.VitcRead.{along_fields};
 
@@ -116,34 +108,33 @@ impl Engine for FieldReport {
 
     ghost budget = { λ s. most_bytes - (s.decoder.place + length s.decoder.part) };
 
-    ghost is_settled = { λ _. ⊤ };
+    ghost stands_well = { λ s bytes written stands. stands_well s bytes written stands };
 
-    ghost stands_well = { λ s bytes written settled stands. stands_well s bytes written stands };
-
-    fn take<K: Sink>(&mut self, bytes: &[u8], out: &mut K) -> Result<usize, Stop> {
+    fn take<O: Output>(&mut self, bytes: &[u8], out: &mut O) -> Result<usize, Halt> {
         a_decoder_tells_the_file();
         match self.decoder.take(bytes) {
             Taken::Nothing(count) => Ok(count),
             Taken::Field { count, answer } => {
-                self.print(&answer, out)?;
+                self.print(&answer, out);
                 Ok(count)
             }
-            Taken::Fault(fault) => Err(Stop::Refused(InputFault::Lines(fault))),
-            Taken::Limit => Err(Stop::Limit),
+            Taken::Fault(fault) => Err(Halt::Refused(InputFault::Lines(fault))),
+            Taken::Limit => Err(Halt::Limit),
         }
     }
 
-    fn flush<K: Sink>(&mut self, _out: &mut K) -> Result<(), Stop> {
-        Ok(())
-    }
-
-    fn finish<K: Sink>(&mut self, out: &mut K) -> Result<(), Stop> {
+    fn finish<O: Output>(&mut self, out: &mut O) -> Result<(), InputFault> {
         match self.decoder.finish() {
-            Ok(()) => push_line(
-                out,
-                &field_end_text(self.fields, self.agreed, self.conflict, self.nothing),
-            ),
-            Err(fault) => Err(Stop::Refused(InputFault::Lines(fault))),
+            Ok(()) => {
+                out.write(&field_end_text(
+                    self.fields,
+                    self.agreed,
+                    self.conflict,
+                    self.nothing,
+                ));
+                Ok(())
+            }
+            Err(fault) => Err(InputFault::Lines(fault)),
         }
     }
 }

@@ -28,10 +28,8 @@ returns-clause-stands c =
       whole = c.joined_parts_are_taken_apart.ensures.apart size [] [] none few;
       lines = [];
       say = tt;
-      file = c.holding.ensures ∙ (c.line_header-header.ensures.bytes
-          ∙ (ap (λ (system : System). header_bytes (record { system = system; length = LINE_LENGTH }))
-          c.system.ensures.value ∙ sym (append-nil (header_bytes (luma_header luma)))));
+      file = sym (append-nil (header_bytes (luma_header luma)));
     }
 
 pub returns-clause-going : goal.returns-clause-going
-returns-clause-going c = ([], [], returns-clause-stands c)
+returns-clause-going c = ([], header_bytes (luma_header c.args.run.now), returns-clause-stands c)
