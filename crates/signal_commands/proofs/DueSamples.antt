@@ -1,10 +1,8 @@
 -- The bytes that samples bring are those that each run of them brings, one run after another.
 use Rattle.std.proofs.Common.{◌≡◌, ℕ, zero, suc, ◌+◌, ◌-◌, ◌*◌, ◌^◌, ◌≤◌, ap₂, ℤ, List, [], ◌++◌, length, take, drop}
 use Rattle.std.proofs.Common.{sym, ◌∙◌, ap, subst, append_assoc, append-nil, arith}
-use Rattle.std.specs.declared.option.Option.{Option}
 use Rattle.std.proofs.lemmas.Grind.{common_steps, flat_map-append}
 use Rattle.std.proofs.lemmas.List.{take-append-drop, drop-take}
-use Rattle.std.proofs.KnownBytes.{Appends-trans}
 use Rattle.std.proofs.Math.Nat.{suc-mul}
 use Rattle.pcm_front.specs.declared.interval.Intervals.{Intervals}
 use Rattle.pcm_front.specs.declared.pace.Pace.{Pace}
@@ -13,8 +11,6 @@ use Rattle.pcm_front.specs.Settings.{Settings}
 use Rattle.interval_file.specs.declared.header.FileVersion.TheVariants.{One}
 use Rattle.interval_file.specs.Grammar.{intervals_bytes}
 use Rattle.interval_file.specs.Piece.{spelling}
-use Rattle.tc_io.specs.Sink.{AppendsFront}
-use Rattle.tc_command.specs.KeptGathered.{IsPut}
 use Rattle.signal_commands.specs.KeptTrack.{AreDue, spelled}
 
 -- what intervals bring
@@ -32,15 +28,6 @@ due_more pace s front before run due brought are brings =
     ∙ flat_map-append (spelling One) (intervals_at pace s (front ++ before)) (intervals_in brought)
     ∙ ap (λ (l : List ℕ). l ++ due_at brought) are ∙ append_assoc (spelled pace s front) due (due_at brought)
 
--- and what the others bring behind it
-pub due_behind : (pace : Pace) (s : Settings) (front before rest all : List ℤ) (due more : List ℕ)
-    → before ++ rest ≡ all → AreDue pace s front before due
-    → AreDue pace s (front ++ before) rest more → AreDue pace s front all (due ++ more)
-due_behind pace s front before rest all due more split are behind =
-    ap (λ (l : List ℤ). spelled pace s (front ++ l)) (sym split)
-    ∙ ap (spelled pace s) (sym (append_assoc front before rest)) ∙ behind
-    ∙ ap (λ (l : List ℕ). l ++ more) are ∙ append_assoc (spelled pace s front) due more
-
 -- a run behind those before a place
 pub cut_run : (k n : ℕ) (xs : List ℤ) → k ≤ length xs → k + n ≤ length xs
     → take k xs ++ take n (take (length xs - k) (drop k xs)) ≡ take (k + n) xs
@@ -50,15 +37,6 @@ cut_run k n xs within less =
     let behind = drop-take k n xs in
     let front : take k (take (k + n) xs) ≡ take k xs = grind (arith, common_steps) in
     rw (all, ← behind, ← front) cut
-
--- what was not taken of some bytes was not taken of more
-pub front_of_longer : (old new : Option (List ℕ)) (room a b : List ℕ) → AppendsFront old new (room ++ a)
-    → AppendsFront old new (room ++ (a ++ b))
-front_of_longer old new room a b f = (
-  f.0,
-  (f.1.0 ++ b, sym (append_assoc room a b) ∙ ap (λ (l : List ℕ). l ++ b) f.1.1 ∙ append_assoc f.0 f.1.0 b),
-  f.2,
-)
 
 -- ---- runs of some samples
 
@@ -117,20 +95,6 @@ run_due pace s other k n front xs due brought same within less are brings =
     same brings in
     subst (λ (l : List ℤ). AreDue pace s front l (due ++ due_at brought)) (cut_run k n xs within less)
     (due_more pace s front (take k xs) run due brought are here)
-
--- what was put before, and a front of what is put then
-pub put_then_front : (a b c : Option (List ℕ)) (first bytes room piece : List ℕ) → IsPut a b first bytes room
-    → AppendsFront b c (room ++ piece)
-    → AppendsFront a c (first ++ (bytes ++ piece))
-put_then_front a b c first bytes room piece p f = (
-  p.0 ++ f.0,
-  (
-    f.1.0,
-    sym (append_assoc first bytes piece) ∙ ap (λ (l : List ℕ). l ++ piece) p.2 ∙ append_assoc p.0 room piece
-        ∙ ap (λ (l : List ℕ). p.0 ++ l) f.1.1 ∙ sym (append_assoc p.0 f.0 f.1.0),
-  ),
-  Appends-trans a b c p.0 f.0 p.1 f.2,
-)
 
 -- no sample brings anything
 pub nothing_due : (pace : Pace) (s : Settings) (front : List ℤ) → AreDue pace s front [] []

@@ -9,7 +9,7 @@ mod LumaOn
 mod LumaTold
 mod MidiGrows
 mod MidiLimit
-mod NothingYet
+mod Outcomes
 mod PathEnds
 mod PathIsCommand
 mod PathLasts

@@ -21,21 +21,18 @@ use Rattle.interval_file.specs.Grammar.{file_of, intervals_bytes}
 use Rattle.interval_file.specs.IntervalHeader.{header_bytes}
 use Rattle.interval_file.specs.Piece.{spelling}
 use Rattle.tc_io.specs.Verdict.{refused, past_limit}
-use Rattle.tc_io.specs.Sink.{AppendsFront}
 use Rattle.tc_job.specs.Slicing as words
 use Rattle.signal_commands.specs.declared.pcm_ltc.SlicedSound.{SlicedSound}
 use Rattle.signal_commands.specs.declared.pcm_ltc.TheConstants.{MAX_SAMPLES}
-use Rattle.std.specs.Prelude.{IfErr, IfOk, OnOk, Ok, Err}
+use Rattle.std.specs.Prelude.{IfOk, OnOk, Ok, Err}
 use Rattle.std.specs.declared.result.Result.{Result}
 use Rattle.signal_commands.proofs.MidiLimit.{verdict_by, not_refused, past_by}
-use Rattle.tc_command.specs.declared.stop.Stop.{Stop}
-use Rattle.tc_command.specs.declared.stop.Stop.TheVariants as stops
+use Rattle.tc_command.specs.declared.halt.Halt.TheVariants.{Limit}
+use Rattle.tc_command.specs.Halt.{IsHalt}
 use Rattle.signal_commands.specs.KeptSlices.{IsGoing, Slices, Stands, half_is_none, length-samples, samples_of-append}
-use Rattle.signal_commands.specs.KeptStops.{StopsBehind, of_both}
 use Rattle.tc_command.specs.declared.input_fault.InputFault.TheVariants.{HalfSample}
 use Rattle.signal_commands.specs.PcmLtc.{along_samples, odd_fault, pace_for, samples_within, settings_for, sliced}
 use Rattle.signal_commands.specs.PcmLtc.{sliced_header}
-use Rattle.tc_command.specs.Stops.{Stops}
 use Rattle.lemmas.specs.Lists.{first_and_rest, first_only}
 use Rattle.signal_commands.proofs.PutMore.{none_begun}
 
@@ -104,111 +101,36 @@ pub record Grows (s next : SlicedSound) (taken : List ℕ) (brought : Intervals)
       → intervals_at (pace_for s.slicing) (settings_for s.slicing) (samples ++ samples_of taken)
       ≡ intervals_at (pace_for s.slicing) (settings_for s.slicing) samples ++ intervals_in brought
 
--- the file of the bytes with more
-grown_file : (s next : SlicedSound) (whole written taken : List ℕ) (brought : Intervals) → Slices s whole written
-    → Grows s next taken brought
-    → written ++ (s.gathered.room.items ++ due brought) ≡ sliced s.slicing (samples_of (whole ++ taken))
-grown_file s next whole written taken brought slices grows =
-    sym (append_assoc written s.gathered.room.items (due brought))
-    ∙ ap (λ (l : List ℕ). l ++ due brought) slices.are
-    ∙ sym (longer_file s.slicing (samples_of whole) (samples_of taken) brought
-    (grows.brings (samples_of whole) slices.slicer))
-    ∙ ap (sliced s.slicing) (sym (samples_of-append s.samples whole taken slices.count))
-
--- more bytes were taken, and what they bring was pushed or is gathered
-pub grown : (s next : SlicedSound) (whole written taken more : List ℕ) (brought : Intervals) → Slices s whole written
-    → Grows s next taken brought
-    → s.gathered.room.items ++ due brought ≡ more ++ next.gathered.room.items
-    → Slices next (whole ++ taken) (written ++ more)
-grown s next whole written taken more brought slices grows pushed = record {
+-- more bytes were taken, and what they bring was written
+pub grown : (s next : SlicedSound) (whole written taken : List ℕ) (brought : Intervals) → Slices s whole written
+    → Grows s next taken brought → Slices next (whole ++ taken) (written ++ due brought)
+grown s next whole written taken brought slices grows = record {
   within = grows.within;
   count = omega (arith, length-append whole taken, slices.count, grows.count);
   slicer = rw (samples_of-append s.samples whole taken slices.count) (grows.stands (samples_of whole) slices.slicer);
-  are = append_assoc written more next.gathered.room.items ∙ ap (λ (l : List ℕ). written ++ l) (sym pushed)
-      ∙ grown_file s next whole written taken brought slices grows
+  are = ap (λ (l : List ℕ). l ++ due brought) slices.are
+      ∙ sym (longer_file s.slicing (samples_of whole) (samples_of taken) brought
+      (grows.brings (samples_of whole) slices.slicer))
+      ∙ ap (sliced s.slicing) (sym (samples_of-append s.samples whole taken slices.count))
       ∙ ap (λ (c : words.Slices). sliced c (samples_of (whole ++ taken))) (sym grows.slicing);
 }
 
--- the part of whole bytes within the limit
-part_of : (slicing : words.Slices) (bytes written : List ℕ) → length (samples_of bytes) ≤ MAX_SAMPLES
-    → written ≡ sliced slicing (samples_of bytes)
-    → written ≡ sliced slicing (take MAX_SAMPLES (samples_of bytes))
-part_of slicing bytes written within are = are
-    ∙ ap (sliced slicing) (sym (take_all MAX_SAMPLES (samples_of bytes) within))
-
--- a push failed: a front of what is due is written
-pub grown_part : (s next : SlicedSound) (whole written bytes rest : List ℕ) (count : ℕ) (brought : Intervals)
-    (old new : Option (List ℕ))
-    → Slices s whole written → Grows s next (take count bytes) brought
-    → AppendsFront old new (s.gathered.room.items ++ due brought)
-    → Stops (along_samples s.slicing) stops.WriteFault old new (whole ++ (bytes ++ rest)) written
-grown_part s next whole written bytes rest count brought old new slices grows f =
-    let taken = take count bytes in
-    let front = whole ++ taken in
-    let long : length front ≡ 2 * next.samples = omega (arith, length-append whole taken, slices.count, grows.count) in
-    let within : length (samples_of front) ≤ MAX_SAMPLES =
-    omega (arith, length-samples next.samples front long, grows.within) in
-    let behind : bytes ++ rest ≡ taken ++ (drop count bytes ++ rest) =
-    ap (λ (l : List ℕ). l ++ rest) (sym (take-append-drop count bytes))
-    ∙ append_assoc taken (drop count bytes) rest in (
-      f.0,
-      f.2,
-      (
-        front,
-        written ++ (s.gathered.room.items ++ due brought),
-        (
-          drop count bytes ++ rest,
-          ap (λ (l : List ℕ). whole ++ l) behind ∙ sym (append_assoc whole taken (drop count bytes ++ rest)),
-        ),
-        part_of s.slicing front _ within (grown_file s next whole written taken brought slices grows),
-        (f.1.0, ap (λ (l : List ℕ). written ++ l) f.1.1 ∙ sym (append_assoc written f.0 f.1.0)),
-      ),
-    )
-
--- what is gathered was not taken
-pub gathered_part : (s : SlicedSound) (whole written bytes : List ℕ) (old new : Option (List ℕ))
-    → Slices s whole written
-    → AppendsFront old new s.gathered.room.items
-    → Stops (along_samples s.slicing) stops.WriteFault old new (whole ++ bytes) written
-gathered_part s whole written bytes old new slices f =
-    let within : length (samples_of whole) ≤ MAX_SAMPLES =
-    omega (arith, length-samples s.samples whole slices.count, slices.within) in (
-      f.0,
-      f.2,
-      (
-        whole,
-        written ++ s.gathered.room.items,
-        (bytes, refl),
-        part_of s.slicing whole _ within slices.are,
-        (f.1.0, ap (λ (l : List ℕ). written ++ l) f.1.1 ∙ sym (append_assoc written f.0 f.1.0)),
-      ),
-    )
-
--- past the limit: what is gathered was pushed, and is the part of the bytes; or it was not
-pub at_limit : (s : SlicedSound) (whole written bytes : List ℕ) (stop : Stop) (old new : Option (List ℕ))
-    → Slices s whole written
-    → s.samples ≡ MAX_SAMPLES → 2 ≤ length bytes → StopsBehind stops.Limit old new s.gathered.room.items stop
-    → Stops (along_samples s.slicing) stop old new (whole ++ bytes) written
-at_limit s whole written bytes stop old new slices full some behind =
+-- past the limit: what was written is the part of the bytes
+pub at_limit : (s : SlicedSound) (whole written bytes : List ℕ) → Slices s whole written → s.samples ≡ MAX_SAMPLES
+    → 2 ≤ length bytes → IsHalt (along_samples s.slicing) Limit (whole ++ bytes) (written ++ [])
+at_limit s whole written bytes slices full some =
     let long = length-samples s.samples whole slices.count in
     let all = samples_of-append s.samples whole bytes slices.count in
     let more = length-append (samples_of whole) (samples_of bytes) in
-    of_both (λ (x : Stop). Stops (along_samples s.slicing) x old new (whole ++ bytes) written) stops.Limit stop
-    old new s.gathered.room.items behind
-    (λ pushed. (
-      s.gathered.room.items,
-      pushed,
-      inl (
-        record {
-          is = is_past MAX_SAMPLES (whole ++ bytes) (rw all (omega (arith, long, full, more, some_samples bytes some)));
-          unspent = λ spent. spent;
-        },
-        slices.are ∙ ap (sliced s.slicing) (sym (ap (take MAX_SAMPLES) all
-            ∙ take-append-le MAX_SAMPLES (samples_of whole) (samples_of bytes) (omega (arith, long, full))
-            ∙ take_all MAX_SAMPLES (samples_of whole) (omega (arith, long, full)))),
-      ),
-    ))
-    (gathered_part s whole written bytes old new slices)
+    inl (
+      record {
+        is = is_past MAX_SAMPLES (whole ++ bytes) (rw all (omega (arith, long, full, more, some_samples bytes some)));
+        unspent = λ spent. spent;
+      },
+      append-nil written ∙ slices.are ∙ ap (sliced s.slicing) (sym (ap (take MAX_SAMPLES) all
+          ∙ take-append-le MAX_SAMPLES (samples_of whole) (samples_of bytes) (omega (arith, long, full))
+          ∙ take_all MAX_SAMPLES (samples_of whole) (omega (arith, long, full)))),
+    )
 
 -- ---- the end
 
@@ -232,22 +154,12 @@ length-bytes s bytes written stands =
     ap length stands.are ∙ length-append stands.whole (option_to_list s.half)
     ∙ ap (λ (n : ℕ). n + length (option_to_list s.half)) stands.slices.count
 
--- all of it was written, if nothing is gathered
-pub all_written : (s : SlicedSound) (bytes written : List ℕ) → s.gathered.room.items ≡ [] → Stands s bytes written
-    → written
-    ≡ sliced s.slicing (samples_of bytes)
-all_written s bytes written settled stands =
-    sym (append-nil written) ∙ ap (λ (l : List ℕ). written ++ l) (sym settled) ∙ stands.slices.are
-    ∙ ap (sliced s.slicing)
+-- all of it was written
+pub all_written : (s : SlicedSound) (bytes written : List ℕ) → Stands s bytes written
+    → written ≡ sliced s.slicing (samples_of bytes)
+all_written s bytes written stands =
+    stands.slices.are ∙ ap (sliced s.slicing)
     (sym (ap samples_of stands.are ∙ half_is_none s.samples stands.whole s.half stands.slices.count))
-
--- what is gathered was not taken
-pub gathered_stop : (s : SlicedSound) (bytes written : List ℕ) (old new : Option (List ℕ)) → Stands s bytes written
-    → AppendsFront old new s.gathered.room.items → Stops (along_samples s.slicing) stops.WriteFault old new bytes
-    written
-gathered_stop s bytes written old new stands f =
-    subst (λ (b : List ℕ). Stops (along_samples s.slicing) stops.WriteFault old new b written) (sym stands.are)
-    (gathered_part s stands.whole written (option_to_list s.half) old new stands.slices f)
 
 -- ---- bytes that are given to the slicer
 
@@ -366,23 +278,6 @@ pub no_half : (front whole : List ℕ) (half : Option ℕ) → front ≡ whole +
     → front ≡ whole
 no_half front whole half are is = are ∙ ap (λ (h : Option ℕ). whole ++ option_to_list h) is ∙ append-nil whole
 
--- a fact of an error that follows from another
-pub err_to : {T : Type 0} {P Q : Stop → Type 0} (result : Result T Stop) → IfErr result P
-    → ((stop : Stop) → P stop → Q stop) → IfErr result Q
-err_to (Ok done) says to = tt
-err_to (Err stop) says to = to stop says
-
--- and one of what is right
-pub ok_to : {T : Type 0} {P Q : T → Type 0} (result : Result T Stop) → IfOk result P → ((value : T) → P value → Q value)
-    → IfOk result Q
-ok_to (Ok value) says to = to value says
-ok_to (Err stop) says to = tt
-
-pub ok_both : {T : Type 0} (P Q : T → Type 0) (result : Result T Stop) → IfOk result P → IfOk result Q
-    → IfOk result (λ value. P value × Q value)
-ok_both P Q (Ok value) p q = (p, q)
-ok_both P Q (Err stop) p q = tt
-
 -- ---- what is still to come
 
 -- a byte at most is kept
@@ -407,7 +302,7 @@ falls_by_half samples old low none within =
     let kept = ap (λ (half : Option ℕ). length (option_to_list half)) none in omega (arith, kept, within)
 
 -- what three facts of a success say together
-pub with_three : {G Q : Type 0} {P R : ℕ → Type 0} (result : Result ℕ Stop) → OnOk result G → IfOk result P
+pub with_three : {E G Q : Type 0} {P R : ℕ → Type 0} (result : Result ℕ E) → OnOk result G → IfOk result P
     → IfOk result R → (G → (n : ℕ) → P n → R n → Q) → OnOk result Q
 with_three (Ok n) g p r to = to g n p r
-with_three (Err stop) g p r to = tt
+with_three (Err halt) g p r to = tt

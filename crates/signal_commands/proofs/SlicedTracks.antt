@@ -3,10 +3,8 @@
 use Rattle.std.proofs.Common.{◌≡◌, ℕ, ◌+◌, ◌-◌, ◌*◌, ◌^◌, ◌≤◌, ◌<◌, ℤ, List, [], ◌∷◌, ◌++◌, Option, Some, None, length}
 use Rattle.std.proofs.Common.{take, drop, inl, refl, sym, ◌∙◌, ap, ap₂}
 use Rattle.std.proofs.Common.{subst, append_assoc, append-nil, arith}
-use Rattle.std.specs.Io.KnownBytes.{Appends}
 use Rattle.std.specs.Option.{option_map}
-use Rattle.std.proofs.KnownBytes.{Appends-nil}
-use Rattle.std.proofs.lemmas.List.{length-append, take-append-drop}
+use Rattle.std.proofs.lemmas.List.{length-append}
 use Rattle.std.proofs.lemmas.List.FromFn.{length-map-range_with_len}
 use Rattle.pcm_front.specs.declared.pace.Pace.{Pace}
 use Rattle.pcm_front.specs.declared.pace.Pace.TheVariants.{Ended}
@@ -16,7 +14,6 @@ use Rattle.pcm_front.specs.StandsFor.{settings_of, tick_of}
 use Rattle.tc_command.specs.declared.input_fault.InputFault.TheVariants.{Sound}
 use Rattle.interval_file.specs.Grammar.{file_of}
 use Rattle.interval_file.specs.IntervalHeader.{header_bytes}
-use Rattle.tc_io.specs.Sink.{AppendsFront}
 use Rattle.tc_job.specs.WaveSlicing.{SlicesWave}
 use Rattle.wave_file.specs.declared.decoder.Taken.TheVariants as taken
 use Rattle.wave_file.specs.declared.fault.WaveFault.{WaveFault}
@@ -26,17 +23,11 @@ use Rattle.wave_file.specs.GoesOn.{IsWithin}
 use Rattle.wave_file.specs.StandsFor.{StandsFor, IsTold, StopsAt, bytes_taken, format_in_decoding}
 use Rattle.wave_file.specs.Wave.{end_fault_of, reading_of}
 use Rattle.tc_io.specs.Verdict.{Verdict, good, refused, past_limit, verdict_as}
-use Rattle.tc_command.specs.declared.gathered.Gathered.{Gathered}
-use Rattle.std.specs.Prelude.{IfErr, IfOk, OnOk, Ok, Err}
-use Rattle.std.specs.declared.result.Result.{Result}
-use Rattle.tc_command.specs.declared.stop.Stop.{Stop}
-use Rattle.tc_command.specs.declared.stop.Stop.TheVariants as stops
-use Rattle.tc_command.specs.KeptWorks.{Works, stops_on}
-use Rattle.tc_command.specs.KeptGathered.{IsPut}
-use Rattle.tc_command.specs.Stops.{IsStop, Stops}
+use Rattle.tc_command.specs.declared.halt.Halt.TheVariants.{Refused, Limit}
+use Rattle.tc_command.specs.KeptBrings.{Brings}
+use Rattle.tc_command.specs.Halt.{IsHalt}
 use Rattle.pcm_front.specs.declared.slicer.Slicer.{Slicer}
 use Rattle.signal_commands.specs.declared.wav_ltc.SlicedTrack.{SlicedTrack}
-use Rattle.signal_commands.specs.KeptStops.{StopsBehind, of_both}
 use Rattle.signal_commands.specs.KeptTrack.{AreDue, IsGoing, Stands, pace_in, spelled}
 use Rattle.signal_commands.specs.WavLtc.{along_sound_file, track_file, track_header, track_of, track_pace}
 use Rattle.signal_commands.specs.WavLtc.{track_settings}
@@ -79,12 +70,6 @@ longer_file w (Some format) samples more due none are = file_with w format sampl
 longer_file w None (x ∷ samples) more due none are = let e = none refl in absurd cc
 longer_file w None [] (x ∷ more) due none are = let e = none refl in absurd cc
 longer_file w None [] [] due none are = sym (nothing_more (spelled Ended (track_settings w) []) due are)
-
--- what was written and what is gathered are the file of the bytes
-file_is : (s : SlicedTrack) (front written : List ℕ) → Stands s front written
-    → written ++ s.gathered.room.items ≡ track_of s.slicing front
-file_is s front written stands =
-    let told = stands.told in stands.are ∙ ap₂ (track_file s.slicing) (sym told.format_is) (sym told.samples_are)
 
 -- ---- more bytes
 
@@ -139,7 +124,7 @@ told_on s next front written bytes samples stands decodes =
 
 moved : (s next : SlicedTrack) (front written bytes more : List ℕ) (samples : List ℤ) (stands : Stands s front written)
     → Decodes s next bytes samples → Slices s next samples
-    → (written ++ more) ++ next.gathered.room.items ≡ track_file s.slicing (format_in_decoding next.decoder)
+    → written ++ more ≡ track_file s.slicing (format_in_decoding next.decoder)
     (stands.samples ++ samples)
     → Stands next (front ++ bytes) (written ++ more)
 moved s next front written bytes more samples stands decodes slices are =
@@ -165,7 +150,7 @@ grown_file : Reads → (s next : SlicedTrack) (front written bytes due : List �
     → Decodes s next bytes samples → format_in_decoding next.decoder ≡ format_in_decoding s.decoder
     → (pace : Pace) → pace ≡ pace_in s.slicing (format_in_decoding next.decoder)
     → AreDue pace (settings_of s.slicer) stands.samples samples due
-    → written ++ (s.gathered.room.items ++ due) ≡ track_file s.slicing (format_in_decoding next.decoder)
+    → written ++ due ≡ track_file s.slicing (format_in_decoding next.decoder)
     (stands.samples ++ samples)
 grown_file reads s next front written bytes due samples stands decodes same pace pace_is are =
     let told = told_on s next front written bytes samples stands decodes in
@@ -174,27 +159,19 @@ grown_file reads s next front written bytes due samples stands decodes same pace
     let by_pace = subst (λ (p : Pace). AreDue p (settings_of s.slicer) stands.samples samples due) pace_is are in
     let by_words = subst (λ (x : Settings). AreDue (pace_in s.slicing (format_in_decoding next.decoder)) x
     stands.samples samples due) stands.settings by_pace in
-    sym (append_assoc written s.gathered.room.items due)
-    ∙ ap (λ (l : List ℕ). l ++ due) (stands.are ∙ ap (λ (f : Option WaveFormat). track_file s.slicing f stands.samples)
+    ap (λ (l : List ℕ). l ++ due) (stands.are ∙ ap (λ (f : Option WaveFormat). track_file s.slicing f stands.samples)
     (sym same))
     ∙ sym (longer_file s.slicing (format_in_decoding next.decoder) stands.samples samples due none by_words)
 
--- samples were taken, and what they bring was pushed or is gathered
+-- samples were taken, and what they bring was written
 pub sliced_on : Reads → (s next : SlicedTrack) (front written bytes due : List ℕ) (samples : List ℤ)
-    (old new : Option (List ℕ))
     (stands : Stands s front written) → Decodes s next bytes samples → Slices s next samples
     → format_in_decoding next.decoder ≡ format_in_decoding s.decoder
     → (pace : Pace) → pace ≡ pace_in s.slicing (format_in_decoding next.decoder)
-    → AreDue pace (settings_of s.slicer) stands.samples samples due
-    → IsPut old new s.gathered.room.items due next.gathered.room.items
-    → (more : List ℕ) × Appends old new more × Stands next (front ++ bytes) (written ++ more)
-sliced_on reads s next front written bytes due samples old new stands decodes slices same pace pace_is are put = (
-  put.0,
-  put.1,
-  moved s next front written bytes put.0 samples stands decodes slices
-      (append_assoc written put.0 next.gathered.room.items ∙ ap (λ (l : List ℕ). written ++ l) (sym put.2)
-      ∙ grown_file reads s next front written bytes due samples stands decodes same pace pace_is are),
-)
+    → AreDue pace (settings_of s.slicer) stands.samples samples due → Stands next (front ++ bytes) (written ++ due)
+sliced_on reads s next front written bytes due samples stands decodes slices same pace pace_is are =
+    moved s next front written bytes due samples stands decodes slices
+    (grown_file reads s next front written bytes due samples stands decodes same pace pace_is are)
 
 same_slicer : (s next : SlicedTrack) → next.slicer ≡ s.slicer → Slices s next []
 same_slicer s next same = record {
@@ -203,98 +180,32 @@ same_slicer s next same = record {
 }
 
 -- bytes without a sample
-pub passed_on : (s next : SlicedTrack) (front written bytes : List ℕ) (old : Option (List ℕ)) → Stands s front written
-    → Decodes s next bytes []
-    → next.slicer ≡ s.slicer → next.gathered.room.items ≡ s.gathered.room.items
-    → format_in_decoding next.decoder ≡ format_in_decoding s.decoder
-    → (more : List ℕ) × Appends old old more × Stands next (front ++ bytes) (written ++ more)
-passed_on s next front written bytes old stands decodes slicer room same = (
-  [],
-  Appends-nil old,
-  moved s next front written bytes [] [] stands decodes (same_slicer s next slicer)
-      (ap₂ (λ (a b : List ℕ). a ++ b) (append-nil written) room ∙ stands.are
-      ∙ ap₂ (track_file s.slicing) (sym same) (sym (append-nil stands.samples))),
-)
+pub passed_on : (s next : SlicedTrack) (front written bytes : List ℕ) → Stands s front written
+    → Decodes s next bytes [] → next.slicer ≡ s.slicer
+    → format_in_decoding next.decoder ≡ format_in_decoding s.decoder → Stands next (front ++ bytes) (written ++ [])
+passed_on s next front written bytes stands decodes slicer same =
+    moved s next front written bytes [] [] stands decodes (same_slicer s next slicer)
+    (append-nil written ∙ stands.are ∙ ap₂ (track_file s.slicing) (sym same) (sym (append-nil stands.samples)))
 
 -- the data begin
 pub begun : Reads → (s next : SlicedTrack) (front written bytes : List ℕ) (format : WaveFormat)
-    (old new : Option (List ℕ)) → Stands s front written
-    → Decodes s next bytes [] → next.slicer ≡ s.slicer → format_in_decoding s.decoder ≡ None
-    → format_in_decoding next.decoder ≡ Some format
-    → IsPut old new s.gathered.room.items (header_bytes (track_header s.slicing format)) next.gathered.room.items
-    → (more : List ℕ) × Appends old new more × Stands next (front ++ bytes) (written ++ more)
-begun reads s next front written bytes format old new stands decodes slicer before now put =
+    → Stands s front written → Decodes s next bytes [] → next.slicer ≡ s.slicer
+    → format_in_decoding s.decoder ≡ None → format_in_decoding next.decoder ≡ Some format
+    → Stands next (front ++ bytes) (written ++ header_bytes (track_header s.slicing format))
+begun reads s next front written bytes format stands decodes slicer before now =
     let none = none_yet reads (asked_by s.slicing) front (format_in_decoding s.decoder) stands.samples good stands.told
     before in
     let header = header_bytes (track_header s.slicing format) in
-    let empty : written ++ s.gathered.room.items ≡ [] = stands.are
+    let empty : written ≡ [] = stands.are
     ∙ ap (λ (f : Option WaveFormat). track_file s.slicing f stands.samples) before in
     let file : track_file s.slicing (format_in_decoding next.decoder) (stands.samples ++ []) ≡ header =
     ap₂ (λ (f : Option WaveFormat) (l : List ℤ). track_file s.slicing f (l ++ [])) now none
     ∙ ap (λ (l : List ℕ). file_of (track_header s.slicing format) l) (none_begun (track_pace s.slicing format))
-    ∙ append-nil header in (
-      put.0,
-      put.1,
-      moved s next front written bytes put.0 [] stands decodes (same_slicer s next slicer)
-          (append_assoc written put.0 next.gathered.room.items ∙ ap (λ (l : List ℕ). written ++ l) (sym put.2)
-          ∙ sym (append_assoc written s.gathered.room.items header) ∙ ap (λ (l : List ℕ). l ++ header) empty
-          ∙ sym file),
-    )
+    ∙ append-nil header in
+    moved s next front written bytes header [] stands decodes (same_slicer s next slicer)
+    (ap (λ (l : List ℕ). l ++ header) empty ∙ sym file)
 
 -- ---- what stops it
-
--- a push failed: a front of what is due is written
-pub slice_stop : Reads → (s next : SlicedTrack) (front written bytes due : List ℕ) (count : ℕ) (samples : List ℤ)
-    (old new : Option (List ℕ))
-    (stands : Stands s front written) → Decodes s next (take count bytes) samples
-    → format_in_decoding next.decoder ≡ format_in_decoding s.decoder
-    → (pace : Pace) → pace ≡ pace_in s.slicing (format_in_decoding next.decoder)
-    → AreDue pace (settings_of s.slicer) stands.samples samples due
-    → AppendsFront old new (s.gathered.room.items ++ due) → Stops (along_sound_file s.slicing) stops.WriteFault old new
-    (front ++ bytes) written
-slice_stop reads s next front written bytes due count samples old new stands decodes same pace pace_is are f =
-    let first = front ++ take count bytes in
-    let told = told_on s next front written (take count bytes) samples stands decodes in (
-      f.0,
-      f.2,
-      (
-        first,
-        written ++ (s.gathered.room.items ++ due),
-        (
-          drop count bytes,
-          ap (λ (l : List ℕ). front ++ l) (sym (take-append-drop count bytes))
-              ∙ sym (append_assoc front (take count bytes) (drop count bytes)),
-        ),
-        grown_file reads s next front written (take count bytes) due samples stands decodes same pace pace_is are
-            ∙ ap₂ (track_file s.slicing) (sym told.format_is) (sym told.samples_are),
-        (f.1.0, ap (λ (l : List ℕ). written ++ l) f.1.1 ∙ sym (append_assoc written f.0 f.1.0)),
-      ),
-    )
-
--- what is gathered was not taken
-pub gathered_stop : (s : SlicedTrack) (front written bytes : List ℕ) (old new : Option (List ℕ))
-    → Stands s front written
-    → AppendsFront old new s.gathered.room.items → Stops (along_sound_file s.slicing) stops.WriteFault old new
-    (front ++ bytes) written
-gathered_stop s front written bytes old new stands f = (
-  f.0,
-  f.2,
-  (
-    front,
-    written ++ s.gathered.room.items,
-    (bytes, refl),
-    file_is s front written stands,
-    (f.1.0, ap (λ (l : List ℕ). written ++ l) f.1.1 ∙ sym (append_assoc written f.0 f.1.0)),
-  ),
-)
-
--- the same at the end of what was pulled
-pub flush_stop : (s : SlicedTrack) (front written : List ℕ) (old new : Option (List ℕ)) → Stands s front written
-    → AppendsFront old new s.gathered.room.items → Stops (along_sound_file s.slicing) stops.WriteFault old new front
-    written
-flush_stop s front written old new stands f =
-    subst (λ (l : List ℕ). Stops (along_sound_file s.slicing) stops.WriteFault old new l written) (append-nil front)
-    (gathered_stop s front written [] old new stands f)
 
 -- what is said of bytes that end the reading
 told_stop : (s : SlicedTrack) (front written all : List ℕ) (v : Verdict WaveFault) (stands : Stands s front written)
@@ -306,43 +217,26 @@ told_stop s front written all v stands told =
     (subst (λ (l : List ℕ). IsTold (reading_of s.decoder.asked l) (format_in_decoding s.decoder) stands.samples v)
     (append-nil all) (told []))
 
-pub fault_stop : (s : SlicedTrack) (front written bytes : List ℕ) (f : WaveFault) (stop : Stop)
-    (old new : Option (List ℕ))
-    (stands : Stands s front written) → StopsAt s.decoder (front ++ bytes) stands.samples (taken.Fault f)
-    → StopsBehind (stops.Refused (Sound f)) old new s.gathered.room.items stop
-    → Stops (along_sound_file s.slicing) stop old new (front ++ bytes) written
-fault_stop s front written bytes f stop old new stands at behind =
-    let told = told_stop s front written (front ++ bytes) (refused f) stands at in
-    of_both (λ (x : Stop). Stops (along_sound_file s.slicing) x old new (front ++ bytes) written)
-    (stops.Refused (Sound f)) stop
-    old new s.gathered.room.items behind
-    (λ pushed. (
-      s.gathered.room.items,
-      pushed,
-      (
-        record { is = ap (verdict_as Sound) told.verdict_is; unspent = λ spent. spent },
-        stands.are ∙ ap₂ (track_file s.slicing) (sym told.format_is) (sym told.samples_are),
-      ),
-    ))
-    (gathered_stop s front written bytes old new stands)
+-- a fault
+pub fault_halt : (s : SlicedTrack) (front written bytes : List ℕ) (f : WaveFault) (stands : Stands s front written)
+    → StopsAt s.decoder (front ++ bytes) stands.samples (taken.Fault f)
+    → IsHalt (along_sound_file s.slicing) (Refused (Sound f)) (front ++ bytes) written
+fault_halt s front written bytes f stands at =
+    let told = told_stop s front written (front ++ bytes) (refused f) stands at in (
+      record { is = ap (verdict_as Sound) told.verdict_is; unspent = λ spent. spent },
+      stands.are ∙ ap₂ (track_file s.slicing) (sym told.format_is) (sym told.samples_are),
+    )
 
-pub limit_stop : (s : SlicedTrack) (front written bytes : List ℕ) (stop : Stop) (old new : Option (List ℕ))
-    (stands : Stands s front written) → StopsAt s.decoder (front ++ bytes) stands.samples taken.Limit
-    → StopsBehind stops.Limit old new s.gathered.room.items stop
-    → Stops (along_sound_file s.slicing) stop old new (front ++ bytes) written
-limit_stop s front written bytes stop old new stands at behind =
+-- the limit
+pub limit_halt : (s : SlicedTrack) (front written bytes : List ℕ) (stands : Stands s front written)
+    → StopsAt s.decoder (front ++ bytes) stands.samples taken.Limit
+    → IsHalt (along_sound_file s.slicing) Limit (front ++ bytes) written
+limit_halt s front written bytes stands at =
     let told = told_stop s front written (front ++ bytes) past_limit stands at in
-    of_both (λ (x : Stop). Stops (along_sound_file s.slicing) x old new (front ++ bytes) written) stops.Limit stop
-    old new s.gathered.room.items behind
-    (λ pushed. (
-      s.gathered.room.items,
-      pushed,
-      inl (
-        record { is = ap (verdict_as Sound) told.verdict_is; unspent = λ spent. spent },
-        stands.are ∙ ap₂ (track_file s.slicing) (sym told.format_is) (sym told.samples_are),
-      ),
-    ))
-    (gathered_stop s front written bytes old new stands)
+    inl (
+      record { is = ap (verdict_as Sound) told.verdict_is; unspent = λ spent. spent },
+      stands.are ∙ ap₂ (track_file s.slicing) (sym told.format_is) (sym told.samples_are),
+    )
 
 -- ---- the room that the slicer needs
 
@@ -370,22 +264,7 @@ ticks_fit reads s next bytes samples going decodes =
     ap (λ (n : ℕ). n * length samples) fineness in
     omega (arith, few, all, tick, more)
 
--- ---- what is gathered, and the end
-
--- some of what is gathered was pushed
-pub pushed_on : (s : SlicedTrack) (left : Gathered) (front written more : List ℕ)
-    → more ++ left.room.items ≡ s.gathered.room.items
-    → Stands s front written → Stands (record s { gathered = left }) front (written ++ more)
-pushed_on s left front written more all stands = record {
-  samples = stands.samples;
-  settings = stands.settings;
-  track = stands.track;
-  within = stands.within;
-  decoder = stands.decoder;
-  told = stands.told;
-  slicer = stands.slicer;
-  are = append_assoc written more left.room.items ∙ ap (λ (l : List ℕ). written ++ l) all ∙ stands.are;
-}
+-- ---- the end
 
 -- the fault of the end, in the terms of every command
 pub end_is : (s : SlicedTrack) (front written : List ℕ) (end : Option WaveFault) → Stands s front written
@@ -397,9 +276,9 @@ end_is s front written end stands is =
 -- ---- the way of the engine
 
 -- what was worked on leaves it going
-pub going_on : (s next : SlicedTrack) (old new : Option (List ℕ)) (bytes : List ℕ) → IsGoing s
-    → Works (Stands s) (Stands next) old new bytes → IsGoing next
-going_on s next old new bytes going works =
+pub going_on : {O : Type 0} (given : O → O → List ℕ → Type 0) (s next : SlicedTrack) (old new : O) (bytes : List ℕ)
+    → IsGoing s → Brings given (Stands s) (Stands next) old new bytes → IsGoing next
+going_on given s next old new bytes going works =
     let work = works going.bytes going.written going.stands in
     record { bytes = going.bytes ++ bytes; written = going.written ++ work.0; stands = work.2 }
 
@@ -409,41 +288,3 @@ pub falls : (s next : SlicedTrack) (before count : ℕ) → IsGoing next → byt
 falls s next before count going is same some =
     let stands = going.stands in
     let within = stands.within in omega (arith, is, same, some, within)
-
-pub ok_both : (P Q : ℕ → Type 0) (result : Result ℕ Stop) → IfOk result P → IfOk result Q → IfOk result (λ n. P n × Q n)
-ok_both P Q (Ok n) p q = (p, q)
-ok_both P Q (Err stop) p q = tt
-
-pub ok_to : (P : ℕ → Type 0) (Q : Type 0) (result : Result ℕ Stop) → IfOk result P → ((n : ℕ) → P n → Q) → OnOk result Q
-ok_to P Q (Ok n) p to = to n p
-ok_to P Q (Err stop) p to = tt
-
-pub ok_if : (P Q : ℕ → Type 0) (result : Result ℕ Stop) → IfOk result P → ((n : ℕ) → P n → Q n) → IfOk result Q
-ok_if P Q (Ok n) p to = to n p
-ok_if P Q (Err stop) p to = tt
-
-pub err_if : (P Q : Stop → Type 0) (result : Result ℕ Stop) → IfErr result P → ((stop : Stop) → P stop → Q stop)
-    → IfErr result Q
-err_if P Q (Ok n) p to = tt
-err_if P Q (Err stop) p to = to stop p
-
--- nothing of some bytes
-pub nothing_taken : (before after : List ℕ → List ℕ → Type 0) (old new : Option (List ℕ)) (count : ℕ) (bytes : List ℕ)
-    → count ≡ 0
-    → Works before after old new (take count bytes) → Works before after old new []
-nothing_taken before after old new count bytes none works = subst (λ (n : ℕ). Works before after old new (take n bytes))
-    none works
-
--- what stops it behind nothing
-pub stop_behind : (s mid : SlicedTrack) (stop : Stop) (old between new : Option (List ℕ)) (bytes : List ℕ)
-    → mid.slicing ≡ s.slicing
-    → Works (Stands s) (Stands mid) old between []
-    → ((front written : List ℕ) → Stands mid front written → Stops (along_sound_file mid.slicing) stop between new
-    (front ++ bytes) written)
-    → (front written : List ℕ) → Stands s front written
-    → Stops (along_sound_file s.slicing) stop old new (front ++ bytes) written
-stop_behind s mid stop old between new bytes same works stops =
-    stops_on (IsStop (along_sound_file s.slicing) stop) (Stands s) (Stands mid) old between new [] bytes works
-    (λ front written stands.
-    subst (λ (w : SlicesWave). Stops (along_sound_file w) stop between new (front ++ bytes) written) same
-    (stops front written stands))

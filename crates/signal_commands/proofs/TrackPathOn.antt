@@ -2,19 +2,14 @@
 -- samples
 -- before it brought.
 use Rattle.std.proofs.Common.{◌≡◌, ℕ, ◌+◌, ◌-◌, ◌^◌, ◌≤◌, ◌<◌, ℤ, List, [], ◌∷◌, ◌++◌, Option, Some, None, length, take}
-use Rattle.std.proofs.Common.{drop}
 use Rattle.std.proofs.Common.{inl, refl, sym, ◌∙◌, ap, subst, append_assoc, append-nil, arith}
-use Rattle.std.specs.Io.KnownBytes.{Appends}
 use Rattle.std.specs.Option.{option_map}
-use Rattle.std.proofs.KnownBytes.{Appends-nil}
-use Rattle.std.proofs.lemmas.List.{length-append, take-append-drop}
-use Rattle.tc_command.specs.declared.gathered.Gathered.{Gathered}
+use Rattle.std.proofs.lemmas.List.{length-append}
 use Rattle.tc_command.specs.declared.input_fault.InputFault.TheVariants.{Sound}
-use Rattle.tc_command.specs.declared.stop.Stop.{Stop}
-use Rattle.tc_command.specs.declared.stop.Stop.TheVariants as stops
-use Rattle.tc_command.specs.KeptWorks.{Works, stops_on}
-use Rattle.tc_command.specs.Stops.{IsStop, Stops}
-use Rattle.tc_io.specs.Sink.{AppendsFront}
+use Rattle.tc_command.specs.declared.halt.Halt.TheVariants.{Refused, Limit}
+use Rattle.tc_command.specs.Halt.{IsHalt}
+use Rattle.tc_command.specs.KeptBrings.{Brings}
+use Rattle.tc_command.specs.Meaning.{Meaning}
 use Rattle.tc_io.specs.Verdict.{Verdict, good, refused, past_limit, verdict_as}
 use Rattle.tc_job.specs.TrackPath.{SlicesTrackPath}
 use Rattle.wave_file.specs.declared.decoder.Taken.TheVariants as taken
@@ -27,13 +22,11 @@ use Rattle.wave_file.specs.Wave.{end_fault_of, reading_of}
 use Rattle.signal_commands.specs.declared.path_sound.PathSound.{PathSound}
 use Rattle.signal_commands.specs.declared.wav_path.TrackSound.{TrackSound}
 use Rattle.signal_commands.specs.KeptSound as sound
-use Rattle.signal_commands.specs.KeptSound.{FailsAtEnd, FailsSoFar, HearsSamples}
-use Rattle.signal_commands.specs.KeptStops.{StopsBehind, of_both}
-use Rattle.signal_commands.specs.KeptTrackPath.{heard_by, room_in, part_shown, part_so_far, AllGoing, FailsTrack}
-use Rattle.signal_commands.specs.KeptTrackPath.{FailsTrackAtEnd, HearsTrack, IsGoing, Stands}
+use Rattle.signal_commands.specs.KeptSound.{HearsSamples}
+use Rattle.signal_commands.specs.KeptTrackPath.{heard_by, part_shown, part_so_far, AllGoing, HearsTrack}
+use Rattle.signal_commands.specs.KeptTrackPath.{IsGoing, Stands}
 use Rattle.signal_commands.specs.PcmPath.{IsPathFile}
-use Rattle.signal_commands.specs.WavPath.{along_track_path, asked_for_path, WritesPath, WritesPathSoFar}
-use Rattle.signal_commands.proofs.PathOn.{pushed_on}
+use Rattle.signal_commands.specs.WavPath.{along_track_path, asked_for_path, WritesPath}
 use Rattle.signal_commands.proofs.SlicedTracks.{few_samples, none_yet, Reads}
 
 -- ---- a sound, or none before the data
@@ -52,80 +45,39 @@ heard_few t (Some s) (Some format) samples written heard = let count = heard.2.c
 
 -- nothing is heard before the data
 pub none_heard : (t : SlicesTrackPath) (format : Option WaveFormat) (before samples : List ℤ) (written : List ℕ)
-    (out : Option (List ℕ)) → HearsTrack t None format before written → (format ≡ None → samples ≡ [])
-    → (more : List ℕ) × Appends out out more × HearsTrack t None format (before ++ samples) (written ++ more)
-none_heard t (Some format) before samples written out heard none = absurd heard
-none_heard t None before samples written out heard none = (
-  [],
-  Appends-nil out,
-  (
-    ap (λ (l : List ℤ). before ++ l) (none refl) ∙ append-nil before ∙ heard.0,
-    append-nil written ∙ heard.1,
-  ),
+    → HearsTrack t None format before written → (format ≡ None → samples ≡ [])
+    → HearsTrack t None format (before ++ samples) (written ++ [])
+none_heard t (Some format) before samples written heard none = absurd heard
+none_heard t None before samples written heard none = (
+  ap (λ (l : List ℤ). before ++ l) (none refl) ∙ append-nil before ∙ heard.0,
+  append-nil written ∙ heard.1,
 )
-
--- the same if nothing was to be pushed
-pub none_pushed : (t : SlicesTrackPath) (format : Option WaveFormat) (samples : List ℤ) (written : List ℕ)
-    (out : Option (List ℕ)) → HearsTrack t None format samples written
-    → (more : List ℕ) × Appends out out more × HearsTrack t None format samples (written ++ more)
-none_pushed t (Some format) samples written out heard = absurd heard
-none_pushed t None samples written out heard = ([], Appends-nil out, (heard.0, append-nil written ∙ heard.1))
 
 pub none_ended : (t : SlicesTrackPath) (format : Option WaveFormat) (samples : List ℤ) (written : List ℕ)
-    (out : Option (List ℕ)) → HearsTrack t None format samples written
-    → (more : List ℕ) × Appends out out more × WritesPath t format samples (written ++ more)
-none_ended t (Some format) samples written out heard = absurd heard
-none_ended t None samples written out heard = ([], Appends-nil out, append-nil written ∙ heard.1)
+    → HearsTrack t None format samples written → WritesPath t format samples (written ++ [])
+none_ended t (Some format) samples written heard = absurd heard
+none_ended t None samples written heard = append-nil written ∙ heard.1
 
 -- what a sound says of its samples is said of the track
-pub track_heard : (t : SlicesTrackPath) (old new : PathSound) (format : Option WaveFormat) (before samples : List ℤ)
-    (written : List ℕ) (a b : Option (List ℕ)) → HearsTrack t (Some old) format before written
-    → new.path ≡ old.path → sound.IsGoing new
+pub track_heard : {O : Type 0} (given : O → O → List ℕ → Type 0) (t : SlicesTrackPath) (old new : PathSound)
+    (format : Option WaveFormat) (before samples : List ℤ) (written : List ℕ) (a b : O)
+    → HearsTrack t (Some old) format before written → new.path ≡ old.path → sound.IsGoing new
     → (HearsSamples old before written
-    → (more : List ℕ) × Appends a b more × HearsSamples new (before ++ samples) (written ++ more))
-    → (more : List ℕ) × Appends a b more × HearsTrack t (Some new) format (before ++ samples) (written ++ more)
-track_heard t old new None before samples written a b heard path going works = absurd heard
-track_heard t old new (Some format) before samples written a b heard path going works =
+    → (more : List ℕ) × given a b more × HearsSamples new (before ++ samples) (written ++ more))
+    → (more : List ℕ) × given a b more × HearsTrack t (Some new) format (before ++ samples) (written ++ more)
+track_heard given t old new None before samples written a b heard path going works = absurd heard
+track_heard given t old new (Some format) before samples written a b heard path going works =
     let w = works heard.2 in (w.0, w.1, (heard.0 ∙ ap Some (sym path), going, w.2))
 
-pub track_pushed : (t : SlicesTrackPath) (s : PathSound) (left : Gathered) (format : Option WaveFormat)
-    (samples : List ℤ) (written more : List ℕ) → more ++ left.room.items ≡ s.gathered.room.items
+pub track_ended : {O : Type 0} (given : O → O → List ℕ → Type 0) (t : SlicesTrackPath) (s : PathSound)
+    (format : Option WaveFormat) (samples : List ℤ) (written : List ℕ) (a b : O)
     → HearsTrack t (Some s) format samples written
-    → HearsTrack t (Some (record s { gathered = left })) format samples (written ++ more)
-track_pushed t s left None samples written more all heard = absurd heard
-track_pushed t s left (Some format) samples written more all heard = (
-  heard.0,
-  let words = heard.1.words in
-      record { words = record { grid = words.grid; ticks = words.ticks; least = words.least }; ready = heard.1.ready },
-  pushed_on s left samples written more all heard.2,
-)
-
-pub track_fails : (t : SlicesTrackPath) (s : PathSound) (format : Option WaveFormat) (before samples : List ℤ)
-    (written : List ℕ) (a b : Option (List ℕ)) → HearsTrack t (Some s) format before written
-    → (HearsSamples s before written → FailsSoFar s.path a b (before ++ samples) written)
-    → FailsTrack t a b format (before ++ samples) written
-track_fails t s None before samples written a b heard fails = absurd heard
-track_fails t s (Some format) before samples written a b heard fails =
-    let f = fails heard.2 in
-    (f.0, f.1, (f.2.0, record { path = s.path; sound = heard.0; file = f.2.1 }, f.2.2))
-
-pub track_ended : (t : SlicesTrackPath) (s : PathSound) (format : Option WaveFormat) (samples : List ℤ)
-    (written : List ℕ) (a b : Option (List ℕ)) → HearsTrack t (Some s) format samples written
     → (HearsSamples s samples written
-    → (more : List ℕ) × Appends a b more × IsPathFile s.path samples (written ++ more))
-    → (more : List ℕ) × Appends a b more × WritesPath t format samples (written ++ more)
-track_ended t s None samples written a b heard ends = absurd heard
-track_ended t s (Some format) samples written a b heard ends =
+    → (more : List ℕ) × given a b more × IsPathFile s.path samples (written ++ more))
+    → (more : List ℕ) × given a b more × WritesPath t format samples (written ++ more)
+track_ended given t s None samples written a b heard ends = absurd heard
+track_ended given t s (Some format) samples written a b heard ends =
     let e = ends heard.2 in (e.0, e.1, record { path = s.path; sound = heard.0; file = e.2 })
-
-pub track_fails_at_end : (t : SlicesTrackPath) (s : PathSound) (format : Option WaveFormat) (samples : List ℤ)
-    (written : List ℕ) (a b : Option (List ℕ)) → HearsTrack t (Some s) format samples written
-    → (HearsSamples s samples written → FailsAtEnd s.path a b samples written)
-    → FailsTrackAtEnd t a b format samples written
-track_fails_at_end t s None samples written a b heard fails = absurd heard
-track_fails_at_end t s (Some format) samples written a b heard fails =
-    let f = fails heard.2 in
-    (f.0, f.1, (f.2.0, record { path = s.path; sound = heard.0; file = f.2.1 }, f.2.2))
 
 -- ---- more bytes
 
@@ -187,7 +139,7 @@ room_for reads s new bytes samples going decodes =
     let heard = heard_few s.path s.sound (format_in_decoding s.decoder) stands.samples going.written stands.heard in
     omega (arith, few, all, heard)
 
--- they were taken, and what they bring was pushed or is gathered
+-- they were taken, and what they bring was written
 pub moved : (s next : TrackSound) (front written bytes more : List ℕ) (samples : List ℤ)
     (stands : Stands s front written) → next.path ≡ s.path → Decodes s.decoder next.decoder bytes samples
     → HearsTrack s.path next.sound (format_in_decoding next.decoder) (stands.samples ++ samples) (written ++ more)
@@ -206,14 +158,15 @@ moved s next front written bytes more samples stands same decodes heard =
           (stands.samples ++ samples) (written ++ more)) back heard;
     }
 
-pub heard_on : Reads → (s next : TrackSound) (front written bytes : List ℕ) (samples : List ℤ)
-    (old new : Option (List ℕ)) (stands : Stands s front written) → next.path ≡ s.path
-    → Decodes s.decoder next.decoder bytes samples → format_in_decoding next.decoder ≡ format_in_decoding s.decoder
+pub heard_on : {O : Type 0} (given : O → O → List ℕ → Type 0) → Reads → (s next : TrackSound)
+    (front written bytes : List ℕ) (samples : List ℤ) (old new : O) (stands : Stands s front written)
+    → next.path ≡ s.path → Decodes s.decoder next.decoder bytes samples
+    → format_in_decoding next.decoder ≡ format_in_decoding s.decoder
     → ((t : SlicesTrackPath) (format : Option WaveFormat) (before : List ℤ) (written : List ℕ)
     → HearsTrack t s.sound format before written → (format ≡ None → samples ≡ [])
-    → (more : List ℕ) × Appends old new more × HearsTrack t next.sound format (before ++ samples) (written ++ more))
-    → (more : List ℕ) × Appends old new more × Stands next (front ++ bytes) (written ++ more)
-heard_on reads s next front written bytes samples old new stands path decodes same works =
+    → (more : List ℕ) × given old new more × HearsTrack t next.sound format (before ++ samples) (written ++ more))
+    → (more : List ℕ) × given old new more × Stands next (front ++ bytes) (written ++ more)
+heard_on given reads s next front written bytes samples old new stands path decodes same works =
     let w = works s.path (format_in_decoding s.decoder) stands.samples written stands.heard
     (λ none. none_more reads s next.decoder front written bytes samples stands decodes (same ∙ none)) in (
       w.0,
@@ -225,23 +178,20 @@ heard_on reads s next front written bytes samples old new stands path decodes sa
     )
 
 -- bytes without a sample
-pub passed_on : (s next : TrackSound) (front written bytes : List ℕ) (out : Option (List ℕ))
-    (stands : Stands s front written) → next.path ≡ s.path → next.sound ≡ s.sound
-    → Decodes s.decoder next.decoder bytes [] → format_in_decoding next.decoder ≡ format_in_decoding s.decoder
-    → (more : List ℕ) × Appends out out more × Stands next (front ++ bytes) (written ++ more)
-passed_on s next front written bytes out stands path sound decodes same = (
-  [],
-  Appends-nil out,
-  moved s next front written bytes [] [] stands path decodes
-      (subst (λ (f : Option WaveFormat). HearsTrack s.path next.sound f (stands.samples ++ []) (written ++ []))
-      (sym same)
-      (subst (λ (x : Option PathSound). HearsTrack s.path x (format_in_decoding s.decoder) (stands.samples ++ [])
-      (written ++ [])) (sym sound)
-      (subst (λ (l : List ℕ). HearsTrack s.path s.sound (format_in_decoding s.decoder) (stands.samples ++ []) l)
-      (sym (append-nil written))
-      (subst (λ (l : List ℤ). HearsTrack s.path s.sound (format_in_decoding s.decoder) l written)
-      (sym (append-nil stands.samples)) stands.heard)))),
-)
+pub passed_on : (s next : TrackSound) (front written bytes : List ℕ) (stands : Stands s front written)
+    → next.path ≡ s.path → next.sound ≡ s.sound → Decodes s.decoder next.decoder bytes []
+    → format_in_decoding next.decoder ≡ format_in_decoding s.decoder
+    → Stands next (front ++ bytes) (written ++ [])
+passed_on s next front written bytes stands path sound decodes same =
+    moved s next front written bytes [] [] stands path decodes
+    (subst (λ (f : Option WaveFormat). HearsTrack s.path next.sound f (stands.samples ++ []) (written ++ []))
+    (sym same)
+    (subst (λ (x : Option PathSound). HearsTrack s.path x (format_in_decoding s.decoder) (stands.samples ++ [])
+    (written ++ [])) (sym sound)
+    (subst (λ (l : List ℕ). HearsTrack s.path s.sound (format_in_decoding s.decoder) (stands.samples ++ []) l)
+    (sym (append-nil written))
+    (subst (λ (l : List ℤ). HearsTrack s.path s.sound (format_in_decoding s.decoder) l written)
+    (sym (append-nil stands.samples)) stands.heard))))
 
 -- before the data nothing was written
 unheard : (t : SlicesTrackPath) (s : Option PathSound) (format : Option WaveFormat) (samples : List ℤ)
@@ -252,82 +202,21 @@ unheard t None (Some format) samples written heard none = absurd heard
 unheard t (Some s) (Some format) samples written heard none = absurd cc
 
 -- the data begin
-pub begun : (s next : TrackSound) (front written bytes : List ℕ) (format : WaveFormat) (out : Option (List ℕ))
+pub begun : (s next : TrackSound) (front written bytes header : List ℕ) (format : WaveFormat)
     (stands : Stands s front written) → next.path ≡ s.path → Decodes s.decoder next.decoder bytes []
     → format_in_decoding s.decoder ≡ None → format_in_decoding next.decoder ≡ Some format
-    → HearsTrack s.path next.sound (Some format) [] []
-    → (more : List ℕ) × Appends out out more × Stands next (front ++ bytes) (written ++ more)
-begun s next front written bytes format out stands path decodes before now heard =
+    → HearsTrack s.path next.sound (Some format) [] header → Stands next (front ++ bytes) (written ++ header)
+begun s next front written bytes header format stands path decodes before now heard =
     let none = unheard s.path s.sound (format_in_decoding s.decoder) stands.samples written stands.heard before in
     let samples : stands.samples ++ [] ≡ [] = append-nil stands.samples ∙ none.0 in
-    let text : written ++ [] ≡ [] = append-nil written ∙ none.1 in (
-      [],
-      Appends-nil out,
-      moved s next front written bytes [] [] stands path decodes
-          (subst (λ (f : Option WaveFormat). HearsTrack s.path next.sound f (stands.samples ++ []) (written ++ []))
-          (sym now)
-          (subst (λ (l : List ℤ). HearsTrack s.path next.sound (Some format) l (written ++ [])) (sym samples)
-          (subst (λ (l : List ℕ). HearsTrack s.path next.sound (Some format) [] l) (sym text) heard))),
-    )
+    let text : written ++ header ≡ header = ap (λ (l : List ℕ). l ++ header) none.1 in
+    moved s next front written bytes header [] stands path decodes
+    (subst (λ (f : Option WaveFormat). HearsTrack s.path next.sound f (stands.samples ++ []) (written ++ header))
+    (sym now)
+    (subst (λ (l : List ℤ). HearsTrack s.path next.sound (Some format) l (written ++ header)) (sym samples)
+    (subst (λ (l : List ℕ). HearsTrack s.path next.sound (Some format) [] l) (sym text) heard)))
 
 -- ---- what stops it
-
--- a push failed: a front of what is due is written
-pub hear_stop : (s : TrackSound) (next : Decoding) (front written bytes : List ℕ) (count : ℕ) (samples : List ℤ)
-    (old new : Option (List ℕ)) (stands : Stands s front written) → Decodes s.decoder next (take count bytes) samples
-    → format_in_decoding next ≡ format_in_decoding s.decoder
-    → FailsTrack s.path old new (format_in_decoding s.decoder) (stands.samples ++ samples) written
-    → Stops (along_track_path s.path) stops.WriteFault old new (front ++ bytes) written
-hear_stop s next front written bytes count samples old new stands decodes same f =
-    let first = front ++ take count bytes in
-    let told = told_on s next front written (take count bytes) samples stands decodes in (
-      f.0,
-      f.1,
-      (
-        first,
-        f.2.0,
-        (
-          drop count bytes,
-          ap (λ (l : List ℕ). front ++ l) (sym (take-append-drop count bytes))
-              ∙ sym (append_assoc front (take count bytes) (drop count bytes)),
-        ),
-        part_shown s.path first (format_in_decoding s.decoder) (stands.samples ++ samples) f.2.0
-            (told.format_is ∙ same) told.samples_are f.2.1,
-        f.2.2,
-      ),
-    )
-
--- what was written and what is gathered is the part of the bytes
-part_is : (s : TrackSound) (front written : List ℕ) (stands : Stands s front written)
-    → WritesPathSoFar s.path (format_in_decoding s.decoder) stands.samples (written ++ room_in s.sound)
-part_is s front written stands =
-    part_so_far s.path s.sound (format_in_decoding s.decoder) stands.samples written stands.heard
-
--- what is gathered was not taken
-pub gathered_stop : (s : TrackSound) (front written bytes : List ℕ) (old new : Option (List ℕ))
-    (stands : Stands s front written) → AppendsFront old new (room_in s.sound)
-    → Stops (along_track_path s.path) stops.WriteFault old new (front ++ bytes) written
-gathered_stop s front written bytes old new stands f =
-    let told = stands.told in (
-      f.0,
-      f.2,
-      (
-        front,
-        written ++ room_in s.sound,
-        (bytes, refl),
-        part_shown s.path front (format_in_decoding s.decoder) stands.samples (written ++ room_in s.sound)
-            told.format_is told.samples_are (part_is s front written stands),
-        (f.1.0, ap (λ (l : List ℕ). written ++ l) f.1.1 ∙ sym (append_assoc written f.0 f.1.0)),
-      ),
-    )
-
--- the same at the end of what was pulled
-pub flush_stop : (s : TrackSound) (front written : List ℕ) (old new : Option (List ℕ)) → Stands s front written
-    → AppendsFront old new (room_in s.sound)
-    → Stops (along_track_path s.path) stops.WriteFault old new front written
-flush_stop s front written old new stands f =
-    subst (λ (l : List ℕ). Stops (along_track_path s.path) stops.WriteFault old new l written) (append-nil front)
-    (gathered_stop s front written [] old new stands f)
 
 -- what is said of bytes that end the reading
 told_stop : (s : TrackSound) (front written all : List ℕ) (v : Verdict WaveFault) (stands : Stands s front written)
@@ -339,59 +228,34 @@ told_stop s front written all v stands told =
     (subst (λ (l : List ℕ). IsTold (reading_of s.decoder.asked l) (format_in_decoding s.decoder) stands.samples v)
     (append-nil all) (told []))
 
-pub fault_stop : (s : TrackSound) (front written bytes : List ℕ) (f : WaveFault) (stop : Stop)
-    (old new : Option (List ℕ)) (stands : Stands s front written)
-    → StopsAt s.decoder (front ++ bytes) stands.samples (taken.Fault f)
-    → StopsBehind (stops.Refused (Sound f)) old new (room_in s.sound) stop
-    → Stops (along_track_path s.path) stop old new (front ++ bytes) written
-fault_stop s front written bytes f stop old new stands at behind =
-    let told = told_stop s front written (front ++ bytes) (refused f) stands at in
-    of_both (λ (x : Stop). Stops (along_track_path s.path) x old new (front ++ bytes) written)
-    (stops.Refused (Sound f)) stop old new (room_in s.sound) behind
-    (λ pushed. (
-      room_in s.sound,
-      pushed,
-      (
-        record { is = ap (verdict_as Sound) told.verdict_is; unspent = λ spent. spent },
-        part_shown s.path (front ++ bytes) (format_in_decoding s.decoder) stands.samples (written ++ room_in s.sound)
-            told.format_is told.samples_are (part_is s front written stands),
-      ),
-    ))
-    (gathered_stop s front written bytes old new stands)
+-- what was written is the part of bytes that end it
+part_is : (s : TrackSound) (front written all : List ℕ) (v : Verdict WaveFault) (stands : Stands s front written)
+    → IsTold (reading_of (asked_for_path s.path) all) (format_in_decoding s.decoder) stands.samples v
+    → Meaning.part (along_track_path s.path) all written
+part_is s front written all v stands told =
+    part_shown s.path all (format_in_decoding s.decoder) stands.samples written told.format_is told.samples_are
+    (part_so_far s.path s.sound (format_in_decoding s.decoder) stands.samples written stands.heard)
 
-pub limit_stop : (s : TrackSound) (front written bytes : List ℕ) (stop : Stop) (old new : Option (List ℕ))
-    (stands : Stands s front written) → StopsAt s.decoder (front ++ bytes) stands.samples taken.Limit
-    → StopsBehind stops.Limit old new (room_in s.sound) stop
-    → Stops (along_track_path s.path) stop old new (front ++ bytes) written
-limit_stop s front written bytes stop old new stands at behind =
+pub fault_halt : (s : TrackSound) (front written bytes : List ℕ) (f : WaveFault) (stands : Stands s front written)
+    → StopsAt s.decoder (front ++ bytes) stands.samples (taken.Fault f)
+    → IsHalt (along_track_path s.path) (Refused (Sound f)) (front ++ bytes) written
+fault_halt s front written bytes f stands at =
+    let told = told_stop s front written (front ++ bytes) (refused f) stands at in (
+      record { is = ap (verdict_as Sound) told.verdict_is; unspent = λ spent. spent },
+      part_is s front written (front ++ bytes) (refused f) stands told,
+    )
+
+pub limit_halt : (s : TrackSound) (front written bytes : List ℕ) (stands : Stands s front written)
+    → StopsAt s.decoder (front ++ bytes) stands.samples taken.Limit
+    → IsHalt (along_track_path s.path) Limit (front ++ bytes) written
+limit_halt s front written bytes stands at =
     let told = told_stop s front written (front ++ bytes) past_limit stands at in
-    of_both (λ (x : Stop). Stops (along_track_path s.path) x old new (front ++ bytes) written) stops.Limit stop
-    old new (room_in s.sound) behind
-    (λ pushed. (
-      room_in s.sound,
-      pushed,
-      inl (
-        record { is = ap (verdict_as Sound) told.verdict_is; unspent = λ spent. spent },
-        part_shown s.path (front ++ bytes) (format_in_decoding s.decoder) stands.samples (written ++ room_in s.sound)
-            told.format_is told.samples_are (part_is s front written stands),
-      ),
-    ))
-    (gathered_stop s front written bytes old new stands)
+    inl (
+      record { is = ap (verdict_as Sound) told.verdict_is; unspent = λ spent. spent },
+      part_is s front written (front ++ bytes) past_limit stands told,
+    )
 
 -- ---- the end, and the way of the engine
-
-pub flushed : (s : TrackSound) (sound : Option PathSound) (front written more : List ℕ)
-    (stands : Stands s front written)
-    → HearsTrack s.path sound (format_in_decoding s.decoder) stands.samples (written ++ more)
-    → Stands (record s { sound = sound }) front (written ++ more)
-flushed s sound front written more stands heard = record {
-  samples = stands.samples;
-  asked = stands.asked;
-  within = stands.within;
-  decoder = stands.decoder;
-  told = stands.told;
-  heard = heard;
-}
 
 -- the fault of the end, in the terms of every command
 pub end_is : (s : TrackSound) (front written : List ℕ) (end : Option WaveFault) → Stands s front written
@@ -410,9 +274,9 @@ output_shown s bytes written output stands is =
     (subst (λ (l : List ℤ). WritesPath s.path (format_in_decoding s.decoder) l output) (sym told.samples_are) is)
 
 -- what was worked on leaves it going
-pub going_on : (s next : TrackSound) (old new : Option (List ℕ)) (bytes : List ℕ) → IsGoing s
-    → Works (Stands s) (Stands next) old new bytes → IsGoing next
-going_on s next old new bytes going works =
+pub going_on : {O : Type 0} (given : O → O → List ℕ → Type 0) (s next : TrackSound) (old new : O) (bytes : List ℕ)
+    → IsGoing s → Brings given (Stands s) (Stands next) old new bytes → IsGoing next
+going_on given s next old new bytes going works =
     let work = works going.bytes going.written going.stands in
     record { bytes = going.bytes ++ bytes; written = going.written ++ work.0; stands = work.2 }
 
@@ -422,16 +286,3 @@ pub falls : (s next : TrackSound) (before count : ℕ) → IsGoing next → byte
 falls s next before count going is same some =
     let stands = going.stands in
     let within = stands.within in omega (arith, is, same, some, within)
-
--- what stops it behind nothing
-pub stop_behind : (s mid : TrackSound) (stop : Stop) (old between new : Option (List ℕ)) (bytes : List ℕ)
-    → mid.path ≡ s.path → Works (Stands s) (Stands mid) old between []
-    → ((front written : List ℕ) → Stands mid front written
-    → Stops (along_track_path mid.path) stop between new (front ++ bytes) written)
-    → (front written : List ℕ) → Stands s front written
-    → Stops (along_track_path s.path) stop old new (front ++ bytes) written
-stop_behind s mid stop old between new bytes same works stops =
-    stops_on (IsStop (along_track_path s.path) stop) (Stands s) (Stands mid) old between new [] bytes works
-    (λ front written stands.
-    subst (λ (t : SlicesTrackPath). Stops (along_track_path t) stop between new (front ++ bytes) written) same
-    (stops front written stands))

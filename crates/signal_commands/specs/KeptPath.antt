@@ -1,7 +1,7 @@
 -- What the engine of `pcm-ltc .. path` keeps. No promise speaks of it.
 use Rattle.std.specs.Prelude.{◌≡◌, ℕ, ◌*◌, ◌≤◌, Bool, cond, ℤ, List, [], ◌++◌, length, reverse, take}
 use Rattle.std.specs.Option.{option_to_list}
-use Rattle.std.proofs.Common.{ap, append-nil, arith, subst, sym, ◌∙◌}
+use Rattle.std.proofs.Common.{ap, arith, subst, sym, ◌∙◌}
 use Rattle.std.proofs.lemmas.Bool.{le-ltb}
 use Rattle.std.proofs.lemmas.List.{take_all}
 use Rattle.path_front.specs.Front.{AreIntervalsSoFar}
@@ -33,11 +33,11 @@ pub record Stands (s : PcmSound) (bytes written : List ℕ) : Type 0 where
   pub hears : Hears s whole written
   pub are : bytes ≡ whole ++ option_to_list s.half
 
--- what was written is the part of the bytes, where nothing is gathered
-pub stands_well : (s : PcmSound) (bytes written : List ℕ) → s.sound.gathered.room.items ≡ [] → Stands s bytes written
+-- what was written is the part of the bytes
+pub stands_well : (s : PcmSound) (bytes written : List ℕ) → Stands s bytes written
     → Shows (along_path s.sound.path) good bytes
     × IsPathFileSoFar s.sound.path (take MAX_SAMPLES (samples_of bytes)) written
-stands_well s bytes written settled stands =
+stands_well s bytes written stands =
     let hears = stands.hears in
     let path = s.sound.path in
     let same : samples_of bytes ≡ samples_of stands.whole =
@@ -56,6 +56,6 @@ stands_well s bytes written settled stands =
         are = subst (λ (s_of : List ℤ). AreIntervalsSoFar path.grid path.ticks path.least (reverse s_of)
             hears.sound.given)
             all hears.sound.so_far;
-        file = sym (append-nil written) ∙ ap (λ (l : List ℕ). written ++ l) (sym settled) ∙ hears.sound.are;
+        file = hears.sound.are;
       },
     )

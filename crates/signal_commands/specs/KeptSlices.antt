@@ -21,12 +21,12 @@ pub record IsGoing (s : SlicedSound) : Type 0 where
   pub settings : pcm.settings_of s.slicer ≡ settings_for s.slicing
   pub tick : pcm.tick_of s.slicer ≡ s.slicing.fineness * s.samples
 
--- it was given the samples of these whole bytes; what was written, and then what is gathered, are their file
+-- it was given the samples of these whole bytes; what was written is their file
 pub record Slices (s : SlicedSound) (whole written : List ℕ) : Type 0 where
   pub within : s.samples ≤ MAX_SAMPLES
   pub count : length whole ≡ 2 * s.samples
   pub slicer : pcm.StandsFor s.slicer (samples_of whole)
-  pub are : written ++ s.gathered.room.items ≡ sliced s.slicing (samples_of whole)
+  pub are : written ≡ sliced s.slicing (samples_of whole)
 
 -- it was given these bytes: those, and half a sample where it keeps one
 pub record Stands (s : SlicedSound) (bytes written : List ℕ) : Type 0 where
@@ -67,10 +67,10 @@ half_is_none count whole half is =
     samples_of-append count whole (option_to_list half) is ∙ ap (λ l. samples_of whole ++ l) (no_sample half)
     ∙ append-nil (samples_of whole)
 
--- what was written is the part of the bytes, where nothing is gathered
-pub stands_well : (s : SlicedSound) (bytes written : List ℕ) → s.gathered.room.items ≡ [] → Stands s bytes written
+-- what was written is the part of the bytes
+pub stands_well : (s : SlicedSound) (bytes written : List ℕ) → Stands s bytes written
     → Shows (along_samples s.slicing) good bytes × Meaning.part (along_samples s.slicing) bytes written
-stands_well s bytes written settled stands =
+stands_well s bytes written stands =
     let slices = stands.slices in
     let same : samples_of bytes ≡ samples_of stands.whole =
     ap samples_of stands.are ∙ half_is_none s.samples stands.whole s.half slices.count in
@@ -81,6 +81,5 @@ stands_well s bytes written settled stands =
         is = ap (λ (b : Bool). cond b past_limit good) (le-ltb MAX_SAMPLES (length (samples_of bytes)) within);
         unspent = λ spent. spent;
       },
-      sym (append-nil written) ∙ ap (λ (l : List ℕ). written ++ l) (sym settled) ∙ slices.are
-          ∙ ap (sliced s.slicing) (sym same ∙ sym (take_all MAX_SAMPLES (samples_of bytes) within)),
+      slices.are ∙ ap (sliced s.slicing) (sym same ∙ sym (take_all MAX_SAMPLES (samples_of bytes) within)),
     )

@@ -1,6 +1,6 @@
 -- What the engine of `wav-ltc` keeps. No promise speaks of it.
 use Rattle.std.specs.Prelude.{◌≡◌, ℕ, ◌≤◌, ℤ, List, [], ◌++◌, Option, Some, None}
-use Rattle.std.proofs.Common.{◌∙◌, sym, ap, ap₂, append-nil}
+use Rattle.std.proofs.Common.{◌∙◌, sym, ap, ap₂}
 use Rattle.pcm_front.specs.declared.pace.Pace.{Pace}
 use Rattle.pcm_front.specs.declared.pace.Pace.TheVariants.{Ended}
 use Rattle.pcm_front.specs.Pace.{intervals_at}
@@ -34,7 +34,7 @@ spelled pace s samples = intervals_bytes One (intervals_at pace s samples)
 abbrev pub AreDue : Pace → Settings → List ℤ → List ℤ → List ℕ → Type 0
 AreDue pace s front more due = spelled pace s (front ++ more) ≡ spelled pace s front ++ due
 
--- it was given these bytes; what was written, and then what is gathered, are the file of their track
+-- it was given these bytes; what was written is the file of their track
 pub record Stands (s : SlicedTrack) (bytes written : List ℕ) : Type 0 where
   pub samples : List ℤ
   pub settings : settings_of s.slicer ≡ track_settings s.slicing
@@ -43,7 +43,7 @@ pub record Stands (s : SlicedTrack) (bytes written : List ℕ) : Type 0 where
   pub decoder : StandsFor s.decoder bytes samples
   pub told : IsTold (reading_of (asked_by s.slicing) bytes) (format_in_decoding s.decoder) samples good
   pub slicer : pcm.StandsFor s.slicer samples
-  pub are : written ++ s.gathered.room.items ≡ track_file s.slicing (format_in_decoding s.decoder) samples
+  pub are : written ≡ track_file s.slicing (format_in_decoding s.decoder) samples
 
 -- there are bytes for which it stands
 pub record IsGoing (s : SlicedTrack) : Type 0 where
@@ -51,12 +51,11 @@ pub record IsGoing (s : SlicedTrack) : Type 0 where
   pub written : List ℕ
   pub stands : Stands s bytes written
 
--- what was written is the part of the bytes, where nothing is gathered
-pub stands_well : (s : SlicedTrack) (bytes written : List ℕ) → s.gathered.room.items ≡ [] → Stands s bytes written
+-- what was written is the part of the bytes
+pub stands_well : (s : SlicedTrack) (bytes written : List ℕ) → Stands s bytes written
     → Shows (along_sound_file s.slicing) good bytes × Meaning.part (along_sound_file s.slicing) bytes written
-stands_well s bytes written settled stands =
+stands_well s bytes written stands =
     let told = stands.told in (
       record { is = ap (verdict_as Sound) told.verdict_is; unspent = λ spent. spent },
-      sym (append-nil written) ∙ ap (λ (l : List ℕ). written ++ l) (sym settled) ∙ stands.are
-          ∙ ap₂ (track_file s.slicing) (sym told.format_is) (sym told.samples_are),
+      stands.are ∙ ap₂ (track_file s.slicing) (sym told.format_is) (sym told.samples_are),
     )

@@ -1,10 +1,8 @@
 -- What the engine of `wav-ltc .. path` keeps. No promise speaks of it.
-use Rattle.std.specs.Prelude.{◌≡◌, ⊤, ℕ, ◌≤◌, ℤ, List, [], ◌++◌, Option, Some, None}
-use Rattle.std.specs.Io.KnownBytes.{Appends}
-use Rattle.std.proofs.Common.{◌∙◌, sym, ap, append-nil, subst}
+use Rattle.std.specs.Prelude.{◌≡◌, ⊤, ℕ, ◌≤◌, ℤ, List, [], Option, Some, None}
+use Rattle.std.proofs.Common.{sym, ap, subst}
 use Rattle.tc_command.specs.declared.input_fault.InputFault.TheVariants.{Sound}
 use Rattle.tc_command.specs.Meaning.{Meaning, Shows}
-use Rattle.tc_io.specs.Sink.{IsFront}
 use Rattle.tc_io.specs.Verdict.{good, verdict_as}
 use Rattle.tc_job.specs.TrackPath.{sound_of, SlicesTrackPath}
 use Rattle.wave_file.specs.declared.format.WaveFormat.{WaveFormat}
@@ -15,14 +13,9 @@ use Rattle.signal_commands.specs.declared.path_sound.PathSound.{PathSound}
 use Rattle.signal_commands.specs.declared.wav_path.TrackSound.{TrackSound}
 use Rattle.signal_commands.specs.KeptSound as sound
 use Rattle.signal_commands.specs.KeptSound.{samples_heard, HearsSamples}
-use Rattle.signal_commands.specs.WavPath.{along_track_path, asked_for_path, WritesPath, WritesPathSoFar}
+use Rattle.signal_commands.specs.WavPath.{along_track_path, asked_for_path, WritesPathSoFar}
 
 -- ---- a sound, or none before the data
-
--- what is gathered
-abbrev pub room_in : Option PathSound → List ℕ
-room_in None = []
-room_in (Some s) = s.gathered.room.items
 
 -- how many samples it was given
 abbrev pub heard_by : Option PathSound → ℕ
@@ -42,18 +35,6 @@ HearsTrack t (Some s) (Some format) samples written =
 HearsTrack t (Some s) None samples written = ⊥
 HearsTrack t None (Some format) samples written = ⊥
 
--- a push failed: a front of what samples bring so far was written
-abbrev pub FailsTrack : SlicesTrackPath → Option (List ℕ) → Option (List ℕ) → Option WaveFormat → List ℤ → List ℕ
-    → Type 0
-FailsTrack t old new format samples written = (more : List ℕ) × Appends old new more
-    × ((part : List ℕ) × WritesPathSoFar t format samples part × IsFront (written ++ more) part)
-
--- the sound has ended, and a push failed: a front of its file was written
-abbrev pub FailsTrackAtEnd : SlicesTrackPath → Option (List ℕ) → Option (List ℕ) → Option WaveFormat → List ℤ → List ℕ
-    → Type 0
-FailsTrackAtEnd t old new format samples written = (more : List ℕ) × Appends old new more
-    × ((output : List ℕ) × WritesPath t format samples output × IsFront (written ++ more) output)
-
 -- ---- the engine
 
 -- it was given these bytes, and its sound their samples
@@ -71,11 +52,10 @@ pub record IsGoing (s : TrackSound) : Type 0 where
   pub written : List ℕ
   pub stands : Stands s bytes written
 
--- what was written and what is gathered are what samples bring so far
+-- what was written is what samples bring so far
 pub part_so_far : (t : SlicesTrackPath) (s : Option PathSound) (format : Option WaveFormat) (samples : List ℤ)
-    (written : List ℕ) → HearsTrack t s format samples written
-    → WritesPathSoFar t format samples (written ++ room_in s)
-part_so_far t None None samples written heard = append-nil written ∙ heard.1
+    (written : List ℕ) → HearsTrack t s format samples written → WritesPathSoFar t format samples written
+part_so_far t None None samples written heard = heard.1
 part_so_far t (Some s) None samples written heard = absurd heard
 part_so_far t None (Some format) samples written heard = absurd heard
 part_so_far t (Some s) (Some format) samples written heard =
@@ -96,14 +76,12 @@ part_shown t bytes format samples written format_is samples_are is =
     subst (λ (f : Option WaveFormat). WritesPathSoFar t f r.samples written) (sym format_is)
     (subst (λ (l : List ℤ). WritesPathSoFar t format l written) (sym samples_are) is)
 
--- what was written is the part of the bytes, where nothing is gathered
-pub stands_well : (s : TrackSound) (bytes written : List ℕ) → room_in s.sound ≡ [] → Stands s bytes written
+-- what was written is the part of the bytes
+pub stands_well : (s : TrackSound) (bytes written : List ℕ) → Stands s bytes written
     → Shows (along_track_path s.path) good bytes × Meaning.part (along_track_path s.path) bytes written
-stands_well s bytes written settled stands =
-    let told = stands.told in
-    let part = part_so_far s.path s.sound (format_in_decoding s.decoder) stands.samples written stands.heard in (
+stands_well s bytes written stands =
+    let told = stands.told in (
       record { is = ap (verdict_as Sound) told.verdict_is; unspent = λ spent. spent },
       part_shown s.path bytes (format_in_decoding s.decoder) stands.samples written told.format_is told.samples_are
-          (subst (λ (l : List ℕ). WritesPathSoFar s.path (format_in_decoding s.decoder) stands.samples l)
-          (ap (λ (l : List ℕ). written ++ l) settled ∙ append-nil written) part),
+          (part_so_far s.path s.sound (format_in_decoding s.decoder) stands.samples written stands.heard),
     )

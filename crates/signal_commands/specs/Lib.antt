@@ -4,7 +4,6 @@ pub mod KeptMtc
 pub mod KeptPath
 pub mod KeptSlices
 pub mod KeptSound
-pub mod KeptStops
 pub mod KeptTrack
 pub mod KeptTrackPath
 pub mod LumaVitc

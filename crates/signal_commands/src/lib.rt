@@ -29,7 +29,6 @@ mod path_sound;
 mod pcm_ltc;
 mod pcm_path;
 mod spelling;
-mod stopping;
 mod vitc_read;
 mod wav_ltc;
 mod wav_path;

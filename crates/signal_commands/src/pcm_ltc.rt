@@ -1,22 +1,19 @@
-//! The engine of `pcm-ltc`: an interval file of the crossings of sound. Read next:
-//! `pcm_front/src/slicer.rt`, and then `tc_command/src/gathered.rt`.
-ghost use Rattle.std.specs.Prelude.{◌≡◌, ◌+◌, ◌*◌, ◌≤◌, ◌++◌, ℕ, List, [], length, take, OnOk, IfOk, IfErr, Err};
-ghost use Rattle.std.specs.Io.KnownBytes.{Appends};
+//! `pcm-ltc`: an interval file of the crossings of sound. Read next: `pcm_front/src/slicer.rt`, and then
+//! `tc_command/src/machine.rt`.
+ghost use Rattle.std.specs.Prelude.{◌≡◌, ◌+◌, ◌*◌, ◌≤◌, [], length, take, OnOk, IfOk, IfErr};
+ghost use Rattle.interval_file.specs.IntervalHeader.{header_bytes};
 ghost use Rattle.pcm_front.specs.Pace.{IsPace};
-ghost use Rattle.tc_command.specs.Causes.{HasOutCause};
 ghost use Rattle.signal_commands.specs.KeptSlices.{IsGoing, Slices, Stands};
-ghost use Rattle.signal_commands.specs.PcmLtc.{along_samples, pace_for};
-ghost use Rattle.tc_command.specs.Stops.{Stops};
+ghost use Rattle.signal_commands.specs.PcmLtc.{pace_for, sliced_header, told_pcm_ltc};
+ghost use Rattle.tc_command.specs.KeptBrings.{Brings};
 ghost use Rattle.tc_command.specs.Told.{IsTold, WorksAsTold};
-ghost use Rattle.signal_commands.specs.PcmLtc.{told_pcm_ltc};
 
 use crate::laws::sliced_sound_is_lawful;
 use crate::spelling::spell;
-use crate::stopping::push_before;
 use interval_file::{FileVersion, IntervalHeader, interval_header};
 use pcm_front::laws::{bytes_are_those_of_their_samples, intervals_tell_the_crossings};
 use pcm_front::{Pace, Slicer};
-use tc_command::{Engine, Gathered, InputFault, Stop, work};
+use tc_command::{Halt, InputFault, Machine, Output, Stop, run_behind};
 use tc_io::{Sink, Source};
 use tc_job::Slicing;
 
@@ -33,7 +30,12 @@ pub fn slice_sound<S: Source, K: Sink>(
         out.old out.new result }
 {
     a_sliced_sound_is_told(slicing);
-    work(&mut SlicedSound::new(slicing), source, out)
+    run_behind(
+        &header(slicing),
+        &mut SlicedSound::new(slicing),
+        source,
+        out,
+    )
 }
 
 /// What is claimed of `pcm-ltc` holds: the intervals give the crossings of all samples that there are.
@@ -46,6 +48,17 @@ fn a_sliced_sound_is_told(slicing: &Slicing)
     let _fineness = slicing.fineness();
 }
 
+/// The header of the file.
+fn header(slicing: &Slicing) -> [u8; 12]
+    ensures { result ≡ header_bytes (sliced_header slicing.now) }
+{
+    interval_header(&IntervalHeader {
+        version: FileVersion::One,
+        system: slicing.system(),
+        tick_rate: slicing.tick_rate(),
+    })
+}
+
 /// Sound on its way into intervals.
 #[derive(Drop)]
 struct SlicedSound {
@@ -55,33 +68,26 @@ struct SlicedSound {
     samples: u64,
     /// The first byte of a sample, if a pull ended behind it.
     half: Option<u8>,
-    gathered: Gathered,
 }
 
 impl SlicedSound {
-    /// Before the first sample. The header is already written.
+    /// Before the first sample, behind the header.
     fn new(slicing: &Slicing) -> SlicedSound
         ensures choice { result.slicing ≡ slicing.now }
         ensures going { IsGoing result }
-        ensures stands { Stands result [] [] }
+        ensures stands { Stands result [] (header_bytes (sliced_header slicing.now)) }
     {
-        let header = interval_header(&IntervalHeader {
-            version: FileVersion::One,
-            system: slicing.system(),
-            tick_rate: slicing.tick_rate(),
-        });
         SlicedSound {
             slicing: *slicing,
             slicer: Slicer::summing(slicing.fineness(), slicing.threshold(), slicing.smooth()),
             samples: 0,
             half: None,
-            gathered: Gathered::holding(&header),
         }
     }
 
     /// Slices whole samples at the front of the bytes, all of them or as many as may still come, and
     /// answers on how many bytes.
-    fn slice<K: Sink>(&mut self, bytes: &[u8], out: &mut K) -> Result<usize, Stop>
+    fn slice<O: Output>(&mut self, bytes: &[u8], out: &mut O) -> Result<usize, Halt>
         requires going { IsGoing self.old }
         requires some { 2 ≤ length bytes.now }
         ensures going { OnOk result (IsGoing self.new) }
@@ -89,75 +95,57 @@ impl SlicedSound {
         ensures samples { IfOk result (λ count. 2 * self.new.samples ≡ 2 * self.old.samples + count) }
         ensures slicing { self.new.slicing ≡ self.old.slicing }
         ensures half { self.new.half ≡ self.old.half }
-        ensures works { IfOk result (λ count. (whole written : List ℕ) → Slices self.old whole written
-            → (more : List ℕ) × Appends (K.written out.old) (K.written out.new) more
-            × Slices self.new (whole ++ take count bytes.now) (written ++ more)) }
-        ensures stops { IfErr result (λ stop. (whole written rest : List ℕ) → Slices self.old whole written
-            → Stops (along_samples self.old.slicing) stop (K.written out.old) (K.written out.new) (whole
-            ++ (bytes.now ++ rest)) written) }
-        ensures cause { HasOutCause (K.faults out.old) (K.faults out.new) result }
-        ensures no_pull { result ≡ Err Stop.ReadFault → ⊥ }
+        ensures works { IfOk result (λ count.
+            Brings O.given (Slices self.old) (Slices self.new) out.old out.new (take count bytes.now)) }
+        ensures halts { IfErr result (λ halt.
+            (halt ≡ Halt.Limit) × (self.old.samples ≡ MAX_SAMPLES) × (out.new ≡ out.old)) }
     {
         if self.samples == MAX_SAMPLES {
-            return Err(push_before(Stop::Limit, &mut self.gathered, out));
+            return Err(Halt::Limit);
         }
         let samples = within(bytes, MAX_SAMPLES - self.samples);
-        self.slice_all(samples, out)
+        Ok(self.slice_all(samples, out))
     }
 
     /// The same of bytes that are within the limit.
-    fn slice_all<K: Sink>(&mut self, bytes: &[u8], out: &mut K) -> Result<usize, Stop>
+    fn slice_all<O: Output>(&mut self, bytes: &[u8], out: &mut O) -> usize
         requires going { IsGoing self.old }
         requires some { 2 ≤ length bytes.now }
         requires within { 2 * self.old.samples + length bytes.now ≤ 2 * MAX_SAMPLES }
-        ensures going { OnOk result (IsGoing self.new) }
-        ensures count { IfOk result (λ count. (2 ≤ count) × (count ≤ length bytes.now)) }
-        ensures samples { IfOk result (λ count. 2 * self.new.samples ≡ 2 * self.old.samples + count) }
+        ensures going { IsGoing self.new }
+        ensures count { (2 ≤ result) × (result ≤ length bytes.now) }
+        ensures samples { 2 * self.new.samples ≡ 2 * self.old.samples + result }
         ensures slicing { self.new.slicing ≡ self.old.slicing }
         ensures half { self.new.half ≡ self.old.half }
-        ensures works { IfOk result (λ count. (whole written : List ℕ) → Slices self.old whole written
-            → (more : List ℕ) × Appends (K.written out.old) (K.written out.new) more
-            × Slices self.new (whole ++ take count bytes.now) (written ++ more)) }
-        ensures stops { IfErr result (λ stop. (whole written rest : List ℕ) → Slices self.old whole written
-            → Stops (along_samples self.old.slicing) stop (K.written out.old) (K.written out.new) (whole
-            ++ (bytes.now ++ rest)) written) }
-        ensures cause { HasOutCause (K.faults out.old) (K.faults out.new) result }
-        ensures no_pull { result ≡ Err Stop.ReadFault → ⊥ }
+        ensures works { Brings O.given (Slices self.old) (Slices self.new) out.old out.new (take result bytes.now) }
     {
         let pace = self.slicing.pace();
         let mut at = 0;
         'runs: while 2 <= bytes.len() - at {
-            at += self.slice_run(pace, &bytes[at..], out)?;
+            at += self.slice_run(pace, &bytes[at..], out);
         }
-        Ok(at)
+        at
     }
 
     /// The same of a run of samples, up to one that brings a distance.
     #[inline(always)]
-    fn slice_run<K: Sink>(&mut self, pace: Pace, bytes: &[u8], out: &mut K) -> Result<usize, Stop>
+    fn slice_run<O: Output>(&mut self, pace: Pace, bytes: &[u8], out: &mut O) -> usize
         requires going { IsGoing self.old }
         requires pace { pace ≡ pace_for self.old.slicing }
         requires valid { IsPace pace }
         requires some { 2 ≤ length bytes.now }
         requires within { 2 * self.old.samples + length bytes.now ≤ 2 * MAX_SAMPLES }
-        ensures going { OnOk result (IsGoing self.new) }
-        ensures count { IfOk result (λ count. (2 ≤ count) × (count ≤ length bytes.now)) }
-        ensures samples { IfOk result (λ count. 2 * self.new.samples ≡ 2 * self.old.samples + count) }
+        ensures going { IsGoing self.new }
+        ensures count { (2 ≤ result) × (result ≤ length bytes.now) }
+        ensures samples { 2 * self.new.samples ≡ 2 * self.old.samples + result }
         ensures slicing { self.new.slicing ≡ self.old.slicing }
         ensures half { self.new.half ≡ self.old.half }
-        ensures works { IfOk result (λ count. (whole written : List ℕ) → Slices self.old whole written
-            → (more : List ℕ) × Appends (K.written out.old) (K.written out.new) more
-            × Slices self.new (whole ++ take count bytes.now) (written ++ more)) }
-        ensures stops { IfErr result (λ stop. (whole written rest : List ℕ) → Slices self.old whole written
-            → Stops (along_samples self.old.slicing) stop (K.written out.old) (K.written out.new) (whole
-            ++ (bytes.now ++ rest)) written) }
-        ensures cause { HasOutCause (K.faults out.old) (K.faults out.new) result }
-        ensures no_pull { result ≡ Err Stop.ReadFault → ⊥ }
+        ensures works { Brings O.given (Slices self.old) (Slices self.new) out.old out.new (take result bytes.now) }
     {
         let (count, intervals) = self.slicer.intervals_of_bytes(pace, bytes);
         self.samples += (count / 2) as u64;
-        spell(&mut self.gathered, intervals, out)?;
-        Ok(count)
+        spell(intervals, out);
+        count
     }
 }
 
@@ -175,8 +163,8 @@ fn within(bytes: &[u8], samples: u64) -> &[u8]
     }
 }
 
-impl Engine for SlicedSound {
-    ghost use Rattle.std.specs.Prelude.{◌-◌, ◌+◌, ◌*◌, ◌≡◌, [], length};
+impl Machine for SlicedSound {
+    ghost use Rattle.std.specs.Prelude.{◌-◌, ◌+◌, ◌*◌, length};
     ghost use Rattle.std.specs.Option.{option_to_list};
     ghost use Rattle.signal_commands.specs.KeptSlices.{IsGoing, Stands, stands_well};
     ghost use Rattle.signal_commands.specs.PcmLtc.{along_samples};
@@ -192,13 +180,11 @@ impl Engine for SlicedSound {
 
     ghost stands = { λ s bytes written. Stands s bytes written };
 
-    ghost is_settled = { λ s. s.gathered.room.items ≡ [] };
-
     ghost budget = { λ s. 2 * MAX_SAMPLES + 1 - (2 * s.samples + length (option_to_list s.half)) };
 
-    ghost stands_well = { λ s bytes written settled stands. stands_well s bytes written settled stands };
+    ghost stands_well = { λ s bytes written stands. stands_well s bytes written stands };
 
-    fn take<K: Sink>(&mut self, bytes: &[u8], out: &mut K) -> Result<usize, Stop> {
+    fn take<O: Output>(&mut self, bytes: &[u8], out: &mut O) -> Result<usize, Halt> {
         if let Some(low) = self.half {
             self.slice(&[low, bytes[0]], out)?;
             self.half = None;
@@ -211,13 +197,9 @@ impl Engine for SlicedSound {
         self.slice(bytes, out)
     }
 
-    fn flush<K: Sink>(&mut self, out: &mut K) -> Result<(), Stop> {
-        self.gathered.push(out)
-    }
-
-    fn finish<K: Sink>(&mut self, _out: &mut K) -> Result<(), Stop> {
+    fn finish<O: Output>(&mut self, _out: &mut O) -> Result<(), InputFault> {
         match self.half {
-            Some(_) => Err(Stop::Refused(InputFault::HalfSample(2 * self.samples + 1))),
+            Some(_) => Err(InputFault::HalfSample(2 * self.samples + 1)),
             None => Ok(()),
         }
     }

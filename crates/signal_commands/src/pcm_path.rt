@@ -1,23 +1,19 @@
-//! The engine of `pcm-ltc .. path`: an interval file of the cells of the best path through a sound. Read next:
-//! `path_sound`.
-ghost use Rattle.std.specs.Prelude.{◌≡◌, ◌+◌, ◌<◌, ◌++◌, [], OnErr, OnOk, IfErr, Err, List, ℕ};
-ghost use Rattle.std.specs.Io.KnownBytes.{Appends};
-ghost use Rattle.tc_command.specs.Causes.{HasOutCause};
-ghost use Rattle.tc_command.specs.Stops.{Stops};
-ghost use Rattle.tc_command.specs.Told.{IsTold, WorksAsTold};
-ghost use Rattle.pcm_front.specs.Samples.{samples_of};
+//! `pcm-ltc .. path`: an interval file of the cells of the best path through a sound. Read next: `path_sound`.
+ghost use Rattle.std.specs.Prelude.{◌≡◌, ◌+◌, ◌<◌, [], OnOk, IfErr};
+ghost use Rattle.interval_file.specs.IntervalHeader.{header_bytes};
 ghost use Rattle.signal_commands.specs.KeptPath.{Hears, IsGoing, Stands};
-ghost use Rattle.signal_commands.specs.PcmPath.{along_path, told_pcm_path};
+ghost use Rattle.signal_commands.specs.PcmPath.{path_header, told_pcm_path};
 ghost use Rattle.signal_commands.specs.declared.pcm_ltc.TheConstants.{MAX_SAMPLES};
+ghost use Rattle.tc_command.specs.KeptBrings.{Brings};
+ghost use Rattle.tc_command.specs.Told.{IsTold, WorksAsTold};
 
 use crate::laws::paths_are_lawful;
-use crate::path_sound::PathSound;
+use crate::path_sound::{PathSound, header};
 use crate::pcm_ltc::MAX_SAMPLES;
-use crate::stopping::push_before;
 use byteorder::{ByteOrder, LittleEndian};
 use path_front::laws::{a_sound_has_one_list_of_intervals, the_intervals_of_a_sound_last_as_long};
 use pcm_front::laws::bytes_are_those_of_their_samples;
-use tc_command::{Engine, InputFault, Stop, work};
+use tc_command::{Halt, InputFault, Machine, Output, Stop, run_behind};
 use tc_io::{Sink, Source};
 use tc_job::PathSlicing;
 
@@ -33,7 +29,7 @@ pub fn hear_path<S: Source, K: Sink>(
         out.old out.new result }
 {
     a_path_is_told(path);
-    work(&mut PcmSound::new(path), source, out)
+    run_behind(&header(path), &mut PcmSound::new(path), source, out)
 }
 
 /// What is claimed of `pcm-ltc .. path` holds: the intervals last as long as the steps of the samples.
@@ -58,11 +54,11 @@ struct PcmSound {
 }
 
 impl PcmSound {
-    /// Before the first sample.
+    /// Before the first sample, behind the header.
     fn new(path: &PathSlicing) -> PcmSound
         ensures path { result.sound.path ≡ path.now }
         ensures going { IsGoing result }
-        ensures stands { Stands result [] [] }
+        ensures stands { Stands result [] (header_bytes (path_header path.now)) }
     {
         PcmSound {
             sound: PathSound::new(path),
@@ -72,51 +68,40 @@ impl PcmSound {
     }
 
     /// Takes the sample of two bytes.
-    fn hear<K: Sink>(&mut self, pair: [u8; 2], out: &mut K) -> Result<(), Stop>
+    fn hear<O: Output>(&mut self, pair: [u8; 2], out: &mut O)
         requires going { IsGoing self.old }
         requires room { self.old.samples < MAX_SAMPLES }
-        ensures going { OnOk result (IsGoing self.new) }
-        ensures samples { OnOk result (self.new.samples ≡ self.old.samples + 1) }
+        ensures going { IsGoing self.new }
+        ensures samples { self.new.samples ≡ self.old.samples + 1 }
         ensures path { self.new.sound.path ≡ self.old.sound.path }
         ensures half { self.new.half ≡ self.old.half }
-        ensures works { OnOk result ((whole written : List ℕ) → Hears self.old whole written
-            → (more : List ℕ) × Appends (K.written out.old) (K.written out.new) more
-            × Hears self.new (whole ++ pair) (written ++ more)) }
-        ensures stops { IfErr result (λ stop. (whole written rest : List ℕ) → Hears self.old whole written
-            → Stops (along_path self.old.sound.path) stop (K.written out.old) (K.written out.new)
-            (whole ++ (pair ++ rest)) written) }
-        ensures cause { HasOutCause (K.faults out.old) (K.faults out.new) result }
-        ensures no_pull { result ≡ Err Stop.ReadFault → ⊥ }
+        ensures works { Brings O.given (Hears self.old) (Hears self.new) out.old out.new pair }
     {
         self.samples += 1;
-        self.sound.hear(LittleEndian::read_i16(&pair), out)
+        self.sound.hear(LittleEndian::read_i16(&pair), out);
     }
 
     /// The same, if one more may come.
-    fn hear_within<K: Sink>(&mut self, pair: [u8; 2], out: &mut K) -> Result<(), Stop>
+    fn hear_within<O: Output>(&mut self, pair: [u8; 2], out: &mut O) -> Result<(), Halt>
         requires going { IsGoing self.old }
         ensures going { OnOk result (IsGoing self.new) }
         ensures samples { OnOk result (self.new.samples ≡ self.old.samples + 1) }
         ensures path { self.new.sound.path ≡ self.old.sound.path }
         ensures half { self.new.half ≡ self.old.half }
-        ensures works { OnOk result ((whole written : List ℕ) → Hears self.old whole written
-            → (more : List ℕ) × Appends (K.written out.old) (K.written out.new) more
-            × Hears self.new (whole ++ pair) (written ++ more)) }
-        ensures stops { IfErr result (λ stop. (whole written rest : List ℕ) → Hears self.old whole written
-            → Stops (along_path self.old.sound.path) stop (K.written out.old) (K.written out.new)
-            (whole ++ (pair ++ rest)) written) }
-        ensures cause { HasOutCause (K.faults out.old) (K.faults out.new) result }
-        ensures no_pull { result ≡ Err Stop.ReadFault → ⊥ }
+        ensures works { OnOk result (Brings O.given (Hears self.old) (Hears self.new) out.old out.new pair) }
+        ensures halts { IfErr result (λ halt.
+            (halt ≡ Halt.Limit) × (self.old.samples ≡ MAX_SAMPLES) × (out.new ≡ out.old)) }
     {
         if self.samples == MAX_SAMPLES {
-            return Err(push_before(Stop::Limit, &mut self.sound.gathered, out));
+            return Err(Halt::Limit);
         }
-        self.hear(pair, out)
+        self.hear(pair, out);
+        Ok(())
     }
 }
 
-impl Engine for PcmSound {
-    ghost use Rattle.std.specs.Prelude.{◌-◌, ◌+◌, ◌*◌, ◌≡◌, [], length};
+impl Machine for PcmSound {
+    ghost use Rattle.std.specs.Prelude.{◌-◌, ◌+◌, ◌*◌, length};
     ghost use Rattle.std.specs.Option.{option_to_list};
     ghost use Rattle.signal_commands.specs.KeptPath.{IsGoing, Stands, stands_well};
     ghost use Rattle.signal_commands.specs.PcmPath.{along_path};
@@ -132,13 +117,11 @@ impl Engine for PcmSound {
 
     ghost stands = { λ s bytes written. Stands s bytes written };
 
-    ghost is_settled = { λ s. s.sound.gathered.room.items ≡ [] };
-
     ghost budget = { λ s. 2 * MAX_SAMPLES + 1 - (2 * s.samples + length (option_to_list s.half)) };
 
-    ghost stands_well = { λ s bytes written settled stands. stands_well s bytes written settled stands };
+    ghost stands_well = { λ s bytes written stands. stands_well s bytes written stands };
 
-    fn take<K: Sink>(&mut self, bytes: &[u8], out: &mut K) -> Result<usize, Stop> {
+    fn take<O: Output>(&mut self, bytes: &[u8], out: &mut O) -> Result<usize, Halt> {
         if let Some(low) = self.half {
             self.hear_within([low, bytes[0]], out)?;
             self.half = None;
@@ -152,14 +135,13 @@ impl Engine for PcmSound {
         Ok(2)
     }
 
-    fn flush<K: Sink>(&mut self, out: &mut K) -> Result<(), Stop> {
-        self.sound.gathered.push(out)
-    }
-
-    fn finish<K: Sink>(&mut self, out: &mut K) -> Result<(), Stop> {
+    fn finish<O: Output>(&mut self, out: &mut O) -> Result<(), InputFault> {
         match self.half {
-            Some(_) => Err(Stop::Refused(InputFault::HalfSample(2 * self.samples + 1))),
-            None => self.sound.end(out),
+            Some(_) => Err(InputFault::HalfSample(2 * self.samples + 1)),
+            None => {
+                self.sound.end(out);
+                Ok(())
+            }
         }
     }
 }

@@ -1,31 +1,26 @@
-//! The engine of `wav-ltc`: an interval file of the crossings of a track of a sound file. Read next:
-//! `wave_file/src/decoder.rt`, then `pcm_front/src/slicer.rt`, and then `tc_command/src/gathered.rt`.
-ghost use Rattle.std.specs.Prelude.{◌≡◌, ◌+◌, ◌*◌, ◌≤◌, ◌<◌, ◌^◌, ◌++◌, ℕ, ℤ, List, [], length, take, None, OnOk};
-ghost use Rattle.std.specs.Prelude.{OnErr, IfOk, IfErr, IfSome, Err};
+//! `wav-ltc`: an interval file of the crossings of a track of a sound file. Read next: `wave_file/src/decoder.rt`, then
+//! `pcm_front/src/slicer.rt`, and then `tc_command/src/machine.rt`.
+ghost use Rattle.std.specs.Prelude.{◌≡◌, ◌+◌, ◌*◌, ◌≤◌, ◌<◌, ◌^◌, ◌++◌, ℕ, ℤ, List, [], length, take};
+ghost use Rattle.std.specs.Prelude.{IfOk, IfErr, IfSome};
+ghost use Rattle.interval_file.specs.IntervalHeader.{header_bytes};
 ghost use Rattle.pcm_front.specs.Pace.{IsPace};
 ghost use Rattle.pcm_front.specs.StandsFor as pcm;
 ghost use Rattle.pcm_front.specs.StandsFor.{settings_of, tick_of};
-ghost use Rattle.tc_io.specs.Sink.{AppendsFront};
-ghost use Rattle.tc_command.specs.Causes.{HasOutCause};
-ghost use Rattle.tc_command.specs.KeptGathered.{IsPut};
-ghost use Rattle.tc_command.specs.KeptWorks.{Works};
-ghost use Rattle.tc_command.specs.Stops.{Stops};
+ghost use Rattle.signal_commands.specs.KeptTrack.{AreDue, IsGoing, Stands, pace_in};
+ghost use Rattle.signal_commands.specs.WavLtc.{along_sound_file, asked_by, told_wav_ltc, track_header};
+ghost use Rattle.tc_command.specs.Halt.{IsHalt};
+ghost use Rattle.tc_command.specs.KeptBrings.{Brings};
+ghost use Rattle.tc_command.specs.Told.{IsLawful, IsTold, WorksAsTold};
+ghost use Rattle.tc_job.specs.WaveSlicing.{SlicesWave};
 ghost use Rattle.wave_file.specs.Format.{IsTakenFor};
 ghost use Rattle.wave_file.specs.StandsFor.{bytes_taken};
-ghost use Rattle.signal_commands.specs.KeptTrack.{AreDue, IsGoing, Stands, pace_in};
-ghost use Rattle.signal_commands.specs.WavLtc.{along_sound_file, asked_by, track_header};
-ghost use Rattle.interval_file.specs.IntervalHeader.{header_bytes};
-ghost use Rattle.tc_command.specs.Told.{IsLawful, IsTold, WorksAsTold};
-ghost use Rattle.signal_commands.specs.WavLtc.{told_wav_ltc};
-ghost use Rattle.tc_job.specs.WaveSlicing.{SlicesWave};
 
 use crate::laws::each_signal_makes_a_command;
 use crate::spelling::spell;
-use crate::stopping::push_before;
 use interval_file::{FileVersion, IntervalHeader, interval_header};
-use pcm_front::laws::{intervals_of_a_front_come_first, intervals_tell_the_crossings};
+use pcm_front::laws::intervals_tell_the_crossings;
 use pcm_front::{Pace, Slicer};
-use tc_command::{Engine, Gathered, InputFault, Stop, work};
+use tc_command::{Halt, InputFault, Machine, Output, Stop, run};
 use tc_io::{Sink, Source};
 use tc_job::WaveSlicing;
 use wave_file::laws::{a_file_is_read_as_it_was_written, samples_are_few_and_behind_a_format};
@@ -47,7 +42,7 @@ pub fn slice_track<S: Source, K: Sink>(
         out.old out.new result }
 {
     a_sliced_track_is_told(slicing);
-    work(&mut SlicedTrack::new(slicing), source, out)
+    run(&mut SlicedTrack::new(slicing), source, out)
 }
 
 /// What is claimed of `wav-ltc` holds: a sound file that was made is read as it was made, and the intervals give the
@@ -76,7 +71,6 @@ struct SlicedTrack {
     slicer: Slicer,
     /// Room for samples that are decoded at once. It keeps nothing.
     room: [i16; ROOM],
-    gathered: Gathered,
 }
 
 impl SlicedTrack {
@@ -95,47 +89,37 @@ impl SlicedTrack {
             }),
             slicer: Slicer::from_the_start(TICKS, slicing.threshold(), slicing.smooth()),
             room: [0; ROOM],
-            gathered: Gathered::holding(&[]),
         }
     }
 
     /// Takes whole blocks at the front of the bytes, none or more of them, and answers on how many bytes.
-    fn take_blocks<K: Sink>(&mut self, bytes: &[u8], out: &mut K) -> Result<usize, Stop>
+    fn take_blocks<O: Output>(&mut self, bytes: &[u8], out: &mut O) -> usize
         requires { IsGoing self.old }
         ensures slicing { self.new.slicing ≡ self.old.slicing }
-        ensures within { IfOk result (λ count. count ≤ length bytes.now) }
-        ensures taken { IfOk result (λ count. bytes_taken self.new.decoder ≡ bytes_taken self.old.decoder + count) }
-        ensures works { IfOk result (λ count.
-            Works (Stands self.old) (Stands self.new) (K.written out.old) (K.written out.new) (take count bytes.now)) }
-        ensures stops { IfErr result (λ stop. (front written : List ℕ) → Stands self.old front written
-            → Stops (along_sound_file self.old.slicing) stop (K.written out.old) (K.written out.new) (front
-            ++ bytes.now) written) }
-        ensures cause { HasOutCause (K.faults out.old) (K.faults out.new) result }
-        ensures no_pull { result ≡ Err Stop.ReadFault → ⊥ }
+        ensures within { result ≤ length bytes.now }
+        ensures taken { bytes_taken self.new.decoder ≡ bytes_taken self.old.decoder + result }
+        ensures works { Brings O.given (Stands self.old) (Stands self.new) out.old out.new (take result bytes.now) }
     {
         samples_are_few_and_behind_a_format();
         let (count, samples) = self.decoder.samples(bytes, &mut self.room);
         let told = self.decoder.format();
         let pace = pace_in(&self.slicing, told);
-        let slicer = &mut self.slicer;
-        slice(slicer, pace, &self.room[..samples], &mut self.gathered, out)?;
-        Ok(count)
+        slice(&mut self.slicer, pace, &self.room[..samples], out);
+        count
     }
 
     /// Takes a piece of the file at the front of the bytes, or some of it, and answers on how many bytes.
-    fn take_piece<K: Sink>(&mut self, bytes: &[u8], out: &mut K) -> Result<usize, Stop>
+    fn take_piece<O: Output>(&mut self, bytes: &[u8], out: &mut O) -> Result<usize, Halt>
         requires going { IsGoing self.old }
         requires some { 0 < length bytes.now }
         ensures slicing { self.new.slicing ≡ self.old.slicing }
         ensures within { IfOk result (λ count. (1 ≤ count) × (count ≤ length bytes.now)) }
         ensures taken { IfOk result (λ count. bytes_taken self.new.decoder ≡ bytes_taken self.old.decoder + count) }
         ensures works { IfOk result (λ count.
-            Works (Stands self.old) (Stands self.new) (K.written out.old) (K.written out.new) (take count bytes.now)) }
-        ensures stops { IfErr result (λ stop. (front written : List ℕ) → Stands self.old front written
-            → Stops (along_sound_file self.old.slicing) stop (K.written out.old) (K.written out.new) (front
-            ++ bytes.now) written) }
-        ensures cause { HasOutCause (K.faults out.old) (K.faults out.new) result }
-        ensures no_pull { result ≡ Err Stop.ReadFault → ⊥ }
+            Brings O.given (Stands self.old) (Stands self.new) out.old out.new (take count bytes.now)) }
+        ensures halts { IfErr result (λ halt. (out.new ≡ out.old)
+            × ((front written : List ℕ) → Stands self.old front written
+            → IsHalt (along_sound_file self.old.slicing) halt (front ++ bytes.now) written)) }
     {
         samples_are_few_and_behind_a_format();
         let taken = self.decoder.take(bytes);
@@ -143,20 +127,16 @@ impl SlicedTrack {
         match taken {
             Taken::Nothing(count) => Ok(count),
             Taken::Begin { count, format } => {
-                let header = self.header(&format);
-                self.gathered.put(&header, out)?;
+                out.gather(&self.header(&format));
                 Ok(count)
             }
             Taken::Sample { count, sample } => {
                 let pace = pace_in(&self.slicing, told);
-                slice(&mut self.slicer, pace, &[sample], &mut self.gathered, out)?;
+                slice(&mut self.slicer, pace, &[sample], out);
                 Ok(count)
             }
-            Taken::Fault(fault) => {
-                let cause = Stop::Refused(InputFault::Sound(fault));
-                Err(push_before(cause, &mut self.gathered, out))
-            }
-            Taken::Limit => Err(push_before(Stop::Limit, &mut self.gathered, out)),
+            Taken::Fault(fault) => Err(Halt::Refused(InputFault::Sound(fault))),
+            Taken::Limit => Err(Halt::Limit),
         }
     }
 
@@ -186,39 +166,25 @@ fn pace_in(slicing: &WaveSlicing, format: Option<WaveFormat>) -> Pace
 }
 
 /// Slices samples, and spells the intervals that they bring.
-fn slice<K: Sink>(
-    slicer: &mut Slicer,
-    pace: Pace,
-    samples: &[i16],
-    gathered: &mut Gathered,
-    out: &mut K,
-) -> Result<(), Stop>
+fn slice<O: Output>(slicer: &mut Slicer, pace: Pace, samples: &[i16], out: &mut O)
     requires pace { IsPace pace }
     requires room { tick_of slicer.old + (settings_of slicer.old).fineness * length samples.now ≤ 2 ^ 62 }
     ensures settings { settings_of slicer.new ≡ settings_of slicer.old }
-    ensures stands { OnOk result ((front : List ℤ) → pcm.StandsFor slicer.old front
-        → pcm.StandsFor slicer.new (front ++ samples.now)) }
-    ensures all { OnOk result ((front : List ℤ) → pcm.StandsFor slicer.old front
-        → (due : List ℕ) × AreDue pace (settings_of slicer.old) front samples.now due
-        × IsPut (K.written out.old) (K.written out.new) gathered.old.room.items due gathered.new.room.items) }
-    ensures front { OnErr result ((front : List ℤ) → pcm.StandsFor slicer.old front
-        → (due : List ℕ) × AreDue pace (settings_of slicer.old) front samples.now due
-        × AppendsFront (K.written out.old) (K.written out.new) (gathered.old.room.items ++ due)) }
-    ensures why { IfErr result (λ stop. stop ≡ Stop.WriteFault) }
-    ensures cause { HasOutCause (K.faults out.old) (K.faults out.new) result }
+    ensures stands { (front : List ℤ) → pcm.StandsFor slicer.old front
+        → pcm.StandsFor slicer.new (front ++ samples.now) }
+    ensures all { (front : List ℤ) → pcm.StandsFor slicer.old front
+        → (due : List ℕ) × AreDue pace (settings_of slicer.old) front samples.now due × O.given out.old out.new due }
 {
-    intervals_of_a_front_come_first();
     let mut at = 0;
     'samples: while at < samples.len() {
         let (count, intervals) = slicer.intervals_of_samples(pace, &samples[at..]);
         at += count;
-        spell(gathered, intervals, out)?;
+        spell(intervals, out);
     }
-    Ok(())
 }
 
-impl Engine for SlicedTrack {
-    ghost use Rattle.std.specs.Prelude.{◌-◌, ◌≡◌, [], length};
+impl Machine for SlicedTrack {
+    ghost use Rattle.std.specs.Prelude.{◌-◌};
     ghost use Rattle.wave_file.specs.declared.stage.TheConstants.{MAX_BYTES};
     ghost use Rattle.wave_file.specs.StandsFor.{bytes_taken};
     ghost use Rattle.signal_commands.specs.KeptTrack.{IsGoing, Stands, stands_well};
@@ -234,14 +200,12 @@ impl Engine for SlicedTrack {
 
     ghost stands = { λ s bytes written. Stands s bytes written };
 
-    ghost is_settled = { λ s. s.gathered.room.items ≡ [] };
-
     ghost budget = { λ s. MAX_BYTES - bytes_taken s.decoder };
 
-    ghost stands_well = { λ s bytes written settled stands. stands_well s bytes written settled stands };
+    ghost stands_well = { λ s bytes written stands. stands_well s bytes written stands };
 
-    fn take<K: Sink>(&mut self, bytes: &[u8], out: &mut K) -> Result<usize, Stop> {
-        let count = self.take_blocks(bytes, out)?;
+    fn take<O: Output>(&mut self, bytes: &[u8], out: &mut O) -> Result<usize, Halt> {
+        let count = self.take_blocks(bytes, out);
         if count == 0 {
             self.take_piece(bytes, out)
         } else {
@@ -249,14 +213,10 @@ impl Engine for SlicedTrack {
         }
     }
 
-    fn flush<K: Sink>(&mut self, out: &mut K) -> Result<(), Stop> {
-        self.gathered.push(out)
-    }
-
-    fn finish<K: Sink>(&mut self, _out: &mut K) -> Result<(), Stop> {
+    fn finish<O: Output>(&mut self, _out: &mut O) -> Result<(), InputFault> {
         match self.decoder.finish() {
             Ok(()) => Ok(()),
-            Err(fault) => Err(Stop::Refused(InputFault::Sound(fault))),
+            Err(fault) => Err(InputFault::Sound(fault)),
         }
     }
 }

@@ -1,18 +1,12 @@
-use Rattle.std.proofs.Common.{◌+◌, ◌++◌, ◌≤◌, ℤ, List, take, drop, ◌∙◌, ap, refl, subst, arith}
-use Rattle.std.proofs.Common.{[], sym, append-nil, take-append-drop}
+use Rattle.std.proofs.Common.{◌+◌, ◌++◌, ◌≤◌, ℤ, List, [], take, ◌∙◌, ap, refl, subst, sym, append-nil, arith}
 use Rattle.std.specs.Prelude.{IfSome}
 use Rattle.std.proofs.lemmas.List.{take_all}
 use Rattle.pcm_front.specs.Distance.{IsInterval}
 use Rattle.pcm_front.specs.Settings.{Settings}
 use Rattle.pcm_front.specs.StandsFor as pcm
 use Rattle.pcm_front.specs.StandsFor.{settings_of, tick_of}
-use Rattle.tc_command.specs.KeptGathered.{none_put, put_more}
-use Rattle.tc_command.specs.KeptWorks.{at_err}
 use Rattle.signal_commands.specs.KeptTrack.{AreDue}
-use Rattle.signal_commands.proofs.DueSamples.{due_at, due_behind, front_of_longer, joined}
-use Rattle.signal_commands.proofs.DueSamples.{next_tick, nothing_due, put_then_front}
-use Rattle.signal_commands.proofs.DueSamples.{rest_fits, run_due, run_within}
-use Rattle.signal_commands.proofs.TrackGoesOn.{due_of}
+use Rattle.signal_commands.proofs.DueSamples.{due_at, joined, next_tick, nothing_due, rest_fits, run_due, run_within}
 use Rattle.signal_commands.proofs.wav_ltc.slice.Goals as goal
 
 pub intervals_of_samples-count-requires-clause-room : goal.intervals_of_samples-count-requires-clause-room
@@ -35,9 +29,8 @@ samples-init g c =
       put = λ front stands. (
         [],
         nothing_due c.args.pace settings front,
-        none_put (g.K.Sink.written c.args.out.now) c.args.gathered.now.room.items [] refl,
+        g.O.Output.given_none c.args.out.now,
       );
-      same = refl;
     }
 
 -- the lengths are those of intervals
@@ -73,38 +66,10 @@ samples-preserved g c =
             run_due c.args.pace (settings_of c.args.slicer.now) (settings_of c.samples.slicer) c.samples.at n front xs
                 put.0 brought i.settings i.within
                 inside put.1 (e.intervals (front ++ take c.samples.at xs) (i.stands front stands)),
-            put_more _ _ _ c.args.gathered.now.room.items put.0 c.samples.gathered.room.items (due_at brought)
-                c.spell.new.gathered.room.items _ put.2
-                c.in_ok-spell.ensures.all refl,
+            g.O.Output.given_more c.args.out.now c.samples.out c.spell.new.out put.0 (due_at brought) put.2
+                c.spell.ensures,
           );
-      same = c.in_ok-spell.ensures.cause ∙ i.same;
     }
-
--- what it brought was not taken
-pub returns-in_err-spell-clause-front : goal.returns-in_err-spell-clause-front
-returns-in_err-spell-clause-front g c = at_err c.from_residual.result (λ front stands.
-    let i = c.samples.invariant in
-    let e = c.intervals_of_samples-count.ensures in
-    let xs = c.args.samples.now in
-    let n = c.intervals_of_samples-count.result.0 in
-    let at = c.samples.at + n in
-    let s = settings_of c.args.slicer.now in
-    let brought = c.intervals_of_samples-count.result.1 in
-    let inside = run_within c.samples.at n xs i.within e.within in
-    let put = i.put front stands in
-    let here = run_due c.args.pace s (settings_of c.samples.slicer) c.samples.at n front xs put.0 brought i.settings
-    i.within inside put.1
-    (e.intervals (front ++ take c.samples.at xs) (i.stands front stands)) in
-    let rest = due_of c.intervals_of_a_front_come_first.ensures c.args.pace s (front ++ take at xs) (drop at xs)
-    c.requires.pace in
-    let due = put.0 ++ due_at brought in
-    let failed = put_then_front _ _ _ c.args.gathered.now.room.items put.0 c.samples.gathered.room.items
-    (due_at brought) put.2
-    c.in_err-spell.ensures.front in (
-      due ++ rest.0,
-      due_behind c.args.pace s front (take at xs) (drop at xs) xs due rest.0 (take-append-drop at xs) here rest.1,
-      front_of_longer _ _ c.args.gathered.now.room.items due rest.0 failed,
-    ))
 
 -- all were taken
 pub returns-clause-stands : goal.returns-clause-stands

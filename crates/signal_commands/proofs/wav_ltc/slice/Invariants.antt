@@ -1,11 +1,10 @@
 use Rattle.std.proofs.Common.{◌≡◌, ◌+◌, ◌-◌, ◌*◌, ◌≤◌, ◌++◌, ℕ, ℤ, List, take, length}
 use Rattle.pcm_front.specs.StandsFor as pcm
 use Rattle.pcm_front.specs.StandsFor.{settings_of, tick_of}
-use Rattle.tc_command.specs.KeptGathered.{IsPut}
 use Rattle.signal_commands.specs.KeptTrack.{AreDue}
 use Rattle.signal_commands.proofs.wav_ltc.slice.Given as goal
 
--- the samples before a place were sliced, and what they bring was pushed or is gathered
+-- the samples before a place were sliced, and what they bring was written
 abbrev pub invariant-samples : goal.invariant-samples
 invariant-samples g l = record {
   within : l.at ≤ length l.samples;
@@ -14,8 +13,7 @@ invariant-samples g l = record {
   stands : (front : List ℤ) → pcm.StandsFor l.fn.slicer front → pcm.StandsFor l.slicer (front ++ take l.at l.samples);
   put : (front : List ℤ) → pcm.StandsFor l.fn.slicer front → (due : List ℕ)
       × AreDue l.fn.pace (settings_of l.fn.slicer) front (take l.at l.samples) due
-      × IsPut (g.K.Sink.written l.fn.out) (g.K.Sink.written l.out) l.fn.gathered.room.items due l.gathered.room.items;
-  same : g.K.Sink.faults l.out ≡ g.K.Sink.faults l.fn.out;
+      × g.O.Output.given l.fn.out l.out due;
 }
 
 abbrev pub decreases-samples : goal.decreases-samples

@@ -1,5 +1,4 @@
 use Rattle.std.proofs.Common.{◌≡◌, ◌+◌, ◌++◌, ℕ, ℤ, List, take}
-use Rattle.std.specs.Io.KnownBytes.{Appends}
 use Rattle.signal_commands.specs.KeptSound.{samples_heard, HearsSamples, IsGoing}
 use Rattle.signal_commands.proofs.path_sound.PathSound.hear_all.Given as goal
 
@@ -10,7 +9,6 @@ invariant-samples g l = record {
   path : l.self.path ≡ l.fn.self.path;
   count : samples_heard l.self ≡ samples_heard l.fn.self + l.at;
   works : (before : List ℤ) (written : List ℕ) → HearsSamples l.fn.self before written
-      → (more : List ℕ) × Appends (g.K.Sink.written l.fn.out) (g.K.Sink.written l.out) more
+      → (more : List ℕ) × g.O.Output.given l.fn.out l.out more
       × HearsSamples l.self (before ++ take l.at l.samples) (written ++ more);
-  cause : g.K.Sink.faults l.out ≡ g.K.Sink.faults l.fn.out;
 }

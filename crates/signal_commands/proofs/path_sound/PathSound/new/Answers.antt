@@ -1,10 +1,10 @@
-use Rattle.std.proofs.Common.{[], append-nil, sym, ◌∙◌}
+use Rattle.std.proofs.Common.{[], append-nil, sym}
 use Rattle.interval_file.specs.IntervalHeader.{header_bytes}
 use Rattle.signal_commands.specs.PcmPath.{path_header}
 use Rattle.signal_commands.proofs.PathOn.{nothing_so_far}
 use Rattle.signal_commands.proofs.path_sound.PathSound.new.Goals as goal
 
--- the header is gathered
+-- the header is written
 pub returns-clause-hears : goal.returns-clause-hears
 returns-clause-hears c =
     let p = c.args.path.now in
@@ -13,7 +13,5 @@ returns-clause-hears c =
       given = [];
       front = c.new.ensures.stands;
       so_far = nothing_so_far p.grid p.ticks p.least;
-      are = c.holding.ensures
-          ∙ (rw (c.system.ensures, c.tick_rate.ensures.value) at c.interval_header-header.ensures.bytes)
-          ∙ sym (append-nil (header_bytes (path_header p)));
+      are = sym (append-nil (header_bytes (path_header p)));
     }

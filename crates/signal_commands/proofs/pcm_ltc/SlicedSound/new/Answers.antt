@@ -1,9 +1,9 @@
-use Rattle.std.proofs.Common.{[], refl, sym, ◌∙◌, arith}
+use Rattle.std.proofs.Common.{[], refl, sym, arith}
 use Rattle.pcm_front.specs.Samples.{samples_of}
 use Rattle.signal_commands.proofs.SlicedOn.{no_samples}
 use Rattle.signal_commands.proofs.pcm_ltc.SlicedSound.new.Goals as goal
 
--- the header is gathered
+-- the header is written
 pub returns-clause-stands : goal.returns-clause-stands
 unfolding samples_of
 returns-clause-stands c = record {
@@ -12,9 +12,7 @@ returns-clause-stands c = record {
     within = omega arith;
     count = refl;
     slicer = c.summing.ensures.stands;
-    are = c.holding.ensures
-        ∙ (rw (c.system.ensures, c.tick_rate.ensures.value) at c.interval_header-header.ensures.bytes)
-        ∙ sym (no_samples c.args.slicing.now);
+    are = sym (no_samples c.args.slicing.now);
   };
   are = refl;
 }

@@ -1,17 +1,14 @@
-use Rattle.std.proofs.Common.{◌-◌, ◌++◌, List, ℕ, take, drop, length, ap, refl, subst, sym, ◌∙◌, append_assoc, arith}
+use Rattle.std.proofs.Common.{◌-◌, List, ℕ, drop, length, ap, refl, subst, sym, ◌∙◌, arith}
 use Rattle.std.proofs.lemmas.List.{length-take}
 use Rattle.signal_commands.specs.KeptSlices.{Slices}
-use Rattle.signal_commands.specs.PcmLtc.{along_samples, pace_for}
-use Rattle.tc_command.specs.KeptWorks.{Works, stops_on, works_on}
-use Rattle.lemmas.specs.Results.{through}
-use Rattle.lemmas.specs.Lists.{cut_at, cut_more, within_rest}
-use Rattle.tc_command.specs.Stops.{IsStop, Stops}
-use Rattle.signal_commands.proofs.NothingYet.{works_nothing}
+use Rattle.signal_commands.specs.PcmLtc.{pace_for}
+use Rattle.tc_command.specs.KeptBrings.{Brings, brings_more, brings_none}
+use Rattle.lemmas.specs.Lists.{cut_more, within_rest}
 use Rattle.signal_commands.proofs.pcm_ltc.SlicedSound.slice_all.Goals as goal
 
 -- what is left is within the limit too
-pub slice_run-requires-clause-within : goal.slice_run-requires-clause-within
-slice_run-requires-clause-within g c =
+pub slice_run-at-requires-clause-within : goal.slice_run-at-requires-clause-within
+slice_run-at-requires-clause-within g c =
     let i = c.runs.invariant in
     omega (
       arith,
@@ -22,8 +19,8 @@ slice_run-requires-clause-within g c =
           (drop c.runs.at c.args.bytes.now),
     )
 
-pub slice_run-requires-clause-pace : goal.slice_run-requires-clause-pace
-slice_run-requires-clause-pace g c = c.pace-pace.ensures.value ∙ ap pace_for (sym c.runs.invariant.slicing)
+pub slice_run-at-requires-clause-pace : goal.slice_run-at-requires-clause-pace
+slice_run-at-requires-clause-pace g c = c.pace-pace.ensures.value ∙ ap pace_for (sym c.runs.invariant.slicing)
 
 pub runs-init : goal.runs-init
 runs-init g c = record {
@@ -33,16 +30,16 @@ runs-init g c = record {
   samples = omega arith;
   slicing = refl;
   half = refl;
-  works = works_nothing (Slices c.args.self.now) (g.K.Sink.written c.args.out.now);
-  same = refl;
+  works = brings_none g.O.Output.given (Slices c.args.self.now) c.args.out.now
+      (g.O.Output.given_none c.args.out.now);
 }
 
 -- the samples before these were sliced, and then these
 pub runs-preserved : goal.runs-preserved
 runs-preserved g c =
     let i = c.runs.invariant in
-    let e = c.in_ok-at.ensures in
-    let n = c.in_ok-at.field-0 in
+    let e = c.slice_run-at.ensures in
+    let n = c.slice_run-at.result in
     let bytes = c.args.bytes.now in
     let inside = within_rest c.runs.at n bytes i.within e.count.1 in
     let cut = cut_more c.runs.at n bytes in
@@ -53,32 +50,9 @@ runs-preserved g c =
       samples = omega (arith, e.samples, i.samples);
       slicing = e.slicing ∙ i.slicing;
       half = e.half ∙ i.half;
-      works = subst (λ (bs : List ℕ). Works (Slices c.args.self.now) (Slices c.slice_run.new.self)
-          (g.K.Sink.written c.args.out.now)
-          (g.K.Sink.written c.slice_run.new.out) bs) cut
-          (works_on (Slices c.args.self.now) (Slices c.runs.self) (Slices c.slice_run.new.self)
-          (g.K.Sink.written c.args.out.now)
-          (g.K.Sink.written c.runs.out) (g.K.Sink.written c.slice_run.new.out) _ _ i.works e.works);
-      same = e.cause ∙ i.same;
+      works = subst (λ (bs : List ℕ). Brings g.O.Output.given (Slices c.args.self.now) (Slices c.slice_run-at.new.self)
+          c.args.out.now c.slice_run-at.new.out bs) cut
+          (brings_more g.O.Output.given (Slices c.args.self.now) (Slices c.runs.self) (Slices c.slice_run-at.new.self)
+          c.args.out.now c.runs.out c.slice_run-at.new.out _ _
+          (g.O.Output.given_more c.args.out.now c.runs.out c.slice_run-at.new.out) i.works e.works);
     }
-
--- the command stops in one of them
-pub returns-in_err-at-clause-stops : goal.returns-in_err-at-clause-stops
-returns-in_err-at-clause-stops g c =
-    let i = c.runs.invariant in
-    let s = c.args.self.now in
-    let at = c.runs.at in
-    let bytes = c.args.bytes.now in
-    let old = g.K.Sink.written c.args.out.now in
-    let new = g.K.Sink.written c.slice_run.new.out in
-    let left = take (length bytes - at) (drop at bytes) in
-    through c.from_residual.result c.from_residual.ensures.1 (λ stop same whole written rest slices.
-    subst (λ (b : List ℕ). Stops (along_samples s.slicing) stop old new (whole ++ b) written)
-    (sym (append_assoc (take at bytes) left rest) ∙ ap (λ (l : List ℕ). l ++ rest) (cut_at at bytes i.within))
-    (subst (λ slicing. Stops (along_samples slicing) stop old new (whole ++ (take at bytes ++ (left ++ rest))) written)
-    i.slicing
-    (stops_on (IsStop (along_samples c.runs.self.slicing) stop) (Slices s) (Slices c.runs.self) old
-    (g.K.Sink.written c.runs.out) new
-    (take at bytes) (left ++ rest) i.works
-    (λ front output stands. rw same (c.in_err-at.ensures.stops front output rest stands))
-    whole written slices)))

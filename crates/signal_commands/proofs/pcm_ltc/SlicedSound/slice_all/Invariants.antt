@@ -1,6 +1,6 @@
 use Rattle.std.proofs.Common.{◌≡◌, ◌≤◌, ◌+◌, ◌-◌, ◌*◌, take, length}
 use Rattle.signal_commands.specs.KeptSlices.{IsGoing, Slices}
-use Rattle.tc_command.specs.KeptWorks.{Works}
+use Rattle.tc_command.specs.KeptBrings.{Brings}
 use Rattle.signal_commands.proofs.pcm_ltc.SlicedSound.slice_all.Given as goal
 
 -- the runs so far were sliced
@@ -12,9 +12,7 @@ invariant-runs g l = record {
   samples : 2 * l.self.samples ≡ 2 * l.fn.self.samples + l.at;
   slicing : l.self.slicing ≡ l.fn.self.slicing;
   half : l.self.half ≡ l.fn.self.half;
-  works : Works (Slices l.fn.self) (Slices l.self) (g.K.Sink.written l.fn.out) (g.K.Sink.written l.out)
-      (take l.at l.bytes);
-  same : g.K.Sink.faults l.out ≡ g.K.Sink.faults l.fn.out;
+  works : Brings g.O.Output.given (Slices l.fn.self) (Slices l.self) l.fn.out l.out (take l.at l.bytes);
 }
 
 abbrev pub decreases-runs : goal.decreases-runs

@@ -2,8 +2,7 @@ use Rattle.std.proofs.Common.{◌+◌, ◌/◌, ◌≤◌, take, length, sym, ap
 use Rattle.std.specs.Prelude.{IfSome}
 use Rattle.pcm_front.specs.Distance.{IsInterval}
 use Rattle.pcm_front.specs.Settings.{Settings}
-use Rattle.lemmas.specs.Results.{through}
-use Rattle.signal_commands.proofs.SlicedOn.{grown, grown_part, grows, still_going, ticks_fit, two_at_least, two_each}
+use Rattle.signal_commands.proofs.SlicedOn.{due, grown, grows, still_going, ticks_fit, two_at_least, two_each}
 use Rattle.signal_commands.proofs.pcm_ltc.SlicedSound.slice_run.Goals as goal
 
 pub intervals_of_bytes-count-requires-clause-room : goal.intervals_of_bytes-count-requires-clause-room
@@ -32,9 +31,7 @@ returns-clause-going g c =
     let e = c.intervals_of_bytes-count.ensures in
     still_going s (record s {
       slicer = c.intervals_of_bytes-count.new.self;
-      samples =
-          s.samples + c.intervals_of_bytes-count.result.0 / 2;
-      gathered = c.spell.new.gathered;
+      samples = s.samples + c.intervals_of_bytes-count.result.0 / 2;
     })
     (length c.args.bytes.now) c.intervals_of_bytes-count.result.0 e.whole.0 going c.requires.within e.within e.whole.1
     refl refl e.settings e.whole.2
@@ -49,44 +46,17 @@ returns-clause-samples g c =
     let whole = c.intervals_of_bytes-count.ensures.whole in
     two_each c.args.self.now.samples c.intervals_of_bytes-count.result.0 whole.0 whole.1
 
--- the intervals were not taken
-pub returns-in_err-spell-clause-stops : goal.returns-in_err-spell-clause-stops
-returns-in_err-spell-clause-stops g c =
-    let s = c.args.self.now in
-    let e = c.intervals_of_bytes-count.ensures in
-    let count = c.intervals_of_bytes-count.result.0 in
-    let brought = c.intervals_of_bytes-count.result.1 in
-    let next = record s {
-      slicer = c.intervals_of_bytes-count.new.self;
-      samples = s.samples + count / 2;
-      gathered =
-          c.spell.new.gathered;
-    } in
-    through c.from_residual.result c.from_residual.ensures.1 (λ stop same whole written rest slices.
-    rw (same, c.in_err-spell.ensures.why)
-    (grown_part s next whole written c.args.bytes.now rest count brought _ _ slices
-    (grows s next c.args.bytes.now count e.whole.0 c.args.pace brought c.requires.within e.within e.whole.1 refl refl
-    c.requires.going.settings
-    c.requires.pace e.stands e.intervals) c.in_err-spell.ensures.front))
-
--- they were
+-- they were written
 pub returns-clause-works : goal.returns-clause-works
 returns-clause-works g c = λ whole written slices.
     let s = c.args.self.now in
     let e = c.intervals_of_bytes-count.ensures in
     let count = c.intervals_of_bytes-count.result.0 in
     let brought = c.intervals_of_bytes-count.result.1 in
-    let next = record s {
-      slicer = c.intervals_of_bytes-count.new.self;
-      samples = s.samples + count / 2;
-      gathered =
-          c.spell.new.gathered;
-    } in
-    let put = c.in_ok-spell.ensures.all in (
-      put.0,
-      put.1,
-      grown s next whole written (take count c.args.bytes.now) put.0 brought slices
+    let next = record s { slicer = c.intervals_of_bytes-count.new.self; samples = s.samples + count / 2 } in (
+      due brought,
+      c.spell.ensures,
+      grown s next whole written (take count c.args.bytes.now) brought slices
           (grows s next c.args.bytes.now count e.whole.0 c.args.pace brought c.requires.within e.within e.whole.1 refl
-          refl c.requires.going.settings
-          c.requires.pace e.stands e.intervals) put.2,
+          refl c.requires.going.settings c.requires.pace e.stands e.intervals),
     )

@@ -1,4 +1,8 @@
-use Rattle.std.proofs.Common.{◌≡◌, ◌≤◌, Some, None, ap, sym, subst, ◌∙◌}
+use Rattle.std.proofs.Common.{◌≡◌, ◌≤◌, [], Some, None, ap, sym, subst, ◌∙◌}
+use Rattle.interval_file.specs.IntervalHeader.{header_bytes}
+use Rattle.signal_commands.specs.KeptSound.{HearsSamples}
+use Rattle.signal_commands.specs.PcmPath.{path_header}
+use Rattle.tc_job.specs.PathSlicing.{SlicesPath}
 use Rattle.tc_job.specs.TrackPath.{least_rate_of, sound_of}
 use Rattle.wave_file.specs.declared.format.Asked.{Asked}
 use Rattle.signal_commands.proofs.wav_path.TrackSound.begun.Goals as goal
@@ -8,7 +12,8 @@ pub returns : goal.returns
 returns c = (
   sym c.sound.ensures ∙ c.in-Some.is ∙ ap Some (sym c.new.ensures.path),
   c.new.ensures.going,
-  c.new.ensures.hears,
+  subst (λ (p : SlicesPath). HearsSamples c.new.result [] (header_bytes (path_header p))) (sym c.new.ensures.path)
+      c.new.ensures.hears,
 )
 
 -- there is one from the least rate on

@@ -1,6 +1,5 @@
 use Rattle.std.proofs.Common.{take, refl}
-use Rattle.lemmas.specs.Results.{through}
-use Rattle.signal_commands.proofs.TrackPathOn.{all_going, decodes_more, hear_stop, heard_on, room_for}
+use Rattle.signal_commands.proofs.TrackPathOn.{all_going, decodes_more, heard_on, room_for}
 use Rattle.signal_commands.proofs.wav_path.TrackSound.take_blocks.Goals as goal
 
 pub hear_in-requires-clause-going : goal.hear_in-requires-clause-going
@@ -20,21 +19,7 @@ hear_in-requires-clause-room g c =
     room_for c.samples_are_few_and_behind_a_format.ensures s c.samples-count.new.self
     (take c.samples-count.result.0 c.args.bytes.now) more c.requires decodes
 
--- what they bring was not taken
-pub returns-in_err-hear_in-clause-stops : goal.returns-in_err-hear_in-clause-stops
-returns-in_err-hear_in-clause-stops g c =
-    let s = c.args.self.now in
-    let adds = c.samples-count.ensures.adds in
-    let more = take c.samples-count.result.1 c.samples-count.new.room in
-    let decodes = decodes_more s.decoder c.samples-count.new.self (take c.samples-count.result.0 c.args.bytes.now) more
-    _
-    adds.asked adds.stands c.format-told.ensures.within c.format-told.ensures.value c.format-told.ensures.told in
-    through c.from_residual.result c.from_residual.ensures.1 (λ stop same front written stands.
-    let f = c.in_err-hear_in.ensures.fails s.path _ stands.samples written stands.heard in
-    rw (same, c.in_err-hear_in.ensures.why) (hear_stop s c.samples-count.new.self front written c.args.bytes.now
-    c.samples-count.result.0 more _ _ stands decodes adds.format f))
-
--- it was pushed, or is gathered
+-- it was written
 pub returns-clause-works : goal.returns-clause-works
 returns-clause-works g c = λ front written stands.
     let s = c.args.self.now in
@@ -48,6 +33,6 @@ returns-clause-works g c = λ front written stands.
     let decodes = decodes_more s.decoder c.samples-count.new.self (take c.samples-count.result.0 c.args.bytes.now) more
     _
     adds.asked adds.stands c.format-told.ensures.within c.format-told.ensures.value c.format-told.ensures.told in
-    heard_on c.samples_are_few_and_behind_a_format.ensures s next front written
+    heard_on g.O.Output.given c.samples_are_few_and_behind_a_format.ensures s next front written
     (take c.samples-count.result.0 c.args.bytes.now) more _ _ stands refl decodes adds.format
-    c.in_ok-hear_in.ensures.works
+    c.hear_in.ensures

@@ -1,28 +1,28 @@
 use Rattle.std.proofs.Common.{◌≤◌, length, arith, ◌++◌, [], ◌∷◌, List, ℕ, Some, None, drop, get_or, ap, subst}
 use Rattle.std.proofs.Common.{sym, ◌∙◌, append-nil, refl}
-use Rattle.std.proofs.KnownBytes.{Appends-nil}
 use Rattle.std.specs.declared.option.Option.{Option}
 use Rattle.std.specs.Option.{option_to_list}
 use Rattle.signal_commands.specs.KeptPath.{Hears}
-use Rattle.signal_commands.specs.PcmPath.{along_path}
-use Rattle.tc_command.specs.Stops.{Stops}
 use Rattle.lemmas.specs.Results.{through}
 use Rattle.lemmas.specs.Lists.{first_only}
-use Rattle.signal_commands.proofs.PathOfBytes.{any_half, first_two, only_two}
+use Rattle.signal_commands.proofs.PathOfBytes.{any_half, at_limit, only_two}
 use Rattle.signal_commands.proofs.SlicedOn.{falls, falls_by_half, half_first}
 use Rattle.signal_commands.proofs.SlicedOn.{half_then, no_half}
-use Rattle.signal_commands.proofs.pcm_path.PcmSoundEngine.take.Goals as goal
+use Rattle.signal_commands.proofs.pcm_path.PcmSoundMachine.take.Goals as goal
 
--- the sample that the first byte completes stops the command
-pub returns-in_err-hear_within-clause-stops : goal.returns-in_err-hear_within-clause-stops
-returns-in_err-hear_within-clause-stops g c =
+-- the sample that the first byte completes is past the limit
+pub returns-in_err-hear_within-clause-halts : goal.returns-in_err-hear_within-clause-halts
+returns-in_err-hear_within-clause-halts g c =
     let s = c.args.self.now in
     let bytes = c.args.bytes.now in
-    through c.from_residual.result c.from_residual.ensures.1 (λ stop same front written stands.
-    subst (λ (b : List ℕ). Stops (along_path s.sound.path) stop (g.K.Sink.written c.args.out.now)
-    (g.K.Sink.written c.hear_within.new.out) b written)
-    (sym (half_first front stands.whole bytes s.half c.in-Some.low stands.are c.in-Some.is c.requires.some))
-    (rw same (c.in_err-hear_within.ensures.stops stands.whole written (drop 1 bytes) stands.hears)))
+    let pair = c.in-Some.low ∷ get_or bytes 0 0 ∷ [] in
+    let h = c.in_err-hear_within.ensures.halts in
+    through c.from_residual.result c.from_residual.ensures.1 (λ halt same front written stands. (
+      [],
+      rw h.2 (g.O.Output.given_none c.args.out.now),
+      rw (same, h.0, half_first front stands.whole bytes s.half c.in-Some.low stands.are c.in-Some.is c.requires.some)
+          (at_limit s stands.whole written (pair ++ drop 1 bytes) stands.hears h.1 (omega arith)),
+    ))
 
 -- the first byte completes a sample
 pub returns-in-Some-clause-works : goal.returns-in-Some-clause-works
@@ -54,7 +54,7 @@ returns-then-bytes-eq1-clause-works g c = λ front written stands.
     let bytes = c.args.bytes.now in
     let low = get_or bytes 0 0 in (
       [],
-      Appends-nil _,
+      g.O.Output.given_none c.args.out.now,
       record {
         whole = stands.whole;
         hears = any_half s (Some low) stands.whole (written ++ [])
@@ -70,18 +70,19 @@ returns-then-bytes-eq1-clause-budget g c =
     c.requires.going.within
 
 -- two bytes come first
-pub returns-in_err-hear_within-2-clause-stops : goal.returns-in_err-hear_within-2-clause-stops
-returns-in_err-hear_within-2-clause-stops g c =
+pub returns-in_err-hear_within-2-clause-halts : goal.returns-in_err-hear_within-2-clause-halts
+returns-in_err-hear_within-2-clause-halts g c =
     let s = c.args.self.now in
     let bytes = c.args.bytes.now in
     let some : 2 ≤ length bytes = omega (arith, c.requires.some, c.if-bytes-eq1.false) in
+    let h = c.in_err-hear_within-2.ensures.halts in
     through c.from_residual-in_err-hear_within-2.result c.from_residual-in_err-hear_within-2.ensures.1
-    (λ stop same front written stands.
-    subst (λ (b : List ℕ). Stops (along_path s.sound.path) stop (g.K.Sink.written c.args.out.now)
-    (g.K.Sink.written c.hear_within-2.new.out) b written)
-    (ap (λ (l : List ℕ). stands.whole ++ l) (first_two bytes some)
-    ∙ ap (λ (l : List ℕ). l ++ bytes) (sym (no_half front stands.whole s.half stands.are c.in_default.is)))
-    (rw same (c.in_err-hear_within-2.ensures.stops stands.whole written (drop 2 bytes) stands.hears)))
+    (λ halt same front written stands. (
+      [],
+      rw h.2 (g.O.Output.given_none c.args.out.now),
+      rw (same, h.0, no_half front stands.whole s.half stands.are c.in_default.is)
+          (at_limit s stands.whole written bytes stands.hears h.1 some),
+    ))
 
 pub returns-clause-works : goal.returns-clause-works
 returns-clause-works g c = λ front written stands.

@@ -1,28 +1,32 @@
-use Rattle.std.proofs.Common.{◌++◌, [], ◌∷◌, List, ℕ, Some, None, drop, get_or, take, ap, subst}
+use Rattle.std.proofs.Common.{◌++◌, [], ◌∷◌, List, ℕ, Some, None, drop, get_or, take, ap, arith, subst}
 use Rattle.std.proofs.Common.{sym, ◌∙◌, append-nil, refl}
-use Rattle.std.proofs.KnownBytes.{Appends-nil}
 use Rattle.std.proofs.lemmas.List.{take_all}
 use Rattle.std.specs.declared.option.Option.{Option}
 use Rattle.std.specs.Option.{option_to_list}
 use Rattle.signal_commands.specs.KeptSlices.{Slices}
 use Rattle.signal_commands.specs.PcmLtc.{along_samples}
-use Rattle.tc_command.specs.Stops.{Stops}
+use Rattle.tc_command.specs.declared.halt.Halt.TheVariants.{Limit}
+use Rattle.tc_command.specs.Halt.{IsHalt}
 use Rattle.lemmas.specs.Results.{through}
 use Rattle.lemmas.specs.Lists.{first_only}
-use Rattle.signal_commands.proofs.SlicedOn.{any_half, err_to, falls, falls_by_half, half_first}
-use Rattle.signal_commands.proofs.SlicedOn.{half_then, no_half, ok_to, with_three}
-use Rattle.signal_commands.proofs.pcm_ltc.SlicedSoundEngine.take.Goals as goal
+use Rattle.signal_commands.proofs.Outcomes.{err_to, ok_to}
+use Rattle.signal_commands.proofs.SlicedOn.{any_half, at_limit, falls, falls_by_half, half_first}
+use Rattle.signal_commands.proofs.SlicedOn.{half_then, no_half, with_three}
+use Rattle.signal_commands.proofs.pcm_ltc.SlicedSoundMachine.take.Goals as goal
 
--- the sample that the first byte completes stops the command
-pub returns-in_err-slice-clause-stops : goal.returns-in_err-slice-clause-stops
-returns-in_err-slice-clause-stops g c =
+-- the sample that the first byte completes is past the limit
+pub returns-in_err-slice-clause-halts : goal.returns-in_err-slice-clause-halts
+returns-in_err-slice-clause-halts g c =
     let s = c.args.self.now in
     let bytes = c.args.bytes.now in
-    through c.from_residual.result c.from_residual.ensures.1 (λ stop same front written stands.
-    subst (λ (b : List ℕ). Stops (along_samples s.slicing) stop (g.K.Sink.written c.args.out.now)
-    (g.K.Sink.written c.slice.new.out) b written)
-    (sym (half_first front stands.whole bytes s.half c.in-Some.low stands.are c.in-Some.is c.requires.some))
-    (rw same (c.in_err-slice.ensures.stops stands.whole written (drop 1 bytes) stands.slices)))
+    let pair = c.in-Some.low ∷ get_or bytes 0 0 ∷ [] in
+    let h = c.in_err-slice.ensures.halts in
+    through c.from_residual.result c.from_residual.ensures.1 (λ halt same front written stands. (
+      [],
+      rw h.2 (g.O.Output.given_none c.args.out.now),
+      rw (same, h.0, half_first front stands.whole bytes s.half c.in-Some.low stands.are c.in-Some.is c.requires.some)
+          (at_limit s stands.whole written (pair ++ drop 1 bytes) stands.slices h.1 (omega arith)),
+    ))
 
 -- the first byte completes a sample
 pub returns-in-Some-clause-works : goal.returns-in-Some-clause-works
@@ -56,7 +60,7 @@ returns-then-bytes-eq1-clause-works g c = λ front written stands.
     let bytes = c.args.bytes.now in
     let low = get_or bytes 0 0 in (
       [],
-      Appends-nil _,
+      g.O.Output.given_none c.args.out.now,
       record {
         whole = stands.whole;
         slices = any_half s (Some low) stands.whole (written ++ [])
@@ -79,16 +83,16 @@ returns-clause-budget g c =
     falls c.args.self.now.samples c.slice-2.new.self.samples count c.args.self.now.half c.slice-2.new.self.half
     (e.half ∙ c.in_default.is) within.0 samples going.within)
 
-pub returns-clause-stops : goal.returns-clause-stops
-returns-clause-stops g c =
+pub returns-clause-halts : goal.returns-clause-halts
+returns-clause-halts g c =
     let s = c.args.self.now in
     let bytes = c.args.bytes.now in
-    err_to c.slice-2.result c.slice-2.ensures.stops (λ stop stopped front written stands.
-    subst (λ (b : List ℕ). Stops (along_samples s.slicing) stop (g.K.Sink.written c.args.out.now)
-    (g.K.Sink.written c.slice-2.new.out) b written)
-    (ap (λ (l : List ℕ). stands.whole ++ l) (append-nil bytes)
-    ∙ ap (λ (l : List ℕ). l ++ bytes) (sym (no_half front stands.whole s.half stands.are c.in_default.is)))
-    (stopped stands.whole written [] stands.slices))
+    err_to c.slice-2.result c.slice-2.ensures.halts (λ halt h front written stands. (
+      [],
+      rw h.2 (g.O.Output.given_none c.args.out.now),
+      rw (h.0, no_half front stands.whole s.half stands.are c.in_default.is)
+          (at_limit s stands.whole written bytes stands.slices h.1 (omega (arith, c.requires.some))),
+    ))
 
 pub returns-clause-works : goal.returns-clause-works
 returns-clause-works g c =
