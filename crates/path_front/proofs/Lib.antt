@@ -1,5 +1,4 @@
 pub mod CellsNext
-pub mod EightLevels
 pub mod EighthBefore
 mod Examples
 pub mod FrontNext

@@ -12,20 +12,16 @@ use Rattle.cell_path.specs.declared.cell.Step.{Step}
 use Rattle.cell_path.specs.declared.placed.Placed.{Placed}
 use Rattle.cell_path.specs.Decided.{end_behind, AreDecided, AreDecidedInAll}
 use Rattle.cell_path.specs.Spaced.{AreApart}
-use Rattle.path_front.specs.declared.fit.Usual.{Usual}
 use Rattle.step_grid.specs.declared.grid.Grid.{Grid}
 use Rattle.path_front.specs.declared.group.Sounds.{Sounds}
 use Rattle.path_front.specs.declared.judging.Phase.{Phase}
 use Rattle.path_front.specs.declared.judging.Phase.TheVariants.{Sound, Rest, Drain}
 use Rattle.path_front.specs.declared.measured.Measured.{Measured}
-use Rattle.path_front.specs.Bend.{bends}
 use Rattle.path_front.specs.Cells.{measured_cells, sounds_in, CellsEndFor, CellsStandFor, EndWithin}
-use Rattle.path_front.specs.Fit.{fit_of, usual_after}
 use Rattle.path_front.specs.Front.{intervals_before, intervals_of_judged, judgements, AreIntervals, AreIntervalsSoFar}
 use Rattle.path_front.specs.Front.{FrontState, FrontStandsFor, IsReady}
-use Rattle.path_front.specs.Gate.{breaks, does_not_fit, floor_by, long_of, range_by, refuses, usual_by, usual_of}
+use Rattle.path_front.specs.Gate.{breaks, refuses_between}
 use Rattle.path_front.specs.Judging.{is_drain, CellsIn, ForMore}
-use Rattle.path_front.specs.Levels.{is_faint}
 use Rattle.path_front.specs.Steps.{path_steps, sounds_of}
 use Rattle.path_front.specs.Tiles.{tiles_of}
 use Rattle.path_front.proofs.CellsNext.{cells_more}
@@ -41,39 +37,10 @@ near_more : (cell : Measured) (behind other : List Measured) → take 8 behind �
 near_more cell behind other near =
     ap (λ l. cell ∷ l) (sym (take_fewer 7 behind) ∙ ap (take 7) near ∙ take_fewer 7 other)
 
-usual_near : (usual : Option Usual) (before : List Measured) (cell : Measured) (behind other : List Measured)
-    → take 8 behind ≡ take 8 other → usual_by usual before cell behind ≡ usual_by usual before cell other
-usual_near usual [] cell behind other near = refl
-usual_near usual (p ∷ before) cell behind other near =
-    ap (λ a. cond cell.jumps usual (Some (usual_after usual (range_by (take 8 (p ∷ before)) a)
-    (fit_of (range_by (take 8 (p ∷ before)) a) cell)))) near
-
-same_usual : (before behind other : List Measured) → take 8 behind ≡ take 8 other
-    → usual_of before behind ≡ usual_of before other
-unfolding usual_of
-same_usual [] behind other near = refl
-same_usual (cell ∷ before) behind other near =
-    ap (λ u. usual_by u before cell behind)
-    (same_usual before (cell ∷ behind) (cell ∷ other) (near_more cell behind other near))
-    ∙ usual_near (usual_of before (cell ∷ other)) before cell behind other near
-
-refuses_near : (least long : ℕ) (usual : Option Usual) (before : List Measured) (cell : Measured)
-    (behind other : List Measured) → take 8 behind ≡ take 8 other
-    → refuses least long usual before cell behind ≡ refuses least long usual before cell other
-refuses_near least long usual [] cell behind other near = refl
-refuses_near least long usual (p ∷ before) cell behind other near =
-    ap₂ (λ a b. is_faint p cell (floor_by least long (take 8 (p ∷ before)) b)
-    || does_not_fit usual (range_by (take 8 (p ∷ before)) a) (fit_of (range_by (take 8 (p ∷ before)) a) cell)
-    || bends (take 8 (p ∷ before)) cell a)
-    near (near_more cell behind other near)
-
 breaks_near : (least : ℕ) (before : List Measured) (cell : Measured) (behind other : List Measured)
     → take 8 behind ≡ take 8 other → breaks least before cell behind ≡ breaks least before cell other
 breaks_near least before cell behind other near =
-    ap (λ u. cell.jumps || refuses least (long_of (cell ∷ before)) u before cell behind)
-    (same_usual before (cell ∷ behind) (cell ∷ other) (near_more cell behind other near))
-    ∙ ap (λ r. cell.jumps || r)
-    (refuses_near least (long_of (cell ∷ before)) (usual_of before (cell ∷ other)) before cell behind other near)
+    ap (λ b. cell.jumps || refuses_between least (take 8 before) cell b) near
 
 same_judgements : (least : ℕ) (cells behind other : List Measured) → take 8 behind ≡ take 8 other
     → judgements least cells behind ≡ judgements least cells other

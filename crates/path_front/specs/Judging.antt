@@ -53,7 +53,7 @@ pub record AreJudging (state : JudgingState) : Type 0 where
 pub record JudgingStandFor (state : JudgingState) (samples : List ℤ) (judged : List Measured) : Type 0 where
   pub given : List Placed
   pub cells : CellsIn state.phase state.cells samples given
-  pub gate : ForMore state.phase (λ more. GateStandsFor state.gate judged more)
+  pub gate : GateStandsFor state.gate judged
   pub least : state.gate.least ≡ state.cells.steps.hold.least
   pub order : reverse judged ++ state.gate.ahead ≡ reverse (measured_cells (sounds_in state.cells samples) given)
   pub few : length state.gate.ahead ≤ NEIGHBOURS

@@ -49,15 +49,13 @@ mod steps;
 mod tile;
 
 pub use cells::Cells;
-pub use clip::CLIP;
-pub use fit::{Fit, HalfFit, Range, Usual};
 pub use front::Front;
 pub use gate::{Gate, Judged, NEIGHBOURS};
 pub use group::Sounds;
 pub use hold::{Loudness, Side};
 pub use judging::{Phase, Taken};
 pub use latest::KEPT;
-pub use levels::FINE;
+pub use levels::Range;
 pub use measured::{Half, Measured};
 pub use sizes::MEANS;
 pub use steps::Heard;

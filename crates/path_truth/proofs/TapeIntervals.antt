@@ -20,12 +20,12 @@ use Rattle.path_front.specs.declared.group.Sounds.{Sounds}
 use Rattle.path_front.specs.declared.measured.Measured.{Measured}
 use Rattle.path_front.specs.Cells.{cell_behind, measured_cells, plain}
 use Rattle.path_front.specs.Front.{intervals_before, judgements}
-use Rattle.path_front.specs.Gate.{breaks, long_of, refuses, usual_of}
+use Rattle.path_front.specs.Gate.{breaks, refuses}
 use Rattle.path_front.specs.Tiles.{cut, intervals, tiles_of}
 use Rattle.path_truth.specs.Intervals.{intervals_of_bit, intervals_of_tape}
 use Rattle.path_truth.specs.Sides.{KeepsSides}
 use Rattle.path_truth.specs.Sound.{alone}
-use Rattle.path_truth.proofs.FairCells.{long-most, AreFair}
+use Rattle.path_truth.proofs.FairCells.{AreFair}
 use Rattle.path_truth.proofs.MeasuredTape.{at, cell-fair, cells-fair, ends-at, next-tape, only-first-jumps, tape-long}
 use Rattle.path_truth.proofs.MeasuredTape.{IsTapeIn}
 use Rattle.path_truth.proofs.FairFit.{times}
@@ -161,13 +161,10 @@ no-break place least low high ticks e sounds cell last before behind clear is co
     let m = measured e sounds cell (last ∷ before) in
     let previous = measured from sounds last before in
     let others = measured_cells sounds (placed (from - length_in LENGTHS last.place) before) in
-    let long = long_of (m ∷ previous ∷ others) in
-    let usual = usual_of (previous ∷ others) (m ∷ behind) in
     let order = clear.order in
-    neither m.jumps (refuses least long usual (previous ∷ others) m behind)
-    (only-first-jumps place e cell last before is.go)
-    (refuses-none least low high n long usual previous others m behind clear.loud (omega (arith, clear.heard, order))
-    clear.near (long-most low high n (m ∷ previous ∷ others) (fair, rest)) rest fair come)
+    neither m.jumps (refuses least (previous ∷ others) m behind) (only-first-jumps place e cell last before is.go)
+    (refuses-none least low high n previous others m behind (omega (arith, clear.heard, order)) clear.near rest fair
+    come)
 
 pub tape-intervals : (place least low high ticks e : ℕ) (sounds : List Sounds) (cells : List Cell)
     (behind : List Measured) → IsClear least low high ticks → IsTapeIn place low high sounds e cells

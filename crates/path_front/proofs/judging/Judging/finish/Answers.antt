@@ -1,8 +1,7 @@
 use Rattle.std.proofs.Common.{◌≡◌, reverse, ap, subst, sym, ◌∙◌}
 use Rattle.path_front.specs.declared.judging.Phase.TheVariants.{Sound}
 use Rattle.path_front.specs.Cells.{measured_cells, CellsStandFor}
-use Rattle.path_front.specs.Gate.{GateStandsFor}
-use Rattle.path_front.specs.Judging.{is_drain, CellsIn, ForMore, JudgingState, JudgingStandFor}
+use Rattle.path_front.specs.Judging.{is_drain, CellsIn, JudgingState, JudgingStandFor}
 use Rattle.path_front.proofs.JudgingNext.{same_sounds}
 use Rattle.path_front.proofs.judging.Judging.finish.Goals as goal
 
@@ -17,7 +16,7 @@ returns-clause-stands c = λ samples judged stand_now.
     record {
       given = stand.given;
       cells = e.stands samples stand.given cells;
-      gate = subst (λ p. ForMore p (λ more. GateStandsFor i.gate judged more)) phase stand.gate;
+      gate = stand.gate;
       least = stand.least ∙ sym e.same.least;
       order = stand.order
           ∙ ap (λ s. reverse (measured_cells s stand.given))
