@@ -15,7 +15,7 @@ cell steps = record { span = steps; length = steps; bit = Zero; jumps = false; f
 
 abbrev bends_at : List ℕ → ℕ → Bool
 bends_at row place =
-    bends (take 8 (reverse (map cell (take place row)))) (cell (get_or row place 0))
+    bends 1 (take 8 (reverse (map cell (take place row)))) (cell (get_or row place 0))
     (take 8 (map cell (drop (place + 1) row)))
 
 -- the places at which a row bends, from 0 on

@@ -6,6 +6,7 @@ use Rattle.std.specs.List.{All}
 use Rattle.std.proofs.lemmas.List.Elements.{All-cons, All-head, All-tail, All-take}
 use Rattle.std.proofs.lemmas.List.{append-nil, length-drop, length-take, take_all, take-append-le}
 use Rattle.std.proofs.lemmas.Option.{none-some}
+use Rattle.path_front.specs.declared.gate.Ear.{Ear}
 use Rattle.path_front.specs.declared.levels.Range.{Range}
 use Rattle.path_front.specs.declared.measured.Measured.{Measured}
 use Rattle.path_front.specs.Bend.{bends}
@@ -25,16 +26,16 @@ same_first a b is = ap (λ o. either o a) is
 -- ---- a cell is refused
 
 -- by the range that was computed
-pub refused_is : (least : ℕ) (previous : Measured) (before : List Measured) (cell : Measured) (behind : List Measured)
+pub refused_is : (ear : Ear) (previous : Measured) (before : List Measured) (cell : Measured) (behind : List Measured)
     (range : Range) (answer : Bool) → slice_get before 0 ≡ Some previous → range ≡ range_by before behind
-    → answer ≡ is_faint least range.least previous cell || is_misfit range.most (usual range.most before behind) cell
-    || bends before cell behind
-    → answer ≡ refuses_between least before cell behind
-refused_is least previous [] cell behind range answer first range_is answer_is = absurd (none-some previous first)
-refused_is least previous (p ∷ before) cell behind range answer first range_is answer_is =
+    → answer ≡ is_faint ear.least range.least previous cell || is_misfit range.most (usual range.most before behind) cell
+    || bends ear.grain before cell behind
+    → answer ≡ refuses_between ear before cell behind
+refused_is ear previous [] cell behind range answer first range_is answer_is = absurd (none-some previous first)
+refused_is ear previous (p ∷ before) cell behind range answer first range_is answer_is =
     let same : previous ≡ p = sym (same_first p previous first) in
-    answer_is ∙ ap₂ (λ q (r : Range). is_faint least r.least q cell
-    || is_misfit r.most (usual r.most (p ∷ before) behind) cell || bends (p ∷ before) cell behind) same range_is
+    answer_is ∙ ap₂ (λ q (r : Range). is_faint ear.least r.least q cell
+    || is_misfit r.most (usual r.most (p ∷ before) behind) cell || bends ear.grain (p ∷ before) cell behind) same range_is
 
 pub take_fewer : (n : ℕ) (cells : List Measured) → take n (take (suc n) cells) ≡ take n cells
 take_fewer zero [] = refl
@@ -59,16 +60,16 @@ take_twice (suc n) (cell ∷ cells) = ap (λ l. cell ∷ l) (take_twice n cells)
 pub judges : (state : GateState) (cell : Measured) (behind : List Measured) (refused : Bool)
     (judged more : List Measured) → state.ahead ≡ cell ∷ behind
     → take 8 (behind ++ more) ≡ behind → GateStandsFor state judged
-    → refused ≡ refuses_between state.least state.before cell behind
-    → Judges state.least state.ahead (record {
-      least = state.least;
+    → refused ≡ refuses_between state.ear state.before cell behind
+    → Judges state.ear state.ahead (record {
+      ear = state.ear;
       before = cell ∷ take 7 state.before;
       ahead = behind;
     }) judged more (record { cell = cell; breaks = cell.jumps || refused })
 judges state cell behind refused judged more front near stand refused_is = record {
   front = front;
   breaks_is = ap (λ r. cell.jumps || r)
-      (refused_is ∙ ap₂ (λ b a. refuses_between state.least b cell a) stand (sym near));
+      (refused_is ∙ ap₂ (λ b a. refuses_between state.ear b cell a) stand (sym near));
   stands = ap (λ b. cell ∷ take 7 b) stand ∙ take_more 7 cell judged;
 }
 
@@ -82,12 +83,12 @@ first_and_rest (c ∷ cells) cell some is = ap (λ x. x ∷ cells) (sym is)
 
 pub still_gated : (state : GateState) (cell : Measured) (behind : List Measured)
     → AreGated state → state.ahead ≡ cell ∷ behind
-    → AreGated (record { least = state.least; before = cell ∷ take 7 state.before; ahead = behind })
+    → AreGated (record { ear = state.ear; before = cell ∷ take 7 state.before; ahead = behind })
 still_gated state cell behind are front =
     let all : All IsMeasured (cell ∷ behind) = subst (All IsMeasured) front are.ahead in
     let many = ap length front in
     record {
-      least = are.least;
+      ear = are.ear;
       before = All-cons IsMeasured cell (take 7 state.before) (All-head IsMeasured cell behind all)
           (All-take IsMeasured 7 state.before are.before);
       ahead = All-tail IsMeasured cell behind all;

@@ -12,7 +12,7 @@ use Rattle.path_front.specs.declared.measured.Measured.{Measured}
 use Rattle.path_front.specs.Cells.{cell_behind, measured_cells, sounds_in, CellsEndFor, CellsState, CellsStandFor}
 use Rattle.path_front.specs.Cells.{GivesCell}
 use Rattle.path_front.specs.Cells.{cells_left, GivesLastCell, SameSound}
-use Rattle.path_front.specs.Gate.{breaks, GateState, GateStandsFor, Judges}
+use Rattle.path_front.specs.Gate.{breaks, ear_of, GateState, GateStandsFor, Judges}
 use Rattle.path_front.specs.Judging.{closed, is_drain, CellsIn, ForMore, GivesJudged, GivesNone, JudgingState}
 use Rattle.path_front.specs.Judging.{judging_left, Moves}
 use Rattle.path_front.specs.Measured.{IsMeasured}
@@ -25,6 +25,10 @@ judging cells gate phase = record { cells = cells; gate = gate; phase = phase }
 pub same_sounds : (cells now : CellsState) (samples : List ℤ) → SameSound cells now
     → sounds_in now samples ≡ sounds_in cells samples
 same_sounds cells now samples same = ap₂ (λ grid least. sounds_of grid least samples) same.grid same.least
+
+pub same_ear : (cells now : CellsState) → SameSound cells now
+    → ear_of cells.steps.grid cells.steps.hold.least ≡ ear_of now.steps.grid now.steps.hold.least
+same_ear cells now same = sym (ap₂ ear_of same.grid same.least)
 
 -- the next cell, as long as some may come
 next_cell : (phase : Phase) (cells now : CellsState) (cell : Measured) (samples : List ℤ) (given : List Placed)
@@ -71,11 +75,11 @@ pub waits : (phase : Phase) (cells now : CellsState) (gate next : GateState) (ce
     → GivesCell now samples given (Some cell))
     → ((samples : List ℤ) (given : List Placed) → CellsEndFor cells samples given
     → GivesLastCell now samples given (Some cell))
-    → SameSound cells now → next.least ≡ gate.least → next.ahead ≡ gate.ahead ++ cell ∷ []
+    → SameSound cells now → next.ear ≡ gate.ear → next.ahead ≡ gate.ahead ++ cell ∷ []
     → ((judged : List Measured) → GateStandsFor gate judged → GateStandsFor next judged)
     → cells_left now + 2 ≤ cells_left cells → length next.ahead ≤ 8
     → GivesNone (judging cells gate phase) (judging now next phase)
-waits phase cells now gate next cell opened gives rest same least ahead stays less room = record {
+waits phase cells now gate next cell opened gives rest same ear ahead stays less room = record {
   most = let many = ap length ahead ∙ length-append gate.ahead (cell ∷ []) in omega (arith, many, less);
   moves = record {
     came = cell ∷ [];
@@ -91,7 +95,7 @@ waits phase cells now gate next cell opened gives rest same least ahead stays le
         given = more.0 ∷ stand.given;
         cells = more.2;
         gate = stays judged stand.gate;
-        least = least ∙ stand.least ∙ sym same.least;
+        ear = ear ∙ stand.ear ∙ same_ear cells now same;
         order = ap (λ l. reverse judged ++ l) ahead
             ∙ order_next cells now samples stand.given more.0 cell judged gate.ahead same more.1 stand.order;
         few = room;
@@ -122,12 +126,12 @@ pub judges_next : (phase : Phase) (cells now : CellsState) (gate next : GateStat
     → GivesCell now samples given (Some cell))
     → ((samples : List ℤ) (given : List Placed) → CellsEndFor cells samples given
     → GivesLastCell now samples given (Some cell))
-    → SameSound cells now → next.least ≡ gate.least → gate.ahead ++ cell ∷ [] ≡ answer.cell ∷ next.ahead
+    → SameSound cells now → next.ear ≡ gate.ear → gate.ahead ++ cell ∷ [] ≡ answer.cell ∷ next.ahead
     → ((judged more : List Measured) → GateStandsFor gate judged
-    → Judges gate.least (gate.ahead ++ cell ∷ []) next judged more answer)
+    → Judges gate.ear (gate.ahead ++ cell ∷ []) next judged more answer)
     → IsMeasured answer.cell → cells_left now + 2 ≤ cells_left cells → length next.ahead ≡ 8
     → GivesJudged (judging cells gate phase) (judging now next phase) answer
-judges_next phase cells now gate next cell answer opened gives rest same least front judges measured less eight =
+judges_next phase cells now gate next cell answer opened gives rest same ear front judges measured less eight =
     record {
       less = let many = sym (length-append gate.ahead (cell ∷ [])) ∙ ap length front in omega (arith, many, less);
       measured = measured;
@@ -140,16 +144,16 @@ judges_next phase cells now gate next cell answer opened gives rest same least f
         keeps = λ drain. drain;
       };
       judges = λ samples judged stand.
-          for_all phase (λ m. answer.breaks ≡ breaks next.least judged answer.cell (next.ahead ++ m))
+          for_all phase (λ m. answer.breaks ≡ breaks next.ear judged answer.cell (next.ahead ++ m))
           (λ m. (judges judged m stand.gate).breaks_is
-          ∙ ap (λ n. breaks n judged answer.cell (next.ahead ++ m)) (sym least));
+          ∙ ap (λ n. breaks n judged answer.cell (next.ahead ++ m)) (sym ear));
       stands = λ samples judged stand.
           let more = next_cell phase cells now cell samples stand.given opened gives rest stand.cells in
           record {
             given = more.0 ∷ stand.given;
             cells = more.2;
             gate = (judges judged [] stand.gate).stands;
-            least = least ∙ stand.least ∙ sym same.least;
+            ear = ear ∙ stand.ear ∙ same_ear cells now same;
             order = order_judged judged (gate.ahead ++ cell ∷ []) next.ahead
                 (reverse (measured_cells (sounds_in now samples) (more.0 ∷ stand.given))) answer.cell front
                 (order_next cells now samples stand.given more.0 cell judged gate.ahead same more.1 stand.order);
@@ -160,12 +164,12 @@ judges_next phase cells now gate next cell answer opened gives rest same least f
 
 -- one of the last cells is judged
 drained : (phase : Phase) (cells : CellsState) (gate next : GateState) (answer : Judged) → is_drain phase ≡ true
-    → next.least ≡ gate.least → length next.ahead ≤ 8 → gate.ahead ≡ answer.cell ∷ next.ahead → IsMeasured answer.cell
-    → ((judged : List Measured) → GateStandsFor gate judged → Judges gate.least gate.ahead next judged [] answer)
+    → next.ear ≡ gate.ear → length next.ahead ≤ 8 → gate.ahead ≡ answer.cell ∷ next.ahead → IsMeasured answer.cell
+    → ((judged : List Measured) → GateStandsFor gate judged → Judges gate.ear gate.ahead next judged [] answer)
     → GivesJudged (judging cells gate phase) (judging cells next phase) answer
-drained Sound cells gate next answer closed least room front measured judges = absurd (false≢true closed)
-drained Rest cells gate next answer closed least room front measured judges = absurd (false≢true closed)
-drained Drain cells gate next answer closed least room front measured judges = record {
+drained Sound cells gate next answer closed ear room front measured judges = absurd (false≢true closed)
+drained Rest cells gate next answer closed ear room front measured judges = absurd (false≢true closed)
+drained Drain cells gate next answer closed ear room front measured judges = record {
   less = let many = ap length front in omega (arith, many);
   measured = measured;
   moves = record {
@@ -177,12 +181,12 @@ drained Drain cells gate next answer closed least room front measured judges = r
     keeps = λ drain. drain;
   };
   judges = λ samples judged stand. (judges judged stand.gate).breaks_is
-      ∙ ap (λ n. breaks n judged answer.cell (next.ahead ++ [])) (sym least);
+      ∙ ap (λ n. breaks n judged answer.cell (next.ahead ++ [])) (sym ear);
   stands = λ samples judged stand. record {
     given = stand.given;
     cells = stand.cells;
     gate = (judges judged stand.gate).stands;
-    least = least ∙ stand.least;
+    ear = ear ∙ stand.ear;
     order = order_judged judged gate.ahead next.ahead
         (reverse (measured_cells (sounds_in cells samples) stand.given)) answer.cell front stand.order;
     few = room;
@@ -191,14 +195,14 @@ drained Drain cells gate next answer closed least room front measured judges = r
 }
 
 pub drained_if : (phase : Phase) (cells : CellsState) (gate next : GateState) (answer : Option Judged)
-    → is_drain phase ≡ true → next.least ≡ gate.least → length next.ahead ≤ 8
+    → is_drain phase ≡ true → next.ear ≡ gate.ear → length next.ahead ≤ 8
     → IfSome answer (λ a. gate.ahead ≡ a.cell ∷ next.ahead) → IfSome answer (λ a. IsMeasured a.cell)
     → IfSome answer (λ a. (judged : List Measured) → GateStandsFor gate judged
-    → Judges gate.least gate.ahead next judged [] a)
+    → Judges gate.ear gate.ahead next judged [] a)
     → IfSome answer (λ a. GivesJudged (judging cells gate phase) (judging cells next phase) a)
-drained_if phase cells gate next None closed least room front measured judges = tt
-drained_if phase cells gate next (Some answer) closed least room front measured judges =
-    drained phase cells gate next answer closed least room front measured judges
+drained_if phase cells gate next None closed ear room front measured judges = tt
+drained_if phase cells gate next (Some answer) closed ear room front measured judges =
+    drained phase cells gate next answer closed ear room front measured judges
 
 -- there is no cell: if the sound has ended, all have been given
 cells_closed : (phase : Phase) (cells now : CellsState) (samples : List ℤ) (given : List Placed)
@@ -247,7 +251,7 @@ none_left phase cells now gate opened gives rest same most = record {
     given = stand.given;
     cells = cells_closed phase cells now samples stand.given opened gives rest stand.cells;
     gate = stand.gate;
-    least = stand.least ∙ sym same.least;
+    ear = stand.ear ∙ same_ear cells now same;
     order = stand.order ∙ ap (λ s. reverse (measured_cells s stand.given)) (sym (same_sounds cells now samples same));
     few = stand.few;
     eight = λ is some. stand.eight opened some;

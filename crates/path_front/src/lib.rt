@@ -50,7 +50,7 @@ mod tile;
 
 pub use cells::Cells;
 pub use front::Front;
-pub use gate::{Gate, Judged, NEIGHBOURS};
+pub use gate::{Ear, Gate, Judged, NEIGHBOURS};
 pub use group::Sounds;
 pub use hold::{Loudness, Side};
 pub use judging::{Phase, Taken};

@@ -1,11 +1,12 @@
 -- Among cells of one length whose samples have sizes between two, the greater of which is 12/5 of the smaller at
 -- most, the gate refuses none.
-use Rattle.std.proofs.Common.{◌≡◌, ℕ, ◌+◌, ◌*◌, ◌≤◌, min, max, Bool, true, false, ltb, ◌||◌, List, [], ◌∷◌, take}
+use Rattle.std.proofs.Common.{◌≡◌, ℕ, ◌+◌, ◌-◌, ◌*◌, ◌/◌, ◌≤◌, min, max, Bool, true, false, ltb, ◌||◌, List, [], ◌∷◌, take}
 use Rattle.std.proofs.Common.{zero, suc, leb, ◌==◌, ◌&&◌, length, drop, get_or, ◌+ℤ◌, refl, ap, ap₂}
 use Rattle.std.proofs.Common.{sym, subst, ◌∙◌, arith}
 use Rattle.std.proofs.lemmas.Bool.{le-ltb}
 use Rattle.cell_path.specs.declared.cell.Bit.{Bit}
 use Rattle.cell_path.specs.declared.cell.Bit.TheVariants.{Zero, One}
+use Rattle.path_front.specs.declared.gate.Ear.{Ear}
 use Rattle.path_front.specs.declared.levels.Range.{Range}
 use Rattle.path_front.specs.declared.measured.Measured.{Measured}
 use Rattle.path_front.specs.Bend.{bends, bends_from, beyond, is_peak, keep_pace, peaks}
@@ -109,9 +110,13 @@ pace-of low high n i [] other are is = is
 pace-of low high n zero (cell ∷ cells) other are is = are.0.length_is
 pace-of low high n (suc i) (cell ∷ cells) other are is = pace-of low high n i cells other are.1 is
 
-not-beyond : (longer : Bool) (pace : ℕ) (cell : Measured) → pace ≡ cell.length → beyond longer pace cell ≡ 0
-not-beyond true pace cell same = omega (arith, same)
-not-beyond false pace cell same = omega (arith, same)
+no-grains : (grain n : ℕ) → n ≡ 0 → n / grain ≡ 0
+no-grains grain n none = ap (λ k. k / grain) none ∙ grind arith
+
+not-beyond : (grain : ℕ) (longer : Bool) (pace : ℕ) (cell : Measured) → pace ≡ cell.length
+    → beyond grain longer pace cell ≡ 0
+not-beyond grain true pace cell same = no-grains grain (cell.length - pace) (omega (arith, same))
+not-beyond grain false pace cell same = no-grains grain (pace - cell.length) (omega (arith, same))
 
 -- a cell as long as the pace is no peak
 no-peak : (earlier last far next later : ℕ) → far ≡ 0 → is_peak earlier last far next later ≡ false
@@ -119,24 +124,25 @@ no-peak earlier last far next later none =
     second-false (leb 1 (min last next)) (ltb (max earlier last) far) (leb (max next later) far)
     (le-ltb (max earlier last) far (omega (arith, none)))
 
-no-bend : (low high n : ℕ) (before : List Measured) (cell : Measured) (behind : List Measured)
-    → AreFair low high n before → IsFair low high n cell → bends before cell behind ≡ false
-no-bend low high n before cell behind are is =
+no-bend : (low high n grain : ℕ) (before : List Measured) (cell : Measured) (behind : List Measured)
+    → AreFair low high n before → IsFair low high n cell → bends grain before cell behind ≡ false
+no-bend low high n grain before cell behind are is =
     let pace = (get_or before 7 cell).length in
-    let far = beyond (ltb pace cell.length) pace in
+    let far = beyond grain (ltb pace cell.length) pace in
     let same : pace ≡ cell.length = pace-of low high n 7 before cell are is.length_is ∙ sym is.length_is in
-    third-false (length before == 8) (length behind == 8) (bends_from pace before cell behind)
-    (third-false (keep_pace pace (drop 2 before)) (keep_pace pace (drop 2 behind)) (peaks pace before cell behind)
+    third-false (length before == 8) (length behind == 8) (bends_from grain pace before cell behind)
+    (third-false (keep_pace grain pace (drop 2 before)) (keep_pace grain pace (drop 2 behind))
+    (peaks grain pace before cell behind)
     (no-peak (far (get_or before 1 cell)) (far (get_or before 0 cell)) (far cell) (far (get_or behind 0 cell))
-    (far (get_or behind 1 cell)) (not-beyond (ltb pace cell.length) pace cell same)))
+    (far (get_or behind 1 cell)) (not-beyond grain (ltb pace cell.length) pace cell same)))
 
 -- ---- all of them
 
-pub refuses-none : (least low high n : ℕ) (previous : Measured) (before : List Measured)
-    (cell : Measured) (behind : List Measured) → least ≤ high → 5 * high ≤ 12 * low
+pub refuses-none : (ear : Ear) (low high n : ℕ) (previous : Measured) (before : List Measured)
+    (cell : Measured) (behind : List Measured) → ear.least ≤ high → 5 * high ≤ 12 * low
     → AreFair low high n (previous ∷ before) → IsFair low high n cell → AreFair low high n behind
-    → refuses least (previous ∷ before) cell behind ≡ false
-refuses-none least low high n previous before cell behind heard near are is come =
+    → refuses ear (previous ∷ before) cell behind ≡ false
+refuses-none ear low high n previous before cell behind heard near are is come =
     let near_by = take 7 before in
     let ahead = take 8 behind in
     let last = take-fair low high n 8 (previous ∷ before) are in
@@ -144,9 +150,9 @@ refuses-none least low high n previous before cell behind heard near are is come
     let range = range_by (previous ∷ near_by) ahead in
     let levels = range-of low high n previous near_by ahead last next in
     let around = usual range.most (previous ∷ near_by) ahead in
-    neither (is_faint least range.least previous cell || is_misfit range.most around cell)
-    (bends (previous ∷ near_by) cell ahead)
-    (neither (is_faint least range.least previous cell) (is_misfit range.most around cell)
-    (not-faint low high n least range.least previous cell near are.0 is heard levels.least_is)
+    neither (is_faint ear.least range.least previous cell || is_misfit range.most around cell)
+    (bends ear.grain (previous ∷ near_by) cell ahead)
+    (neither (is_faint ear.least range.least previous cell) (is_misfit range.most around cell)
+    (not-faint low high n ear.least range.least previous cell near are.0 is heard levels.least_is)
     (no-misfit low high n range.most around cell near is levels.most_is))
-    (no-bend low high n (previous ∷ near_by) cell ahead last is)
+    (no-bend low high n ear.grain (previous ∷ near_by) cell ahead last is)

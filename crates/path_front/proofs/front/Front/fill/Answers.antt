@@ -8,7 +8,7 @@ returns-in_default-clause-stands c = λ samples given stand_now.
     let i = c.self.inside in
     let stand = subst (λ s. FrontStandsFor s samples given) (sym c.self.view_is) stand_now in
     none_filled i.judging c.next.new.self i.ticks i.tiles.items samples given c.in_default.ensures.none
-    c.in_default.ensures.least stand
+    c.in_default.ensures.ear stand
 
 pub returns-clause-stands : goal.returns-clause-stands
 returns-clause-stands c = λ samples given stand_now.
@@ -18,5 +18,5 @@ returns-clause-stands c = λ samples given stand_now.
     subst (λ tiles. FrontStandsFor (front c.next.new.self i.ticks tiles) samples given)
     (sym c.tiled-self-inside.ensures.value)
     (filled i.judging c.next.new.self i.ticks c.in-Some.judged samples given c.in-Some.ensures.gives
-    c.in-Some.ensures.least
+    c.in-Some.ensures.ear
     (subst (λ tiles. FrontStandsFor (front i.judging i.ticks tiles) samples given) none stand))

@@ -15,5 +15,5 @@ returns-then-is_full-clause-judges c = λ judged more stand_now.
     let ahead : c.push.new.self.items ≡ c.args.self.now.ahead ++ c.args.cell ∷ [] =
     c.push.ensures.items ∙ ap (λ (s : GateState). s.ahead ++ c.args.cell ∷ []) c.self.view_is in
     subst (λ n. Judges n (c.args.self.now.ahead ++ c.args.cell ∷ []) c.judge.new.self judged more c.judge.result)
-    (ap (λ (s : GateState). s.least) c.self.view_is)
-    (subst (λ (l : List Measured). Judges i.least l c.judge.new.self judged more c.judge.result) ahead judges)
+    (ap (λ (s : GateState). s.ear) c.self.view_is)
+    (subst (λ (l : List Measured). Judges i.ear l c.judge.new.self judged more c.judge.result) ahead judges)

@@ -10,4 +10,4 @@ returns-then-is_drain-clause-gives c =
     subst (λ (s : JudgingState). IfSome c.drain.result (λ answer. GivesJudged s (judging i.cells c.drain.new.self
     i.phase) answer)) c.self.view_is
     (drained_if i.phase i.cells i.gate c.drain.new.self c.drain.result (sym c.is_drain.ensures ∙ c.if-is_drain.true)
-    e.least e.room e.front e.cell e.judges)
+    e.ear e.room e.front e.cell e.judges)
