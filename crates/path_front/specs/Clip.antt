@@ -1,7 +1,8 @@
 -- Clipping spikes and clicks: no sample counts for more than an eighth above the peak of those before it, as they were
--- clipped; but up to the mean size of the latest 512 each does. Lists begin with the latest. The rule is this project's
--- own.
-use Rattle.std.specs.Prelude.{ℕ, ◌*◌, ◌/◌, max, leb, cond, ℤ, pos, neg_ℤ, int_le, unsigned_abs, List, [], ◌∷◌, map}
+-- clipped; but up to the mean size of the latest 512 each does, and above three times that none. Lists begin with the
+-- latest. The rule is this project's own.
+use Rattle.std.specs.Prelude.{ℕ, ◌*◌, ◌/◌, min, max, leb, cond, ℤ, pos, neg_ℤ, int_le, unsigned_abs, List, [], ◌∷◌, map}
+use Rattle.path_front.specs.declared.clip.TheConstants.{CLIP}
 use Rattle.path_front.specs.Hold.{loudness_of}
 use Rattle.path_front.specs.Sizes.{mean_size}
 
@@ -16,7 +17,7 @@ clipped_to most sample =
 
 -- where the latest of some samples is clipped, if those before it have this peak
 abbrev pub clip_at : ℕ → List ℤ → ℕ
-clip_at peak samples = max (mean_size (sizes_of samples)) (9 * peak / 8)
+clip_at peak samples = max (mean_size 1 (sizes_of samples)) (min (mean_size CLIP (sizes_of samples)) (9 * peak / 8))
 
 -- what clipping leaves of the samples: of each by those up to it
 unfoldable pub clipped : List ℤ → List ℤ

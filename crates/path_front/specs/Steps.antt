@@ -25,7 +25,7 @@ sounds_of grid least samples = on_grid grid (with_held least (clipped samples))
 
 -- the mean size of the steps, without the hold
 abbrev pub level_of : List Sounds → ℕ
-level_of sounds = mean_size (map (λ (s : Sounds). unsigned_abs s.clipped) sounds)
+level_of sounds = mean_size 1 (map (λ (s : Sounds). unsigned_abs s.clipped) sounds)
 
 -- a step with the mean size so far
 abbrev pub heard_at : Sounds → List Sounds → Heard

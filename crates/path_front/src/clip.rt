@@ -5,6 +5,9 @@ ghost use Rattle.path_front.specs.KeptSizes.{SizesStandFor};
 
 use crate::sizes::Sizes;
 
+/// At how many times the mean size a sample is clipped at most, however high the peak.
+pub const CLIP: u32 = 3;
+
 /// A sample that is no greater than this, or what is left of it.
 fn clipped_to(most: u32, sample: i32) -> i32
     requires most { most ≤ 2 ^ 17 }
@@ -34,5 +37,8 @@ pub(crate) fn clip(sizes: &mut Sizes, peak: u32, sample: i16) -> i32
 {
     let sample = i32::from(sample);
     sizes.push(sample.unsigned_abs());
-    clipped_to(sizes.mean().max(9 * peak / 8), sample)
+    let most = sizes
+        .mean_times(1)
+        .max(sizes.mean_times(CLIP).min(9 * peak / 8));
+    clipped_to(most, sample)
 }

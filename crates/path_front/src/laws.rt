@@ -1,6 +1,7 @@
 //! What follows from the definitions alone.
 ghost use Rattle.std.specs.Prelude.{◌≡◌, ℕ, ◌+◌, ◌*◌, ◌≤◌, ℤ, List, ◌++◌, length};
 ghost use Rattle.std.specs.List.{sum};
+ghost use Rattle.path_front.specs.declared.clip.TheConstants.{CLIP};
 ghost use Rattle.path_front.specs.declared.gate.TheConstants.{NEIGHBOURS};
 ghost use Rattle.path_front.specs.declared.gate.Judged.{Judged};
 ghost use Rattle.path_front.specs.declared.latest.TheConstants.{KEPT};
@@ -17,9 +18,11 @@ use cell_path::laws::{
     the_cells_cover_the_sound, the_cells_decided_so_far_lie_in_the_sound, what_is_decided_stays,
 };
 
-/// Of how many sounds a mean size is, how many steps are kept, and at how many neighbours the gate looks.
+/// Of how many sounds a mean size is, at what size samples are clipped, how many steps are kept, and at how
+/// many neighbours the gate looks.
 pub fn the_numbers_are_these()
     ensures means { MEANS ≡ 512 }
+    ensures clip { CLIP ≡ 3 }
     ensures kept { KEPT ≡ 4_096 }
     ensures neighbours { NEIGHBOURS ≡ 8 }
 {}

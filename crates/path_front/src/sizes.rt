@@ -64,13 +64,14 @@ impl Sizes {
         self.ring[place] = size;
     }
 
-    /// The mean size, if there was a sound.
-    pub(crate) fn mean(&self) -> u32
+    /// `times` times the mean size, if there was a sound.
+    pub(crate) fn mean_times(&self, times: u32) -> u32
         requires some { 0 < self.now.count }
-        ensures value { (sizes : List ℕ) → SizesStandFor self.now sizes → result ≡ mean_size sizes }
-        ensures most { result ≤ 2 ^ 15 }
+        requires times { times ≤ 3 }
+        ensures value { (sizes : List ℕ) → SizesStandFor self.now sizes → result ≡ mean_size times sizes }
+        ensures most { result ≤ times * 2 ^ 15 }
     {
-        mean_of(self.total, self.many())
+        mean_of(times * self.total, self.many())
     }
 
     /// How many sounds the mean is of.

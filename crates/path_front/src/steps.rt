@@ -131,7 +131,7 @@ impl Steps {
         Some(Heard {
             step: Step {
                 sound: self.latest.held,
-                level: self.levels.mean(),
+                level: self.levels.mean_times(1),
             },
             sound: self.latest.clipped,
         })

@@ -1,5 +1,5 @@
 -- Clipping leaves each sample on its side, and no smaller than the smallest.
-use Rattle.std.proofs.Common.{◌≡◌, ℕ, ◌*◌, ◌/◌, ◌<◌, ◌≤◌, max, Bool, true, false, cond, leb, List, [], ◌∷◌}
+use Rattle.std.proofs.Common.{◌≡◌, ℕ, ◌*◌, ◌/◌, ◌<◌, ◌≤◌, max, min, Bool, true, false, cond, leb, List, [], ◌∷◌}
 use Rattle.std.proofs.Common.{refl, arith}
 use Rattle.std.proofs.Common.{ℤ, pos, neg_ℤ, ◌<ℤ◌, int_le, unsigned_abs}
 use Rattle.std.specs.List.{AllByRecursion}
@@ -67,7 +67,7 @@ pub clip_at-least : (peak low high : ℕ) (sample : ℤ) (before : List ℤ)
     → AllByRecursion (IsSized low high) (sample ∷ before) → low ≤ clip_at peak (sample ∷ before)
 clip_at-least peak low high sample before are =
     let sizes = sizes_of (sample ∷ before) in
-    at-most (mean_size sizes) (9 * peak / 8) low
+    at-most (mean_size 1 sizes) (min (mean_size 3 sizes) (9 * peak / 8)) low
     (mean-least low (unsigned_abs sample) (sizes_of before) (sizes-above low high (sample ∷ before) are))
 
 pub clipped-sized : (low high : ℕ) (samples : List ℤ) → 1 ≤ low → AllByRecursion (IsSized low high) samples

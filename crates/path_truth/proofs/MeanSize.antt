@@ -23,7 +23,7 @@ sum-least low (suc n) (size ∷ sizes) above =
     )
 
 pub mean-least : (low : ℕ) (size : ℕ) (sizes : List ℕ) → AreAbove low (size ∷ sizes)
-    → low ≤ mean_size (size ∷ sizes)
+    → low ≤ mean_size 1 (size ∷ sizes)
 mean-least low size sizes above =
     let some : 0 < length (latest_sizes (size ∷ sizes)) = omega arith in
     let all = sum-least low 512 (size ∷ sizes) above in

@@ -29,7 +29,7 @@ returns-clause-gives c = λ samples given stand_now.
     let before = map (λ (s : Sounds). unsigned_abs s.clipped) given in
     let levels = subst (λ n. SizesStandFor c.push.new.self (n ∷ before)) size
     (c.push.ensures.stands before stand.levels) in
-    let level = c.mean.ensures.value (map (λ (s : Sounds). unsigned_abs s.clipped) (i.latest ∷ given)) levels in
+    let level = c.mean_times.ensures.value (map (λ (s : Sounds). unsigned_abs s.clipped) (i.latest ∷ given)) levels in
     rw (to_z-of_z a, to_z-of_z b) (
       i.latest,
       ap (λ n. record { step = record { sound = i.latest.held; level = n }; sound = i.latest.clipped }) level,

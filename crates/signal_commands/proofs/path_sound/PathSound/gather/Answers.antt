@@ -1,8 +1,25 @@
-use Rattle.std.proofs.Common.{rules, ◌++◌, List, ℕ, subst}
+use Rattle.std.proofs.Common.{rules, ◌++◌, List, [], ℕ, refl, subst, sym}
+use Rattle.std.proofs.lemmas.List.{append-nil}
+use Rattle.interval_file.specs.declared.header.FileVersion.TheVariants.{One}
+use Rattle.interval_file.specs.Grammar.{intervals_bytes}
 use Rattle.lemmas.specs.Results.{through}
-use Rattle.tc_command.specs.KeptGathered.{IsPut}
+use Rattle.path_front.specs.Front.{FrontStandsFor}
+use Rattle.tc_command.specs.KeptGathered.{IsPut, none_put}
 use Rattle.signal_commands.proofs.PathOn.{goes_on, one_failed, one_gathered}
 use Rattle.signal_commands.proofs.path_sound.PathSound.gather.Goals as goal
+
+-- none yet
+pub due-init : goal.due-init
+due-init g c = record {
+  gathered = λ samples given stand. record {
+    more = [];
+    front = subst (λ (l : List ℕ). FrontStandsFor c.args.self.now.front samples l) (sym (append-nil given)) stand;
+    put = none_put (g.K.Sink.written c.args.out.now) c.args.self.now.gathered.room.items (intervals_bytes One []) refl;
+  };
+  goes = search rules;
+  path = refl;
+  cause = refl;
+}
 
 -- one interval more
 pub due-preserved : goal.due-preserved
