@@ -1,5 +1,5 @@
 -- The gate judges a cell by its eight neighbours on either side.
-use Rattle.std.proofs.Common.{◌≡◌, ℕ, zero, suc, ◌^◌, ◌≤◌, ◌<◌, Bool, true, false, ◌||◌, List, [], ◌∷◌, ◌++◌, length}
+use Rattle.std.proofs.Common.{◌≡◌, ℕ, zero, suc, ◌≤◌, ◌<◌, Bool, true, false, ◌||◌, List, [], ◌∷◌, ◌++◌, length}
 use Rattle.std.proofs.Common.{take, drop, Option, Some, None, refl, ap, ap₂, subst, sym, ◌∙◌, arith}
 use Rattle.std.specs.Prelude.{get_or, slice_get}
 use Rattle.std.specs.List.{All}
@@ -11,7 +11,7 @@ use Rattle.path_front.specs.declared.levels.Range.{Range}
 use Rattle.path_front.specs.declared.measured.Measured.{Measured}
 use Rattle.path_front.specs.Bend.{bends}
 use Rattle.path_front.specs.Fit.{is_misfit, usual}
-use Rattle.path_front.specs.Gate.{refuses, refuses_between, AreGated, GateState, GateStandsFor, Judges}
+use Rattle.path_front.specs.Gate.{refuses_between, AreGated, GateState, GateStandsFor, Judges}
 use Rattle.path_front.specs.Levels.{is_faint, range_by}
 use Rattle.path_front.specs.Measured.{IsMeasured}
 

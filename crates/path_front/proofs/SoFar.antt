@@ -1,7 +1,7 @@
 -- The intervals that samples bring so far: they are given, they are one list, and they come first in what more samples
 -- bring.
-use Rattle.std.proofs.Common.{◌≡◌, ℕ, zero, suc, ◌<◌, ◌≤◌, ◌||◌, cond, ℤ, List, [], ◌∷◌}
-use Rattle.std.proofs.Common.{◌++◌, Option, Some, length, reverse, replicate, take, drop, refl, ap, ap₂, subst, sym}
+use Rattle.std.proofs.Common.{◌≡◌, ℕ, zero, suc, ◌<◌, ◌≤◌, ◌||◌, ℤ, List, [], ◌∷◌}
+use Rattle.std.proofs.Common.{◌++◌, length, reverse, replicate, take, drop, refl, ap, ap₂, subst, sym}
 use Rattle.std.proofs.Common.{◌∙◌, arith}
 use Rattle.std.specs.List.{flat_map}
 use Rattle.std.proofs.lemmas.Grind.{flat_map-append}

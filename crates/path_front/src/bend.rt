@@ -29,7 +29,6 @@ fn beyond(grain: u32, longer: bool, pace: u32, cell: &Measured) -> u32
     steps / grain
 }
 
-
 /// Whether the middle one of five cells in a row, which are so many grains beyond the pace, is the first of the
 /// farthest, and both beside it are beyond it too.
 fn is_peak(earlier: u32, last: u32, far: u32, next: u32, later: u32) -> bool
@@ -39,13 +38,7 @@ fn is_peak(earlier: u32, last: u32, far: u32, next: u32, later: u32) -> bool
 }
 
 /// Whether a cell is a peak between the two cells before it and the two behind it.
-fn peaks(
-    grain: u32,
-    pace: u32,
-    before: &[Measured],
-    cell: &Measured,
-    behind: &[Measured],
-) -> bool
+fn peaks(grain: u32, pace: u32, before: &[Measured], cell: &Measured, behind: &[Measured]) -> bool
     requires grain { 1 ≤ grain }
     requires before { 2 ≤ length before.now }
     requires behind { 2 ≤ length behind.now }

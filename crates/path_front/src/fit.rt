@@ -64,7 +64,8 @@ pub(crate) fn usual(level: u64, before: &[Measured], behind: &[Measured]) -> u64
     ensures value { result ≡ usual level before.now behind.now }
     ensures size { result ≤ 2 ^ 44 }
 {
-    (all_apart(level, before) + all_apart(level, behind)) / (2 * (steps_of(before) + steps_of(behind)))
+    (all_apart(level, before) + all_apart(level, behind))
+        / (2 * (steps_of(before) + steps_of(behind)))
 }
 
 /// Whether a half of a cell lies too far from the level.

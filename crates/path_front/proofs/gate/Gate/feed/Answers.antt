@@ -1,7 +1,7 @@
 use Rattle.std.proofs.Common.{◌≡◌, ◌++◌, [], ◌∷◌, T, List, length, ap, subst, sym, ◌∙◌}
 use Rattle.std.proofs.Math.Facts.{eqb_yes}
 use Rattle.path_front.specs.declared.measured.Measured.{Measured}
-use Rattle.path_front.specs.Gate.{GateState, GateStandsFor, Judges}
+use Rattle.path_front.specs.Gate.{GateState, Judges}
 use Rattle.path_front.proofs.GateJudges.{eight_behind}
 use Rattle.path_front.proofs.gate.Gate.feed.Goals as goal
 
