@@ -2,7 +2,7 @@
 -- intervals with the first.
 use Rattle.std.specs.Prelude.{◌≡◌, ℕ, ◌+◌, ◌*◌, ◌^◌, ◌≤◌, ℤ, List, [], ◌∷◌, ◌++◌, length, reverse, take, drop, Option}
 use Rattle.std.specs.Prelude.{Some, None}
-use Rattle.std.specs.List.{flat_map}
+use Rattle.std.specs.List.{flat_map, All}
 use Rattle.cell_path.specs.declared.placed.Placed.{Placed}
 use Rattle.cell_path.specs.Decided.{AreDecided, AreDecidedInAll}
 use Rattle.path_front.specs.declared.gate.Ear.{Ear}
@@ -15,7 +15,7 @@ use Rattle.path_front.specs.Cells.{measured_cells, IsIdle, SameSound}
 use Rattle.path_front.specs.Gate.{breaks, ear_of}
 use Rattle.path_front.specs.Judging.{judging_left, ForMore, IsSettled, JudgingState, JudgingStandFor}
 use Rattle.path_front.specs.Steps.{path_steps, sounds_of}
-use Rattle.path_front.specs.Tiles.{tiles_of}
+use Rattle.path_front.specs.Tiles.{tiles_of, IsSaid}
 
 -- cells with whether the stretch breaks in front of each, the first one first, where these cells come behind them
 unfoldable pub judgements : Ear → List Measured → List Measured → List Judged
@@ -54,10 +54,11 @@ pub record FrontState : Type 0 where
   pub ticks : ℕ
   pub tiles : List ℕ
 
--- a step has from 2 to 65,536 ticks
+-- a step has from 2 to 65,536 ticks, and each interval that waits can be said
 pub record IsFront (state : FrontState) : Type 0 where
   pub least : 2 ≤ state.ticks
   pub most : state.ticks ≤ 2 ^ 16
+  pub said : All IsSaid state.tiles
 
 -- the intervals that were given, and those of the latest cell that are left, are those of the cells that were judged
 pub record FrontStandsFor (state : FrontState) (samples : List ℤ) (given : List ℕ) : Type 0 where
