@@ -168,12 +168,9 @@ class Half:
         self.sum = times * sum(steps)
         self.squares = sum(step * step for step in steps)
 
-    def fit(self, length, low, high):
-        """Its spread, and its outside."""
-        size = 64 * abs(self.sum) // length
-        level = -size if self.sum < 0 else size
-        far = max(0, low - level, level - high)
-        return max(0, 64 * (64 * self.squares // length) - size * size), far * far
+    def apart(self, length, level):
+        """How far its sound lies from a level on its side, in squares."""
+        return self.squares + length * level ** 2 - 2 * level * self.sum
 
 
 class Measured:
@@ -187,7 +184,11 @@ class Measured:
         first_sign = -last_sign if self.bit else last_sign
         self.first = Half(sound, first_sign, (first, first + half), (first, first + self.length - half))
         self.second = Half(sound, last_sign, (self.end - half, self.end), (self.end - self.length + half, self.end))
-        self.level = max(0, self.first.sum + self.second.sum) * 32 // self.length
+        self.level = max(0, self.first.sum + self.second.sum) // (2 * self.length)
+
+    def apart(self, level):
+        """How far each half lies from a level."""
+        return [half.apart(self.length, level) for half in (self.first, self.second)]
 
 
 def mean(cells):
@@ -195,40 +196,34 @@ def mean(cells):
     return sum(cell.level for cell in cells) // len(cells)
 
 
-def bends(cells, place):
+def bends(cells, place, grain):
     """Whether the path bends at a cell."""
     if not 8 <= place < len(cells) - 8:
         return False
     usual, own = cells[place - 8].length, cells[place].length
-    if any(sum(cell.length != usual for cell in cells[first:first + 6]) > 1 for first in (place - 8, place + 3)):
+    if any(sum(abs(cell.length - usual) >= grain for cell in cells[first:first + 6]) > 1 for first in (place - 8, place + 3)):
         return False
     times = 1 if own > usual else -1
-    far, near, it, next_one, last = (max(0, times * (cell.length - usual)) for cell in cells[place - 2:place + 3])
+    far, near, it, next_one, last = (max(0, times * (cell.length - usual)) // grain for cell in cells[place - 2:place + 3])
     return near > 0 and next_one > 0 and max(far, near) < it and max(next_one, last) <= it
 
 
-def broken(cells, threshold):
+def refused(before, cell, behind, threshold):
+    """Whether a cell is too faint or does not fit, between others."""
+    low, high = sorted((mean(before), mean(behind or before)))
+    floor = max((1 if before[-1].bit and cell.bit else 2) * low, 2 * threshold)
+    if 8 * max(0, before[-1].second.sum + cell.first.sum) < floor * (before[-1].length + cell.length):
+        return True
+    around = before + behind
+    usual = sum(sum(other.apart(high)) for other in around) // (2 * sum(other.length for other in around))
+    return max(cell.apart(high)) > 3 * (usual + high ** 2) * cell.length
+
+
+def broken(cells, threshold, grain):
     """Each cell, and whether code breaks in front of it."""
-    slow = usual = None
     for place, cell in enumerate(cells):
-        slow = cell.level if slow is None else (31 * slow + cell.level) // 32
-        breaks, before, behind = cell.jumps, cells[max(0, place - 8):place], cells[place + 1:place + 9]
-        if before:
-            floor = max(min(mean(before), mean([cell, *behind[:7]])) // 4, slow // 16, 16 * threshold)
-            heard = 64 * max(0, before[-1].second.sum + cell.first.sum)
-            low, high = mean(before), mean(behind) if behind else mean(before)
-            low, high = min(low, high), max(low, high)
-            spreads, outsides = zip(*(half.fit(cell.length, low, high) for half in (cell.first, cell.second)))
-            base = high * high // 64 * 64
-            breaks = breaks or heard < floor * (before[-1].length + cell.length)
-            if usual:
-                breaks = breaks or max(spreads) > usual[0] // 2 * 4 + 2 * base or max(outsides) > usual[1] // 2 * 16 + 2 * base
-            if not cell.jumps:
-                spread, outside = sum(spreads), sum(outsides)
-                usual = (max(spread, 1), outside) if usual is None else (
-                    (31 * usual[0] + min(spread, 4 * usual[0])) // 32,
-                    (31 * usual[1] + min(outside, 4 * high * high)) // 32)
-        yield cell, breaks or bends(cells, place)
+        before, behind = cells[max(0, place - 8):place], cells[place + 1:place + 9]
+        yield cell, (cell.jumps or before and refused(before, cell, behind, threshold)) or bends(cells, place, grain)
 
 
 def intervals(samples, system, rate, threshold, fineness, ended):
@@ -244,7 +239,7 @@ def intervals(samples, system, rate, threshold, fineness, ended):
     for cell in decided(Paths([step[1] for step in steps], sizes), len(steps), ended):
         cells.append(Measured(sound, cell, before))
         before = cell[0]
-    for cell, breaks in list(broken(cells, threshold))[:None if ended else -8]:
+    for cell, breaks in list(broken(cells, threshold, repeats))[:None if ended else -8]:
         whole, parts = cell.steps * ticks, [cell.steps * ticks]
         if cell.bit:
             half = (cell.length * ticks + 1) // 2

@@ -267,12 +267,9 @@ impl Half {
         Half { s: factor * sum, q }
     }
 
-    /// Its spread, and its outside of a range.
-    fn fit(&self, length: i64, low: i64, high: i64) -> (i64, i64) {
-        let v = 64 * self.s.abs() / length;
-        let signed = v * self.s.signum();
-        let far = (low - signed).max(signed - high).max(0);
-        ((64 * (64 * self.q / length) - v * v).max(0), far * far)
+    /// How far its sound lies from a level on its side, in squares.
+    fn apart(&self, length: i64, level: i64) -> i64 {
+        self.q + length * level * level - 2 * level * self.s
     }
 }
 
@@ -288,27 +285,36 @@ fn measured(sound: &[i64], cell: &Cell) -> Measured {
     let (less, more) = (length / 2, length - length / 2);
     let first = Half::of(sound, cell.first_sign(), [(begin, begin + less), (begin, begin + more)]);
     let second = Half::of(sound, cell.sign, [(end - less, end), (end - more, end)]);
-    let level = (32 * (first.s + second.s) / length).max(0);
+    let level = (first.s + second.s).max(0) / (2 * length);
     Measured { cell: *cell, first, second, level }
+}
+
+impl Measured {
+    fn length(&self) -> i64 {
+        self.cell.length as i64
+    }
+
+    /// How far each half lies from a level.
+    fn halves_apart(&self, level: i64) -> [i64; 2] {
+        [&self.first, &self.second].map(|half| half.apart(self.length(), level))
+    }
 }
 
 fn mean(of: &[Measured]) -> i64 {
     of.iter().map(|it| it.level).sum::<i64>() / of.len() as i64
 }
 
-/// What is usual of the spreads and outsides of cells.
-type Usual = Option<(i64, i64)>;
-
 /// Whether the path bends at a cell: it is longer, or shorter, than most of the sixteen around it.
-fn bends(cells: &[Measured], place: usize) -> bool {
+fn bends(cells: &[Measured], place: usize, grid: Grid) -> bool {
     if place < 8 || cells.len() < place + 9 {
         return false;
     }
-    let length = |far: isize| cells[(place as isize + far) as usize].cell.length as i64;
+    let grain = grid.repeats as i64;
+    let length = |far: isize| cells[(place as isize + far) as usize].length();
     let usual = length(-8);
-    let strays = |far: std::ops::RangeInclusive<isize>| far.filter(|it| length(*it) != usual).count();
+    let strays = |far: std::ops::RangeInclusive<isize>| far.filter(|it| (length(*it) - usual).abs() >= grain).count();
     let side = if length(0) > usual { 1 } else { -1 };
-    let off = |far: isize| (side * (length(far) - usual)).max(0);
+    let off = |far: isize| (side * (length(far) - usual)).max(0) / grain;
     strays(-8..=-3) <= 1
         && strays(3..=8) <= 1
         && off(-1).min(off(1)) >= 1
@@ -317,31 +323,23 @@ fn bends(cells: &[Measured], place: usize) -> bool {
 }
 
 /// Whether code breaks in front of a cell.
-fn breaks(cells: &[Measured], place: usize, slow: i64, usual: &mut Usual, threshold: i64) -> bool {
+fn breaks(cells: &[Measured], place: usize, threshold: i64, grid: Grid) -> bool {
     let it = &cells[place];
     let before = &cells[place.saturating_sub(8)..place];
     let Some(last) = before.last() else { return true };
-    let own = &cells[place..cells.len().min(place + 8)];
     let behind = &cells[place + 1..cells.len().min(place + 9)];
-    let (length, mean_before) = (it.cell.length as i64, mean(before));
-    let floor = (mean_before.min(mean(own)) / 4).max(slow / 16).max(16 * threshold);
-    let heard = 64 * (last.second.s + it.first.s).max(0);
-    let is_faint = heard < floor * (last.cell.length as i64 + length);
-    let other = if behind.is_empty() { mean_before } else { mean(behind) };
-    let (low, high) = (mean_before.min(other), mean_before.max(other));
-    let (one, two) = (it.first.fit(length, low, high), it.second.fit(length, low, high));
-    let base = high * high / 64 * 64;
-    let is_odd = usual.is_some_and(|(spread, outside)| {
-        one.0.max(two.0) > 4 * (spread / 2) + 2 * base || one.1.max(two.1) > 16 * (outside / 2) + 2 * base
-    });
-    if !it.cell.jumps {
-        let (spread, outside) = (one.0 + two.0, one.1 + two.1);
-        *usual = Some(match *usual {
-            None => (spread.max(1), outside),
-            Some(old) => ((31 * old.0 + spread.min(4 * old.0)) / 32, (31 * old.1 + outside.min(4 * high * high)) / 32),
-        });
-    }
-    it.cell.jumps || is_faint || is_odd || bends(cells, place)
+    let near = mean(before);
+    let far = if behind.is_empty() { near } else { mean(behind) };
+    let (low, high) = (near.min(far), near.max(far));
+    let eighths = if last.cell.is_one && it.cell.is_one { 1 } else { 2 };
+    let heard = 8 * (last.second.s + it.first.s).max(0);
+    let is_faint = heard < (eighths * low).max(2 * threshold) * (last.length() + it.length());
+    let around = || before.iter().chain(behind);
+    let all: i64 = around().flat_map(|other| other.halves_apart(high)).sum();
+    let usual = all / (2 * around().map(Measured::length).sum::<i64>());
+    let most = 3 * (usual + high * high) * it.length();
+    let is_misfit = it.halves_apart(high).into_iter().any(|apart| apart > most);
+    it.cell.jumps || is_faint || is_misfit || bends(cells, place, grid)
 }
 
 /// The intervals of the best path, or, if more samples may come, those that are written so far.
@@ -354,12 +352,9 @@ pub fn intervals(s: &Slicing, grid: Grid, samples: &[i64], is_ended: bool) -> Ve
     let decided = Paths::of(&held, &sizes).decided(sound.len(), is_ended);
     let cells: Vec<Measured> = decided.iter().map(|cell| measured(&sound, cell)).collect();
     let written = if is_ended { cells.len() } else { cells.len().saturating_sub(8) };
-    let (mut slow, mut usual, mut done, mut intervals) = (None, None, 0, Vec::new());
-    for place in 0..written {
-        let it = &cells[place];
-        let now = slow.map_or(it.level, |slow: i64| (31 * slow + it.level) / 32);
-        slow = Some(now);
-        let is_broken = breaks(&cells, place, now, &mut usual, threshold);
+    let (mut done, mut intervals) = (0, Vec::new());
+    for (place, it) in cells[..written].iter().enumerate() {
+        let is_broken = breaks(&cells, place, threshold, grid);
         write(&it.cell, (it.cell.end - done) as u64 * ticks, ticks, is_broken, &mut intervals);
         done = it.cell.end;
     }

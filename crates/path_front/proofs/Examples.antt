@@ -1,5 +1,5 @@
 -- Where rows of lengths bend, each row as it comes.
-use Rattle.std.proofs.Common.{◌≡◌, ℕ, ◌+◌, pos, Bool, false, List, [], ◌∷◌, ◌++◌, map, reverse, length, get_or, take}
+use Rattle.std.proofs.Common.{◌≡◌, ℕ, ◌+◌, pos, Bool, true, false, List, [], ◌∷◌, ◌++◌, map, reverse, length, get_or, take}
 use Rattle.std.proofs.Common.{drop, replicate, refl}
 use Rattle.std.specs.List.{filter, range_with_len}
 use Rattle.cell_path.specs.declared.cell.Bit.TheVariants.{Zero}
@@ -15,7 +15,7 @@ cell steps = record { span = steps; length = steps; bit = Zero; jumps = false; f
 
 abbrev bends_at : List ℕ → ℕ → Bool
 bends_at row place =
-    bends (take 8 (reverse (map cell (take place row)))) (cell (get_or row place 0))
+    bends 1 (take 8 (reverse (map cell (take place row)))) (cell (get_or row place 0))
     (take 8 (map cell (drop (place + 1) row)))
 
 -- the places at which a row bends, from 0 on
@@ -124,3 +124,28 @@ eighth_before = refl
 
 ninth_before : places (21 ∷ 20 ∷ 20 ∷ 20 ∷ 20 ∷ 20 ∷ 20 ∷ 20 ∷ 19 ∷ 18 ∷ 19 ∷ eight) ≡ 9 ∷ []
 ninth_before = refl
+
+-- ---- where a sample is four steps, by whole samples
+
+abbrev bends_by_four : List ℕ → ℕ → Bool
+bends_by_four row place =
+    bends 4 (take 8 (reverse (map cell (take place row)))) (cell (get_or row place 0))
+    (take 8 (map cell (drop (place + 1) row)))
+
+a_sample_longer : bends_by_four (replicate 8 16 ++ 18 ∷ 20 ∷ 18 ∷ replicate 8 16) 9 ≡ false
+a_sample_longer = refl
+
+two_samples_longer : bends_by_four (replicate 8 16 ++ 20 ∷ 24 ∷ 20 ∷ replicate 8 16) 9 ≡ true
+two_samples_longer = refl
+
+less_than_two : bends_by_four (replicate 8 16 ++ 20 ∷ 23 ∷ 20 ∷ replicate 8 16) 9 ≡ false
+less_than_two = refl
+
+less_than_one_beside : bends_by_four (replicate 8 16 ++ 19 ∷ 24 ∷ 20 ∷ replicate 8 16) 9 ≡ false
+less_than_one_beside = refl
+
+no_stray_below_a_sample : bends_by_four (16 ∷ 16 ∷ replicate 6 19 ++ 20 ∷ 24 ∷ 20 ∷ replicate 8 16) 9 ≡ true
+no_stray_below_a_sample = refl
+
+strays_of_a_sample : bends_by_four (16 ∷ 16 ∷ 20 ∷ 12 ∷ replicate 4 16 ++ 20 ∷ 24 ∷ 20 ∷ replicate 8 16) 9 ≡ false
+strays_of_a_sample = refl

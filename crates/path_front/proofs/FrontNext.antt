@@ -2,6 +2,7 @@
 use Rattle.std.proofs.Common.{◌≡◌, ℕ, ℤ, List, [], ◌∷◌, ◌++◌, reverse, false, refl, ap, ap₂, subst, sym, ◌∙◌}
 use Rattle.std.specs.List.{flat_map}
 use Rattle.std.proofs.lemmas.List.{append_assoc, append-nil, reverse-reverse}
+use Rattle.path_front.specs.declared.gate.Ear.{Ear}
 use Rattle.path_front.specs.declared.gate.Judged.{Judged}
 use Rattle.path_front.specs.declared.judging.Phase.{Phase}
 use Rattle.path_front.specs.declared.judging.Phase.TheVariants.{Sound, Rest, Drain}
@@ -22,14 +23,14 @@ flat_pushed ticks (c ∷ cells) cell =
     ap (λ l. tiles_of ticks c ++ l) (flat_pushed ticks cells cell)
     ∙ sym (append_assoc (tiles_of ticks c) (flat_map (tiles_of ticks) cells) (tiles_of ticks cell))
 
-written_next : (ticks least : ℕ) (judged behind : List Measured) (answer : Judged)
-    → answer.breaks ≡ breaks least judged answer.cell behind
-    → intervals_before ticks least judged (answer.cell ∷ behind) ++ tiles_of ticks answer
-    ≡ intervals_before ticks least (answer.cell ∷ judged) behind
+written_next : (ticks : ℕ) (ear : Ear) (judged behind : List Measured) (answer : Judged)
+    → answer.breaks ≡ breaks ear judged answer.cell behind
+    → intervals_before ticks ear judged (answer.cell ∷ behind) ++ tiles_of ticks answer
+    ≡ intervals_before ticks ear (answer.cell ∷ judged) behind
 unfolding judgements
-written_next ticks least judged behind answer is =
-    sym (flat_pushed ticks (judgements least judged (answer.cell ∷ behind)) answer)
-    ∙ ap (λ b. flat_map (tiles_of ticks) (judgements least judged (answer.cell ∷ behind)
+written_next ticks ear judged behind answer is =
+    sym (flat_pushed ticks (judgements ear judged (answer.cell ∷ behind)) answer)
+    ∙ ap (λ b. flat_map (tiles_of ticks) (judgements ear judged (answer.cell ∷ behind)
     ++ record { cell = answer.cell; breaks = b } ∷ [])) is
 
 -- what holds of all that may come, holds behind what came
@@ -66,18 +67,18 @@ front judging ticks tiles = record { judging = judging; ticks = ticks; tiles = t
 
 -- a cell is judged, and its intervals are due
 pub filled : (old new : JudgingState) (ticks : ℕ) (answer : Judged) (samples : List ℤ) (given : List ℕ)
-    → GivesJudged old new answer → new.gate.least ≡ old.gate.least
+    → GivesJudged old new answer → new.gate.ear ≡ old.gate.ear
     → FrontStandsFor (front old ticks []) samples given
     → FrontStandsFor (front new ticks (tiles_of ticks answer)) samples given
 filled old new ticks answer samples given gives least stand =
     let m = gives.moves in
     let judged = stand.judged in
     let moved = for_moved old.phase new.phase m.came
-    (λ more. given ++ [] ≡ intervals_before ticks old.gate.least judged (old.gate.ahead ++ more))
-    (λ more. given ≡ intervals_before ticks new.gate.least judged (answer.cell ∷ (new.gate.ahead ++ more)))
+    (λ more. given ++ [] ≡ intervals_before ticks old.gate.ear judged (old.gate.ahead ++ more))
+    (λ more. given ≡ intervals_before ticks new.gate.ear judged (answer.cell ∷ (new.gate.ahead ++ more)))
     m.drained m.keeps
     (λ more is. sym (append-nil given) ∙ is
-    ∙ ap (intervals_before ticks old.gate.least judged)
+    ∙ ap (intervals_before ticks old.gate.ear judged)
     (sym (append_assoc old.gate.ahead m.came more) ∙ ap (λ l. l ++ more) m.moved)
     ∙ ap (λ n. intervals_before ticks n judged (answer.cell ∷ (new.gate.ahead ++ more))) (sym least))
     stand.out in
@@ -85,18 +86,18 @@ filled old new ticks answer samples given gives least stand =
       judged = answer.cell ∷ judged;
       judging = gives.stands samples judged stand.judging;
       out = for_both new.phase
-          (λ more. given ≡ intervals_before ticks new.gate.least judged (answer.cell ∷ (new.gate.ahead ++ more)))
-          (λ more. answer.breaks ≡ breaks new.gate.least judged answer.cell (new.gate.ahead ++ more))
+          (λ more. given ≡ intervals_before ticks new.gate.ear judged (answer.cell ∷ (new.gate.ahead ++ more)))
+          (λ more. answer.breaks ≡ breaks new.gate.ear judged answer.cell (new.gate.ahead ++ more))
           (λ more. given ++ tiles_of ticks answer
-          ≡ intervals_before ticks new.gate.least (answer.cell ∷ judged) (new.gate.ahead ++ more))
+          ≡ intervals_before ticks new.gate.ear (answer.cell ∷ judged) (new.gate.ahead ++ more))
           (λ more is judges. ap (λ l. l ++ tiles_of ticks answer) is
-          ∙ written_next ticks new.gate.least judged (new.gate.ahead ++ more) answer judges)
+          ∙ written_next ticks new.gate.ear judged (new.gate.ahead ++ more) answer judges)
           moved (gives.judges samples judged stand.judging);
     }
 
 -- none is judged
 pub none_filled : (old new : JudgingState) (ticks : ℕ) (tiles : List ℕ) (samples : List ℤ) (given : List ℕ)
-    → GivesNone old new → new.gate.least ≡ old.gate.least → FrontStandsFor (front old ticks tiles) samples given
+    → GivesNone old new → new.gate.ear ≡ old.gate.ear → FrontStandsFor (front old ticks tiles) samples given
     → FrontStandsFor (front new ticks tiles) samples given
 none_filled old new ticks tiles samples given gives least stand =
     let m = gives.moves in
@@ -105,11 +106,11 @@ none_filled old new ticks tiles samples given gives least stand =
       judged = judged;
       judging = gives.stands samples judged stand.judging;
       out = for_moved old.phase new.phase m.came
-          (λ more. given ++ tiles ≡ intervals_before ticks old.gate.least judged (old.gate.ahead ++ more))
-          (λ more. given ++ tiles ≡ intervals_before ticks new.gate.least judged (new.gate.ahead ++ more))
+          (λ more. given ++ tiles ≡ intervals_before ticks old.gate.ear judged (old.gate.ahead ++ more))
+          (λ more. given ++ tiles ≡ intervals_before ticks new.gate.ear judged (new.gate.ahead ++ more))
           m.drained m.keeps
           (λ more is. is
-          ∙ ap (intervals_before ticks old.gate.least judged)
+          ∙ ap (intervals_before ticks old.gate.ear judged)
           (sym (append_assoc old.gate.ahead m.came more) ∙ ap (λ l. l ++ more) m.moved)
           ∙ ap (λ n. intervals_before ticks n judged (new.gate.ahead ++ more)) (sym least))
           stand.out;
@@ -124,9 +125,9 @@ one_given judging ticks interval tiles samples given stand = record {
   judging = stand.judging;
   out = for_each judging.phase
       (λ more. given ++ interval ∷ tiles
-      ≡ intervals_before ticks judging.gate.least stand.judged (judging.gate.ahead ++ more))
+      ≡ intervals_before ticks judging.gate.ear stand.judged (judging.gate.ahead ++ more))
       (λ more. (given ++ interval ∷ []) ++ tiles
-      ≡ intervals_before ticks judging.gate.least stand.judged (judging.gate.ahead ++ more))
+      ≡ intervals_before ticks judging.gate.ear stand.judged (judging.gate.ahead ++ more))
       (λ more is. append_assoc given (interval ∷ []) tiles ∙ is) stand.out;
 }
 
@@ -143,14 +144,14 @@ all_given judging ticks samples given drain none stand =
     let same : judged ≡ measured_cells sounds cells =
     sym (reverse-reverse judged) ∙ ap reverse order ∙ reverse-reverse (measured_cells sounds cells) in
     let out = at_drain judging.phase
-    (λ more. given ++ [] ≡ intervals_before ticks judging.gate.least judged (judging.gate.ahead ++ more)) drain
+    (λ more. given ++ [] ≡ intervals_before ticks judging.gate.ear judged (judging.gate.ahead ++ more)) drain
     stand.out in
     record {
       cells = cells;
       decided = subst (λ p. CellsIn p judging.cells samples cells) drain stand.judging.cells;
       intervals_are = sym (append-nil given) ∙ out
-          ∙ ap (λ a. intervals_before ticks judging.gate.least judged (a ++ [])) none
-          ∙ ap₂ (λ n l. intervals_before ticks n l []) stand.judging.least same;
+          ∙ ap (λ a. intervals_before ticks judging.gate.ear judged (a ++ [])) none
+          ∙ ap₂ (λ n l. intervals_before ticks n l []) stand.judging.ear same;
     }
 
 pub settled_all : (state : FrontState) (samples : List ℤ) (given : List ℕ) → IsFrontSettled state
@@ -167,7 +168,7 @@ unfolding judgements
 nothing_yet judging ticks phase stand = record {
   judged = [];
   judging = stand;
-  out = subst (λ p. ForMore p (λ more. [] ≡ intervals_before ticks judging.gate.least [] (judging.gate.ahead ++ more)))
+  out = subst (λ p. ForMore p (λ more. [] ≡ intervals_before ticks judging.gate.ear [] (judging.gate.ahead ++ more)))
       (sym phase) (λ more. refl);
 }
 
@@ -188,9 +189,9 @@ goes_along old new ticks tiles samples more given gate phase opened goes stand =
       judged = judged;
       judging = goes judged stand.judging;
       out = subst (λ (g : GateState). ForMore new.phase (λ m. given ++ tiles
-          ≡ intervals_before ticks g.least judged (g.ahead ++ m))) (sym gate)
-          (for_open new.phase (λ m. given ++ tiles ≡ intervals_before ticks old.gate.least judged (old.gate.ahead ++ m))
+          ≡ intervals_before ticks g.ear judged (g.ahead ++ m))) (sym gate)
+          (for_open new.phase (λ m. given ++ tiles ≡ intervals_before ticks old.gate.ear judged (old.gate.ahead ++ m))
           opened
           (subst (λ p. ForMore p (λ m. given ++ tiles
-          ≡ intervals_before ticks old.gate.least judged (old.gate.ahead ++ m))) phase stand.out));
+          ≡ intervals_before ticks old.gate.ear judged (old.gate.ahead ++ m))) phase stand.out));
     }

@@ -7,6 +7,7 @@ use Rattle.std.proofs.lemmas.List.{append_assoc, append-nil, reverse-append, rev
 use Rattle.cell_path.specs.declared.cell.Step.{Step}
 use Rattle.cell_path.specs.declared.placed.Placed.{Placed}
 use Rattle.cell_path.specs.Decided.{AreDecided, AreDecidedInAll}
+use Rattle.path_front.specs.declared.gate.Ear.{Ear}
 use Rattle.path_front.specs.declared.gate.Judged.{Judged}
 use Rattle.step_grid.specs.declared.grid.Grid.{Grid}
 use Rattle.path_front.specs.declared.group.Sounds.{Sounds}
@@ -14,7 +15,7 @@ use Rattle.path_front.specs.declared.judging.Phase.TheVariants.{Sound}
 use Rattle.path_front.specs.declared.measured.Measured.{Measured}
 use Rattle.path_front.specs.Cells.{cell_behind, measured_cells, CellsStandFor}
 use Rattle.path_front.specs.Front.{intervals_before, judgements, AreIntervals, FrontState, FrontStandsFor}
-use Rattle.path_front.specs.Gate.{breaks}
+use Rattle.path_front.specs.Gate.{breaks, ear_of}
 use Rattle.path_front.specs.Judging.{CellsIn, ForMore}
 use Rattle.path_front.specs.Steps.{heard_at, path_steps, sounds_of}
 use Rattle.path_front.specs.Tiles.{tiles_of}
@@ -87,32 +88,32 @@ measured_more sounds (placed ∷ new) given =
 
 -- ---- the cells that are judged
 
-pub judged_first : (least : ℕ) (cells judged behind : List Measured)
+pub judged_first : (ear : Ear) (cells judged behind : List Measured)
     → (more : List Judged)
-    × (judgements least (cells ++ judged) behind ≡ judgements least judged (reverse cells ++ behind) ++ more)
+    × (judgements ear (cells ++ judged) behind ≡ judgements ear judged (reverse cells ++ behind) ++ more)
 unfolding judgements
-judged_first least [] judged behind = ([], sym (append-nil (judgements least judged behind)))
-judged_first least (cell ∷ cells) judged behind =
-    let rest = judged_first least cells judged (cell ∷ behind) in
-    let one : Judged = record { cell = cell; breaks = breaks least (cells ++ judged) cell behind } in
+judged_first ear [] judged behind = ([], sym (append-nil (judgements ear judged behind)))
+judged_first ear (cell ∷ cells) judged behind =
+    let rest = judged_first ear cells judged (cell ∷ behind) in
+    let one : Judged = record { cell = cell; breaks = breaks ear (cells ++ judged) cell behind } in
     let order : reverse cells ++ cell ∷ behind ≡ reverse (cell ∷ cells) ++ behind =
     sym (append_assoc (reverse cells) (cell ∷ []) behind)
     ∙ ap (λ l. l ++ behind) (sym (reverse-append (cell ∷ []) cells)) in (
       rest.0 ++ one ∷ [],
       ap (λ l. l ++ one ∷ []) rest.1
-          ∙ append_assoc (judgements least judged (reverse cells ++ cell ∷ behind)) rest.0 (one ∷ [])
-          ∙ ap (λ b. judgements least judged b ++ (rest.0 ++ one ∷ [])) order,
+          ∙ append_assoc (judgements ear judged (reverse cells ++ cell ∷ behind)) rest.0 (one ∷ [])
+          ∙ ap (λ b. judgements ear judged b ++ (rest.0 ++ one ∷ [])) order,
     )
 
-pub written_first : (ticks least : ℕ) (cells judged : List Measured)
+pub written_first : (ticks : ℕ) (ear : Ear) (cells judged : List Measured)
     → (more : List ℕ)
-    × (intervals_before ticks least (cells ++ judged) [] ≡ intervals_before ticks least judged (reverse cells) ++ more)
-written_first ticks least cells judged =
-    let first = judged_first least cells judged [] in (
+    × (intervals_before ticks ear (cells ++ judged) [] ≡ intervals_before ticks ear judged (reverse cells) ++ more)
+written_first ticks ear cells judged =
+    let first = judged_first ear cells judged [] in (
       flat_map (tiles_of ticks) first.0,
       ap (flat_map (tiles_of ticks)) first.1
-          ∙ flat_map-append (tiles_of ticks) (judgements least judged (reverse cells ++ [])) first.0
-          ∙ ap (λ b. intervals_before ticks least judged b ++ flat_map (tiles_of ticks) first.0)
+          ∙ flat_map-append (tiles_of ticks) (judgements ear judged (reverse cells ++ [])) first.0
+          ∙ ap (λ b. intervals_before ticks ear judged b ++ flat_map (tiles_of ticks) first.0)
           (append-nil (reverse cells)),
     )
 
@@ -156,16 +157,16 @@ given_first stays once state samples more given intervals phase stand are =
     let whole : measured_cells later are.cells ≡ (measured.0 ++ reverse ahead) ++ judged =
     ap (measured_cells later) placed ∙ measured.1 ∙ ap (λ l. measured.0 ++ l) (stay ∙ order)
     ∙ sym (append_assoc measured.0 (reverse ahead) judged) in
-    let written = written_first ticks least (measured.0 ++ reverse ahead) judged in
+    let written = written_first ticks (ear_of grid least) (measured.0 ++ reverse ahead) judged in
     let behind : reverse (measured.0 ++ reverse ahead) ≡ ahead ++ reverse measured.0 =
     reverse-append measured.0 (reverse ahead) ∙ ap (λ l. l ++ reverse measured.0) (reverse-reverse ahead) in
     let out : given ++ state.tiles
-    ≡ intervals_before ticks state.judging.gate.least judged (ahead ++ reverse measured.0) =
+    ≡ intervals_before ticks state.judging.gate.ear judged (ahead ++ reverse measured.0) =
     (subst (λ p. ForMore p (λ m. given ++ state.tiles
-    ≡ intervals_before ticks state.judging.gate.least judged (ahead ++ m))) phase stand.out) (reverse measured.0) in
+    ≡ intervals_before ticks state.judging.gate.ear judged (ahead ++ m))) phase stand.out) (reverse measured.0) in
     let is : intervals ≡ (given ++ state.tiles) ++ written.0 =
-    are.intervals_are ∙ ap (λ c. intervals_before ticks least c []) whole ∙ written.1
-    ∙ ap (λ b. intervals_before ticks least judged b ++ written.0) behind
-    ∙ ap (λ n. intervals_before ticks n judged (ahead ++ reverse measured.0) ++ written.0) (sym stand.judging.least)
+    are.intervals_are ∙ ap (λ c. intervals_before ticks (ear_of grid least) c []) whole ∙ written.1
+    ∙ ap (λ b. intervals_before ticks (ear_of grid least) judged b ++ written.0) behind
+    ∙ ap (λ n. intervals_before ticks n judged (ahead ++ reverse measured.0) ++ written.0) (sym stand.judging.ear)
     ∙ ap (λ l. l ++ written.0) (sym out) in
     (state.tiles ++ written.0, is ∙ append_assoc given state.tiles written.0)

@@ -16,6 +16,7 @@ use Rattle.cell_path.specs.declared.cell.Step.{Step}
 use Rattle.cell_path.specs.declared.placed.Placed.{Placed}
 use Rattle.cell_path.specs.Decided.{end_behind, AreDecidedInAll}
 use Rattle.cell_path.specs.Spaced.{AreApart}
+use Rattle.path_front.specs.declared.gate.Ear.{Ear}
 use Rattle.path_front.specs.declared.gate.Judged.{Judged}
 use Rattle.step_grid.specs.declared.grid.Grid.{Grid}
 use Rattle.step_grid.specs.declared.grid.Grid.TheVariants.{Repeat, Sum}
@@ -24,7 +25,7 @@ use Rattle.path_front.specs.declared.measured.Measured.{Measured}
 use Rattle.path_front.specs.Cells.{cell_behind, measured_cells}
 use Rattle.path_front.specs.Clip.{clipped}
 use Rattle.path_front.specs.Front.{intervals_before, judgements, AreIntervals}
-use Rattle.path_front.specs.Gate.{breaks}
+use Rattle.path_front.specs.Gate.{breaks, ear_of}
 use Rattle.path_front.specs.Grid.{mean_of, on_grid, waiting}
 use Rattle.step_grid.specs.Grid.{AreStepsOf, IsGrid}
 use Rattle.path_front.specs.Steps.{path_steps, sounds_of, with_held}
@@ -48,7 +49,7 @@ pub one_list : IsOneList → (grid : Grid) (ticks least : ℕ) (samples : List �
 one_list one_in_all grid ticks least samples intervals others are like =
     let sounds = sounds_of grid least samples in
     are.intervals_are
-    ∙ ap (λ c. intervals_before ticks least (measured_cells sounds c) [])
+    ∙ ap (λ c. intervals_before ticks (ear_of grid least) (measured_cells sounds c) [])
     (one_in_all (path_steps sounds) are.cells like.cells are.decided like.decided)
     ∙ sym like.intervals_are
 
@@ -81,20 +82,20 @@ whole_of : (from to ticks : ℕ) → from ≤ to → from * ticks + (to - from) 
 whole_of from to ticks order = sym (add-mul from (to - from) ticks) ∙ ap (λ n. n * ticks) (omega arith)
 
 -- cells that end apart last as long as the latest of them ends
-cells_last : (ticks least : ℕ) (sounds : List Sounds) (cells : List Placed) (behind : List Measured) → 2 ≤ ticks
+cells_last : (ticks : ℕ) (ear : Ear) (sounds : List Sounds) (cells : List Placed) (behind : List Measured) → 2 ≤ ticks
     → AreApart cells
-    → sum (intervals_before ticks least (measured_cells sounds cells) behind) ≡ end_behind 0 cells * ticks
+    → sum (intervals_before ticks ear (measured_cells sounds cells) behind) ≡ end_behind 0 cells * ticks
 unfolding measured_cells judgements
-cells_last ticks least sounds [] behind some apart = omega arith
-cells_last ticks least sounds (placed ∷ before) behind some apart =
+cells_last ticks ear sounds [] behind some apart = omega arith
+cells_last ticks ear sounds (placed ∷ before) behind some apart =
     let cell = cell_behind sounds placed before in
     let others = measured_cells sounds before in
-    let judged : Judged = record { cell = cell; breaks = breaks least others cell behind } in
+    let judged : Judged = record { cell = cell; breaks = breaks ear others cell behind } in
     let e = end_behind 0 before in
-    let rest = cells_last ticks least sounds before (cell ∷ behind) some apart.1 in
+    let rest = cells_last ticks ear sounds before (cell ∷ behind) some apart.1 in
     let one = tiles_last ticks judged some (omega (arith, apart.0)) in
-    let all = ap sum (flat_pushed ticks (judgements least others (cell ∷ behind)) judged)
-    ∙ sum_by-append (λ x. x) (flat_map (tiles_of ticks) (judgements least others (cell ∷ behind)))
+    let all = ap sum (flat_pushed ticks (judgements ear others (cell ∷ behind)) judged)
+    ∙ sum_by-append (λ x. x) (flat_map (tiles_of ticks) (judgements ear others (cell ∷ behind)))
     (tiles_of ticks judged)
     ∙ ap₂ (λ a b. a + b) rest one in
     all ∙ whole_of e placed.end ticks (omega (arith, apart.0))
@@ -113,7 +114,7 @@ they_cover cells_cover grid ticks least samples intervals some are =
     let cover = cells_cover (path_steps sounds) are.cells are.decided in
     let many = steps_length sounds in
     let e = end_behind 0 are.cells in
-    let is = ap sum are.intervals_are ∙ cells_last ticks least sounds are.cells [] some cover.0 in
+    let is = ap sum are.intervals_are ∙ cells_last ticks (ear_of grid least) sounds are.cells [] some cover.0 in
     let within : e ≤ length sounds = omega (arith, cover.1, many) in
     let near : length sounds ≤ e + 24 = omega (arith, cover.2, many) in
     let low = mul-le-mul_left ticks within in

@@ -12,7 +12,7 @@ use Rattle.path_front.specs.declared.measured.Measured.{Measured}
 use Rattle.path_front.specs.Cells.{cell_behind, measured_cells, sounds_in, CellsEndFor, CellsState, CellsStandFor}
 use Rattle.path_front.specs.Cells.{GivesCell}
 use Rattle.path_front.specs.Cells.{cells_left, GivesLastCell, SameSound}
-use Rattle.path_front.specs.Gate.{breaks, GateState, GateStandsFor, Judges}
+use Rattle.path_front.specs.Gate.{breaks, ear_of, GateState, GateStandsFor, Judges}
 use Rattle.path_front.specs.Judging.{closed, is_drain, CellsIn, ForMore, GivesJudged, GivesNone, JudgingState}
 use Rattle.path_front.specs.Judging.{judging_left, Moves}
 use Rattle.path_front.specs.Measured.{IsMeasured}
@@ -25,6 +25,10 @@ judging cells gate phase = record { cells = cells; gate = gate; phase = phase }
 pub same_sounds : (cells now : CellsState) (samples : List ℤ) → SameSound cells now
     → sounds_in now samples ≡ sounds_in cells samples
 same_sounds cells now samples same = ap₂ (λ grid least. sounds_of grid least samples) same.grid same.least
+
+pub same_ear : (cells now : CellsState) → SameSound cells now
+    → ear_of cells.steps.grid cells.steps.hold.least ≡ ear_of now.steps.grid now.steps.hold.least
+same_ear cells now same = sym (ap₂ ear_of same.grid same.least)
 
 -- the next cell, as long as some may come
 next_cell : (phase : Phase) (cells now : CellsState) (cell : Measured) (samples : List ℤ) (given : List Placed)
@@ -40,12 +44,12 @@ next_cell Sound cells now cell samples given opened gives rest are = gives sampl
 next_cell Rest cells now cell samples given opened gives rest are = rest samples given are
 next_cell Drain cells now cell samples given opened gives rest are = absurd (false≢true (sym opened))
 
--- what holds of all that may come holds of a cell and the rest
-for_next : (phase : Phase) (before now : List Measured → Type 0) (cell : Measured) → is_drain phase ≡ false
-    → ((more : List Measured) → before (cell ∷ more) → now more) → ForMore phase before → ForMore phase now
-for_next Sound before now cell opened goes holds = λ more. goes more (holds (cell ∷ more))
-for_next Rest before now cell opened goes holds = λ more. goes more (holds (cell ∷ more))
-for_next Drain before now cell opened goes holds = absurd (false≢true (sym opened))
+-- what holds whatever may come
+for_all : (phase : Phase) (holds : List Measured → Type 0) → ((more : List Measured) → holds more)
+    → ForMore phase holds
+for_all Sound holds all = all
+for_all Rest holds all = all
+for_all Drain holds all = all []
 
 -- in the order of time one more cell comes last
 comes_last : (sounds : List Measured) (cell : Measured) → reverse (cell ∷ sounds) ≡ reverse sounds ++ cell ∷ []
@@ -71,11 +75,11 @@ pub waits : (phase : Phase) (cells now : CellsState) (gate next : GateState) (ce
     → GivesCell now samples given (Some cell))
     → ((samples : List ℤ) (given : List Placed) → CellsEndFor cells samples given
     → GivesLastCell now samples given (Some cell))
-    → SameSound cells now → next.least ≡ gate.least → next.ahead ≡ gate.ahead ++ cell ∷ []
-    → ((judged more : List Measured) → GateStandsFor gate judged (cell ∷ more) → GateStandsFor next judged more)
+    → SameSound cells now → next.ear ≡ gate.ear → next.ahead ≡ gate.ahead ++ cell ∷ []
+    → ((judged : List Measured) → GateStandsFor gate judged → GateStandsFor next judged)
     → cells_left now + 2 ≤ cells_left cells → length next.ahead ≤ 8
     → GivesNone (judging cells gate phase) (judging now next phase)
-waits phase cells now gate next cell opened gives rest same least ahead stays less room = record {
+waits phase cells now gate next cell opened gives rest same ear ahead stays less room = record {
   most = let many = ap length ahead ∙ length-append gate.ahead (cell ∷ []) in omega (arith, many, less);
   moves = record {
     came = cell ∷ [];
@@ -90,9 +94,8 @@ waits phase cells now gate next cell opened gives rest same least ahead stays le
       record {
         given = more.0 ∷ stand.given;
         cells = more.2;
-        gate = for_next phase (λ m. GateStandsFor gate judged m) (λ m. GateStandsFor next judged m) cell opened
-            (λ m. stays judged m) stand.gate;
-        least = least ∙ stand.least ∙ sym same.least;
+        gate = stays judged stand.gate;
+        ear = ear ∙ stand.ear ∙ same_ear cells now same;
         order = ap (λ l. reverse judged ++ l) ahead
             ∙ order_next cells now samples stand.given more.0 cell judged gate.ahead same more.1 stand.order;
         few = room;
@@ -123,12 +126,12 @@ pub judges_next : (phase : Phase) (cells now : CellsState) (gate next : GateStat
     → GivesCell now samples given (Some cell))
     → ((samples : List ℤ) (given : List Placed) → CellsEndFor cells samples given
     → GivesLastCell now samples given (Some cell))
-    → SameSound cells now → next.least ≡ gate.least → gate.ahead ++ cell ∷ [] ≡ answer.cell ∷ next.ahead
-    → ((judged more : List Measured) → GateStandsFor gate judged (cell ∷ more)
-    → Judges gate.least (gate.ahead ++ cell ∷ []) next judged more answer)
+    → SameSound cells now → next.ear ≡ gate.ear → gate.ahead ++ cell ∷ [] ≡ answer.cell ∷ next.ahead
+    → ((judged more : List Measured) → GateStandsFor gate judged
+    → Judges gate.ear (gate.ahead ++ cell ∷ []) next judged more answer)
     → IsMeasured answer.cell → cells_left now + 2 ≤ cells_left cells → length next.ahead ≡ 8
     → GivesJudged (judging cells gate phase) (judging now next phase) answer
-judges_next phase cells now gate next cell answer opened gives rest same least front judges measured less eight =
+judges_next phase cells now gate next cell answer opened gives rest same ear front judges measured less eight =
     record {
       less = let many = sym (length-append gate.ahead (cell ∷ [])) ∙ ap length front in omega (arith, many, less);
       measured = measured;
@@ -141,19 +144,16 @@ judges_next phase cells now gate next cell answer opened gives rest same least f
         keeps = λ drain. drain;
       };
       judges = λ samples judged stand.
-          for_next phase (λ m. GateStandsFor gate judged m)
-          (λ m. answer.breaks ≡ breaks next.least judged answer.cell (next.ahead ++ m)) cell opened
-          (λ m s. (judges judged m s).breaks_is ∙ ap (λ n. breaks n judged answer.cell (next.ahead ++ m)) (sym least))
-          stand.gate;
+          for_all phase (λ m. answer.breaks ≡ breaks next.ear judged answer.cell (next.ahead ++ m))
+          (λ m. (judges judged m stand.gate).breaks_is
+          ∙ ap (λ n. breaks n judged answer.cell (next.ahead ++ m)) (sym ear));
       stands = λ samples judged stand.
           let more = next_cell phase cells now cell samples stand.given opened gives rest stand.cells in
           record {
             given = more.0 ∷ stand.given;
             cells = more.2;
-            gate = for_next phase (λ m. GateStandsFor gate judged m) (λ m. GateStandsFor next
-                (answer.cell ∷ judged) m) cell
-                opened (λ m s. (judges judged m s).stands) stand.gate;
-            least = least ∙ stand.least ∙ sym same.least;
+            gate = (judges judged [] stand.gate).stands;
+            ear = ear ∙ stand.ear ∙ same_ear cells now same;
             order = order_judged judged (gate.ahead ++ cell ∷ []) next.ahead
                 (reverse (measured_cells (sounds_in now samples) (more.0 ∷ stand.given))) answer.cell front
                 (order_next cells now samples stand.given more.0 cell judged gate.ahead same more.1 stand.order);
@@ -161,6 +161,48 @@ judges_next phase cells now gate next cell answer opened gives rest same least f
             eight = λ is some. eight;
           };
     }
+
+-- one of the last cells is judged
+drained : (phase : Phase) (cells : CellsState) (gate next : GateState) (answer : Judged) → is_drain phase ≡ true
+    → next.ear ≡ gate.ear → length next.ahead ≤ 8 → gate.ahead ≡ answer.cell ∷ next.ahead → IsMeasured answer.cell
+    → ((judged : List Measured) → GateStandsFor gate judged → Judges gate.ear gate.ahead next judged [] answer)
+    → GivesJudged (judging cells gate phase) (judging cells next phase) answer
+drained Sound cells gate next answer closed ear room front measured judges = absurd (false≢true closed)
+drained Rest cells gate next answer closed ear room front measured judges = absurd (false≢true closed)
+drained Drain cells gate next answer closed ear room front measured judges = record {
+  less = let many = ap length front in omega (arith, many);
+  measured = measured;
+  moves = record {
+    came = [];
+    moved = append-nil gate.ahead ∙ front;
+    drained = λ drain. refl;
+    stays = λ sound. sound;
+    goes = λ sound. sound;
+    keeps = λ drain. drain;
+  };
+  judges = λ samples judged stand. (judges judged stand.gate).breaks_is
+      ∙ ap (λ n. breaks n judged answer.cell (next.ahead ++ [])) (sym ear);
+  stands = λ samples judged stand. record {
+    given = stand.given;
+    cells = stand.cells;
+    gate = (judges judged stand.gate).stands;
+    ear = ear ∙ stand.ear;
+    order = order_judged judged gate.ahead next.ahead
+        (reverse (measured_cells (sounds_in cells samples) stand.given)) answer.cell front stand.order;
+    few = room;
+    eight = λ is some. absurd (false≢true (sym is));
+  };
+}
+
+pub drained_if : (phase : Phase) (cells : CellsState) (gate next : GateState) (answer : Option Judged)
+    → is_drain phase ≡ true → next.ear ≡ gate.ear → length next.ahead ≤ 8
+    → IfSome answer (λ a. gate.ahead ≡ a.cell ∷ next.ahead) → IfSome answer (λ a. IsMeasured a.cell)
+    → IfSome answer (λ a. (judged : List Measured) → GateStandsFor gate judged
+    → Judges gate.ear gate.ahead next judged [] a)
+    → IfSome answer (λ a. GivesJudged (judging cells gate phase) (judging cells next phase) a)
+drained_if phase cells gate next None closed ear room front measured judges = tt
+drained_if phase cells gate next (Some answer) closed ear room front measured judges =
+    drained phase cells gate next answer closed ear room front measured judges
 
 -- there is no cell: if the sound has ended, all have been given
 cells_closed : (phase : Phase) (cells now : CellsState) (samples : List ℤ) (given : List Placed)
@@ -172,12 +214,6 @@ cells_closed : (phase : Phase) (cells now : CellsState) (samples : List ℤ) (gi
 cells_closed Sound cells now samples given opened gives rest are = gives samples given are
 cells_closed Rest cells now samples given opened gives rest are = (rest samples given are).1
 cells_closed Drain cells now samples given opened gives rest are = absurd (false≢true (sym opened))
-
-for_closed : (phase : Phase) (holds : List Measured → Type 0) → is_drain phase ≡ false → ForMore phase holds
-    → ForMore (closed phase) holds
-for_closed Sound holds opened all = all
-for_closed Rest holds opened all = all []
-for_closed Drain holds opened all = absurd (false≢true (sym opened))
 
 closed_sound : (phase : Phase) → is_drain phase ≡ false → closed phase ≡ Sound → phase ≡ Sound
 closed_sound Sound opened is = refl
@@ -214,8 +250,8 @@ none_left phase cells now gate opened gives rest same most = record {
   stands = λ samples judged stand. record {
     given = stand.given;
     cells = cells_closed phase cells now samples stand.given opened gives rest stand.cells;
-    gate = for_closed phase (λ m. GateStandsFor gate judged m) opened stand.gate;
-    least = stand.least ∙ sym same.least;
+    gate = stand.gate;
+    ear = stand.ear ∙ same_ear cells now same;
     order = stand.order ∙ ap (λ s. reverse (measured_cells s stand.given)) (sym (same_sounds cells now samples same));
     few = stand.few;
     eight = λ is some. stand.eight opened some;

@@ -1,8 +1,8 @@
 pub mod CellsNext
-pub mod EightLevels
 pub mod EighthBefore
 mod Examples
 pub mod FrontNext
+mod GateExamples
 pub mod GateJudges
 pub mod GivenFirst
 pub mod GroupNext
@@ -12,5 +12,7 @@ pub mod JudgingNext
 pub mod LatestSizes
 pub mod LatestSound
 pub mod Means
+pub mod SaidIntervals
 pub mod SoFar
+mod SoundExamples
 pub mod StepsNext

@@ -1,7 +1,7 @@
 -- The intervals that samples bring so far: they are given, they are one list, and they come first in what more samples
 -- bring.
-use Rattle.std.proofs.Common.{◌≡◌, ℕ, zero, suc, ◌<◌, ◌≤◌, ◌||◌, cond, ℤ, List, [], ◌∷◌}
-use Rattle.std.proofs.Common.{◌++◌, Option, Some, length, reverse, replicate, take, drop, refl, ap, ap₂, subst, sym}
+use Rattle.std.proofs.Common.{◌≡◌, ℕ, zero, suc, ◌<◌, ◌≤◌, ◌||◌, ℤ, List, [], ◌∷◌}
+use Rattle.std.proofs.Common.{◌++◌, length, reverse, replicate, take, drop, refl, ap, ap₂, subst, sym}
 use Rattle.std.proofs.Common.{◌∙◌, arith}
 use Rattle.std.specs.List.{flat_map}
 use Rattle.std.proofs.lemmas.Grind.{flat_map-append}
@@ -12,20 +12,17 @@ use Rattle.cell_path.specs.declared.cell.Step.{Step}
 use Rattle.cell_path.specs.declared.placed.Placed.{Placed}
 use Rattle.cell_path.specs.Decided.{end_behind, AreDecided, AreDecidedInAll}
 use Rattle.cell_path.specs.Spaced.{AreApart}
-use Rattle.path_front.specs.declared.fit.Usual.{Usual}
 use Rattle.step_grid.specs.declared.grid.Grid.{Grid}
+use Rattle.path_front.specs.declared.gate.Ear.{Ear}
 use Rattle.path_front.specs.declared.group.Sounds.{Sounds}
 use Rattle.path_front.specs.declared.judging.Phase.{Phase}
 use Rattle.path_front.specs.declared.judging.Phase.TheVariants.{Sound, Rest, Drain}
 use Rattle.path_front.specs.declared.measured.Measured.{Measured}
-use Rattle.path_front.specs.Bend.{bends}
 use Rattle.path_front.specs.Cells.{measured_cells, sounds_in, CellsEndFor, CellsStandFor, EndWithin}
-use Rattle.path_front.specs.Fit.{fit_of, usual_after}
 use Rattle.path_front.specs.Front.{intervals_before, intervals_of_judged, judgements, AreIntervals, AreIntervalsSoFar}
 use Rattle.path_front.specs.Front.{FrontState, FrontStandsFor, IsReady}
-use Rattle.path_front.specs.Gate.{breaks, does_not_fit, floor_by, long_of, range_by, refuses, usual_by, usual_of}
+use Rattle.path_front.specs.Gate.{breaks, refuses_between, ear_of}
 use Rattle.path_front.specs.Judging.{is_drain, CellsIn, ForMore}
-use Rattle.path_front.specs.Levels.{is_faint}
 use Rattle.path_front.specs.Steps.{path_steps, sounds_of}
 use Rattle.path_front.specs.Tiles.{tiles_of}
 use Rattle.path_front.proofs.CellsNext.{cells_more}
@@ -41,48 +38,19 @@ near_more : (cell : Measured) (behind other : List Measured) → take 8 behind �
 near_more cell behind other near =
     ap (λ l. cell ∷ l) (sym (take_fewer 7 behind) ∙ ap (take 7) near ∙ take_fewer 7 other)
 
-usual_near : (usual : Option Usual) (before : List Measured) (cell : Measured) (behind other : List Measured)
-    → take 8 behind ≡ take 8 other → usual_by usual before cell behind ≡ usual_by usual before cell other
-usual_near usual [] cell behind other near = refl
-usual_near usual (p ∷ before) cell behind other near =
-    ap (λ a. cond cell.jumps usual (Some (usual_after usual (range_by (take 8 (p ∷ before)) a)
-    (fit_of (range_by (take 8 (p ∷ before)) a) cell)))) near
+breaks_near : (ear : Ear) (before : List Measured) (cell : Measured) (behind other : List Measured)
+    → take 8 behind ≡ take 8 other → breaks ear before cell behind ≡ breaks ear before cell other
+breaks_near ear before cell behind other near =
+    ap (λ b. cell.jumps || refuses_between ear (take 8 before) cell b) near
 
-same_usual : (before behind other : List Measured) → take 8 behind ≡ take 8 other
-    → usual_of before behind ≡ usual_of before other
-unfolding usual_of
-same_usual [] behind other near = refl
-same_usual (cell ∷ before) behind other near =
-    ap (λ u. usual_by u before cell behind)
-    (same_usual before (cell ∷ behind) (cell ∷ other) (near_more cell behind other near))
-    ∙ usual_near (usual_of before (cell ∷ other)) before cell behind other near
-
-refuses_near : (least long : ℕ) (usual : Option Usual) (before : List Measured) (cell : Measured)
-    (behind other : List Measured) → take 8 behind ≡ take 8 other
-    → refuses least long usual before cell behind ≡ refuses least long usual before cell other
-refuses_near least long usual [] cell behind other near = refl
-refuses_near least long usual (p ∷ before) cell behind other near =
-    ap₂ (λ a b. is_faint p cell (floor_by least long (take 8 (p ∷ before)) b)
-    || does_not_fit usual (range_by (take 8 (p ∷ before)) a) (fit_of (range_by (take 8 (p ∷ before)) a) cell)
-    || bends (take 8 (p ∷ before)) cell a)
-    near (near_more cell behind other near)
-
-breaks_near : (least : ℕ) (before : List Measured) (cell : Measured) (behind other : List Measured)
-    → take 8 behind ≡ take 8 other → breaks least before cell behind ≡ breaks least before cell other
-breaks_near least before cell behind other near =
-    ap (λ u. cell.jumps || refuses least (long_of (cell ∷ before)) u before cell behind)
-    (same_usual before (cell ∷ behind) (cell ∷ other) (near_more cell behind other near))
-    ∙ ap (λ r. cell.jumps || r)
-    (refuses_near least (long_of (cell ∷ before)) (usual_of before (cell ∷ other)) before cell behind other near)
-
-same_judgements : (least : ℕ) (cells behind other : List Measured) → take 8 behind ≡ take 8 other
-    → judgements least cells behind ≡ judgements least cells other
+same_judgements : (ear : Ear) (cells behind other : List Measured) → take 8 behind ≡ take 8 other
+    → judgements ear cells behind ≡ judgements ear cells other
 unfolding judgements
-same_judgements least [] behind other near = refl
-same_judgements least (cell ∷ before) behind other near =
+same_judgements ear [] behind other near = refl
+same_judgements ear (cell ∷ before) behind other near =
     ap₂ (λ l b. l ++ record { cell = cell; breaks = b } ∷ [])
-    (same_judgements least before (cell ∷ behind) (cell ∷ other) (near_more cell behind other near))
-    (breaks_near least before cell behind other near)
+    (same_judgements ear before (cell ∷ behind) (cell ∷ other) (near_more cell behind other near))
+    (breaks_near ear before cell behind other near)
 
 -- ---- parts of lists
 
@@ -116,15 +84,15 @@ drop_behind (suc n) (cell ∷ new) cells =
 
 -- ---- the cells that wait are enough
 
-waits_only : (ticks least : ℕ) (judged ahead more : List Measured) → (0 < length judged → length ahead ≡ 8)
-    → intervals_before ticks least judged (ahead ++ more) ≡ intervals_before ticks least judged ahead
+waits_only : (ticks : ℕ) (ear : Ear) (judged ahead more : List Measured) → (0 < length judged → length ahead ≡ 8)
+    → intervals_before ticks ear judged (ahead ++ more) ≡ intervals_before ticks ear judged ahead
 unfolding judgements
-waits_only ticks least [] ahead more eight = refl
-waits_only ticks least (cell ∷ judged) ahead more eight =
+waits_only ticks ear [] ahead more eight = refl
+waits_only ticks ear (cell ∷ judged) ahead more eight =
     let long = eight (omega arith) in
     let same : take 8 (ahead ++ more) ≡ take 8 ahead =
     take_exact 8 ahead more long ∙ sym (take_all 8 ahead (omega (arith, long))) in
-    ap (flat_map (tiles_of ticks)) (same_judgements least (cell ∷ judged) (ahead ++ more) ahead same)
+    ap (flat_map (tiles_of ticks)) (same_judgements ear (cell ∷ judged) (ahead ++ more) ahead same)
 
 eight_ahead : (cells : List Measured) → 0 < length (drop 8 cells) → length (reverse (take 8 cells)) ≡ 8
 eight_ahead cells some =
@@ -134,31 +102,31 @@ eight_ahead cells some =
     omega (arith, a, b, c, some)
 
 -- the intervals of cells in front of these and of those that enough others follow
-judged_come_first : (ticks least : ℕ) (cells front waiting : List Measured) (all : List Measured)
+judged_come_first : (ticks : ℕ) (ear : Ear) (cells front waiting : List Measured) (all : List Measured)
     → (front ++ take 8 cells) ++ drop 8 cells ≡ all → waiting ≡ reverse (front ++ take 8 cells)
-    → intervals_before ticks least (drop 8 cells) waiting ≡ intervals_of_judged ticks least cells
-judged_come_first ticks least cells front waiting all is behind =
-    ap (intervals_before ticks least (drop 8 cells)) (behind ∙ reverse-append front (take 8 cells))
-    ∙ waits_only ticks least (drop 8 cells) (reverse (take 8 cells)) (reverse front) (eight_ahead cells)
+    → intervals_before ticks ear (drop 8 cells) waiting ≡ intervals_of_judged ticks ear cells
+judged_come_first ticks ear cells front waiting all is behind =
+    ap (intervals_before ticks ear (drop 8 cells)) (behind ∙ reverse-append front (take 8 cells))
+    ∙ waits_only ticks ear (drop 8 cells) (reverse (take 8 cells)) (reverse front) (eight_ahead cells)
 
 -- of a whole sound
-first_in_all : (ticks least : ℕ) (new cells : List Measured) → (rest : List ℕ)
-    × (intervals_before ticks least (new ++ cells) [] ≡ intervals_of_judged ticks least cells ++ rest)
-first_in_all ticks least new cells =
+first_in_all : (ticks : ℕ) (ear : Ear) (new cells : List Measured) → (rest : List ℕ)
+    × (intervals_before ticks ear (new ++ cells) [] ≡ intervals_of_judged ticks ear cells ++ rest)
+first_in_all ticks ear new cells =
     let whole : new ++ cells ≡ (new ++ take 8 cells) ++ drop 8 cells =
     ap (λ l. new ++ l) (sym (take-append-drop 8 cells)) ∙ sym (append_assoc new (take 8 cells) (drop 8 cells)) in
-    let written = written_first ticks least (new ++ take 8 cells) (drop 8 cells) in (
+    let written = written_first ticks ear (new ++ take 8 cells) (drop 8 cells) in (
       written.0,
-      ap (λ c. intervals_before ticks least c []) whole ∙ written.1
+      ap (λ c. intervals_before ticks ear c []) whole ∙ written.1
           ∙ ap (λ l. l ++ written.0)
-          (judged_come_first ticks least cells new (reverse (new ++ take 8 cells)) (new ++ cells)
+          (judged_come_first ticks ear cells new (reverse (new ++ take 8 cells)) (new ++ cells)
           (sym whole) refl),
     )
 
 -- of what more samples bring so far
-first_so_far : (ticks least : ℕ) (new cells : List Measured) → (rest : List ℕ)
-    × (intervals_of_judged ticks least (new ++ cells) ≡ intervals_of_judged ticks least cells ++ rest)
-first_so_far ticks least new cells =
+first_so_far : (ticks : ℕ) (ear : Ear) (new cells : List Measured) → (rest : List ℕ)
+    × (intervals_of_judged ticks ear (new ++ cells) ≡ intervals_of_judged ticks ear cells ++ rest)
+first_so_far ticks ear new cells =
     let all = new ++ cells in
     let tail = drop_behind 8 new cells in
     let both : (take 8 all ++ tail.0) ++ drop 8 cells ≡ (new ++ take 8 cells) ++ drop 8 cells =
@@ -166,16 +134,16 @@ first_so_far ticks least new cells =
     ∙ ap (λ l. new ++ l) (sym (take-append-drop 8 cells)) ∙ sym (append_assoc new (take 8 cells) (drop 8 cells)) in
     let front : take 8 all ++ tail.0 ≡ new ++ take 8 cells =
     append_cancel_right (take 8 all ++ tail.0) (new ++ take 8 cells) (drop 8 cells) both in
-    let first = judged_first least tail.0 (drop 8 cells) (reverse (take 8 all)) in
+    let first = judged_first ear tail.0 (drop 8 cells) (reverse (take 8 all)) in
     let order : reverse tail.0 ++ reverse (take 8 all) ≡ reverse (new ++ take 8 cells) =
     sym (reverse-append (take 8 all) tail.0) ∙ ap reverse front in (
       flat_map (tiles_of ticks) first.0,
-      ap (λ c. intervals_before ticks least c (reverse (take 8 all))) tail.1
+      ap (λ c. intervals_before ticks ear c (reverse (take 8 all))) tail.1
           ∙ ap (flat_map (tiles_of ticks)) first.1
-          ∙ flat_map-append (tiles_of ticks) (judgements least (drop 8 cells) (reverse tail.0 ++ reverse (take 8 all)))
+          ∙ flat_map-append (tiles_of ticks) (judgements ear (drop 8 cells) (reverse tail.0 ++ reverse (take 8 all)))
           first.0
           ∙ ap (λ l. l ++ flat_map (tiles_of ticks) first.0)
-          (judged_come_first ticks least cells new (reverse tail.0 ++ reverse (take 8 all)) all
+          (judged_come_first ticks ear cells new (reverse tail.0 ++ reverse (take 8 all)) all
           (append_assoc new (take 8 cells) (drop 8 cells) ∙ ap (λ l. new ++ l) (take-append-drop 8 cells)) order),
     )
 
@@ -221,7 +189,7 @@ pub so_far_once : DecidedOnce → (grid : Grid) (ticks least : ℕ) (samples : L
 so_far_once once grid ticks least samples intervals others are like =
     let sounds = sounds_of grid least samples in
     are.intervals_are
-    ∙ ap (λ c. intervals_of_judged ticks least (measured_cells sounds c))
+    ∙ ap (λ c. intervals_of_judged ticks (ear_of grid least) (measured_cells sounds c))
     (once (path_steps sounds) are.cells like.cells are.decided like.decided)
     ∙ sym like.intervals_are
 
@@ -236,9 +204,9 @@ so_far_first stays once within grid ticks least more samples intervals longer ar
     let new = still_decided stays once path.0 (path_steps sounds) like.cells are.cells
     (subst (λ s. AreDecided s like.cells) steps like.decided) are.decided in
     let grown = cells_grow within grid least more samples are.cells like.cells new.0 are.decided new.1 in
-    let first = first_so_far ticks least grown.0 (measured_cells sounds are.cells) in (
+    let first = first_so_far ticks (ear_of grid least) grown.0 (measured_cells sounds are.cells) in (
       first.0,
-      like.intervals_are ∙ ap (intervals_of_judged ticks least) grown.1 ∙ first.1
+      like.intervals_are ∙ ap (intervals_of_judged ticks (ear_of grid least)) grown.1 ∙ first.1
           ∙ ap (λ l. l ++ first.0) (sym are.intervals_are),
     )
 
@@ -253,9 +221,9 @@ so_far_in_all stays once within grid ticks least more samples intervals whole ar
     let new = decided_in_all stays once path.0 (path_steps sounds) like.cells are.cells
     (subst (λ s. AreDecidedInAll s like.cells) steps like.decided) are.decided in
     let grown = cells_grow within grid least more samples are.cells like.cells new.0 are.decided new.1 in
-    let first = first_in_all ticks least grown.0 (measured_cells sounds are.cells) in (
+    let first = first_in_all ticks (ear_of grid least) grown.0 (measured_cells sounds are.cells) in (
       first.0,
-      like.intervals_are ∙ ap (λ c. intervals_before ticks least c []) grown.1 ∙ first.1
+      like.intervals_are ∙ ap (λ c. intervals_before ticks (ear_of grid least) c []) grown.1 ∙ first.1
           ∙ ap (λ l. l ++ first.0) (sym are.intervals_are),
     )
 
@@ -279,7 +247,7 @@ waiting_apart (cell ∷ judged) ahead few eight =
 -- what was given and is due of the cells that were judged, as long as samples may come
 judged_now : (state : FrontState) (samples : List ℤ) (given : List ℕ) (stand : FrontStandsFor state samples given)
     → state.judging.phase ≡ Sound
-    → given ++ state.tiles ≡ intervals_of_judged state.ticks state.judging.cells.steps.hold.least (measured_cells
+    → given ++ state.tiles ≡ intervals_of_judged state.ticks (ear_of state.judging.cells.steps.grid state.judging.cells.steps.hold.least) (measured_cells
     (sounds_of state.judging.cells.steps.grid state.judging.cells.steps.hold.least samples) stand.judging.given)
 judged_now state samples given stand phase =
     let least = state.judging.cells.steps.hold.least in
@@ -289,14 +257,14 @@ judged_now state samples given stand phase =
     let measured = measured_cells (sounds_of state.judging.cells.steps.grid least samples) stand.judging.given in
     let order : measured ≡ reverse ahead ++ judged = ahead_first judged ahead measured stand.judging.order in
     let parts = waiting_apart judged ahead stand.judging.few (stand.judging.eight (ap is_drain phase)) in
-    let out : given ++ state.tiles ≡ intervals_before ticks state.judging.gate.least judged (ahead ++ []) =
+    let out : given ++ state.tiles ≡ intervals_before ticks state.judging.gate.ear judged (ahead ++ []) =
     (subst (λ p. ForMore p (λ m. given ++ state.tiles
-    ≡ intervals_before ticks state.judging.gate.least judged (ahead ++ m))) phase stand.out) [] in
+    ≡ intervals_before ticks state.judging.gate.ear judged (ahead ++ m))) phase stand.out) [] in
     let front : drop 8 measured ≡ judged = ap (drop 8) order ∙ parts.0 in
     let back : reverse (take 8 measured) ≡ ahead = ap reverse (ap (take 8) order ∙ parts.1) ∙ reverse-reverse ahead in
-    out ∙ ap (intervals_before ticks state.judging.gate.least judged) (append-nil ahead)
-    ∙ ap (λ n. intervals_before ticks n judged ahead) stand.judging.least
-    ∙ ap₂ (intervals_before ticks least) (sym front) (sym back)
+    out ∙ ap (intervals_before ticks state.judging.gate.ear judged) (append-nil ahead)
+    ∙ ap (λ n. intervals_before ticks n judged ahead) stand.judging.ear
+    ∙ ap₂ (intervals_before ticks (ear_of state.judging.cells.steps.grid least)) (sym front) (sym back)
 
 pub given_so_far : (state : FrontState) (samples : List ℤ) (given : List ℕ) → IsReady state
     → FrontStandsFor state samples given
@@ -338,10 +306,10 @@ given_first_so_far stays once state samples given intervals phase stand are =
     (subst (λ s. AreDecided s are.cells) steps are.decided) cells.decisions.decided in
     let placed : are.cells ≡ (new.0 ++ waiting) ++ so_far = new.1 ∙ sym (append_assoc new.0 waiting so_far) in
     let measured = measured_more now (new.0 ++ waiting) so_far in
-    let first = first_so_far ticks least measured.0 (measured_cells now so_far) in
+    let first = first_so_far ticks (ear_of grid least) measured.0 (measured_cells now so_far) in
     let is : intervals ≡ (given ++ state.tiles) ++ first.0 =
-    are.intervals_are ∙ ap (λ c. intervals_of_judged ticks least (measured_cells now c)) placed
-    ∙ ap (intervals_of_judged ticks least) measured.1 ∙ first.1
+    are.intervals_are ∙ ap (λ c. intervals_of_judged ticks (ear_of grid least) (measured_cells now c)) placed
+    ∙ ap (intervals_of_judged ticks (ear_of grid least)) measured.1 ∙ first.1
     ∙ ap (λ l. l ++ first.0) (sym (judged_now state samples given stand phase)) in
     (state.tiles ++ first.0, is ∙ append_assoc given state.tiles first.0)
 
@@ -359,7 +327,7 @@ with_cells : (state : FrontState) (samples : List ℤ) (given intervals : List �
     → are.cells ≡ new ++ stand.judging.given
     → ((cells : List Measured) → measured_cells (sounds_in state.judging.cells samples) (new ++ stand.judging.given)
     ≡ cells ++ measured_cells (sounds_in state.judging.cells samples) stand.judging.given
-    → given ++ state.tiles ≡ intervals_before state.ticks state.judging.gate.least stand.judged
+    → given ++ state.tiles ≡ intervals_before state.ticks state.judging.gate.ear stand.judged
     (state.judging.gate.ahead ++ reverse cells))
     → (rest : List ℕ) × (intervals ≡ given ++ rest)
 with_cells state samples given intervals new stand are placed out =
@@ -374,13 +342,13 @@ with_cells state samples given intervals new stand are placed out =
     let whole : measured_cells now are.cells ≡ (measured.0 ++ reverse ahead) ++ judged =
     ap (measured_cells now) placed ∙ measured.1 ∙ ap (λ l. measured.0 ++ l) order
     ∙ sym (append_assoc measured.0 (reverse ahead) judged) in
-    let written = written_first ticks least (measured.0 ++ reverse ahead) judged in
+    let written = written_first ticks (ear_of state.judging.cells.steps.grid least) (measured.0 ++ reverse ahead) judged in
     let behind : reverse (measured.0 ++ reverse ahead) ≡ ahead ++ reverse measured.0 =
     reverse-append measured.0 (reverse ahead) ∙ ap (λ l. l ++ reverse measured.0) (reverse-reverse ahead) in
     let is : intervals ≡ (given ++ state.tiles) ++ written.0 =
-    are.intervals_are ∙ ap (λ c. intervals_before ticks least c []) whole ∙ written.1
-    ∙ ap (λ b. intervals_before ticks least judged b ++ written.0) behind
-    ∙ ap (λ n. intervals_before ticks n judged (ahead ++ reverse measured.0) ++ written.0) (sym stand.judging.least)
+    are.intervals_are ∙ ap (λ c. intervals_before ticks (ear_of state.judging.cells.steps.grid least) c []) whole ∙ written.1
+    ∙ ap (λ b. intervals_before ticks (ear_of state.judging.cells.steps.grid least) judged b ++ written.0) behind
+    ∙ ap (λ n. intervals_before ticks n judged (ahead ++ reverse measured.0) ++ written.0) (sym stand.judging.ear)
     ∙ ap (λ l. l ++ written.0) (sym (out measured.0 measured.1)) in
     (state.tiles ++ written.0, is ∙ append_assoc given state.tiles written.0)
 
@@ -402,7 +370,7 @@ by_phase once state samples given intervals stand are Rest is ended =
     let cells : CellsEndFor state.judging.cells samples so_far =
     subst (λ p. CellsIn p state.judging.cells samples so_far) is stand.judging.cells in
     let out = subst (λ p. ForMore p (λ m. given ++ state.tiles
-    ≡ intervals_before state.ticks state.judging.gate.least stand.judged (state.judging.gate.ahead ++ m))) is stand.out
+    ≡ intervals_before state.ticks state.judging.gate.ear stand.judged (state.judging.gate.ahead ++ m))) is stand.out
     in
     with_cells state samples given intervals waiting stand are
     (once (path_steps (sounds_in state.judging.cells samples)) are.cells (waiting ++ so_far) are.decided
@@ -412,12 +380,12 @@ by_phase once state samples given intervals stand are Drain is ended =
     let now = sounds_in state.judging.cells samples in
     let cells : AreDecidedInAll (path_steps now) so_far =
     subst (λ p. CellsIn p state.judging.cells samples so_far) is stand.judging.cells in
-    let out : given ++ state.tiles ≡ intervals_before state.ticks state.judging.gate.least stand.judged
+    let out : given ++ state.tiles ≡ intervals_before state.ticks state.judging.gate.ear stand.judged
     (state.judging.gate.ahead ++ []) = subst (λ p. ForMore p (λ m. given ++ state.tiles
-    ≡ intervals_before state.ticks state.judging.gate.least stand.judged (state.judging.gate.ahead ++ m))) is stand.out
+    ≡ intervals_before state.ticks state.judging.gate.ear stand.judged (state.judging.gate.ahead ++ m))) is stand.out
     in
     with_cells state samples given intervals [] stand are (once (path_steps now) are.cells so_far are.decided cells)
-    (λ more same. out ∙ ap (λ m. intervals_before state.ticks state.judging.gate.least stand.judged
+    (λ more same. out ∙ ap (λ m. intervals_before state.ticks state.judging.gate.ear stand.judged
     (state.judging.gate.ahead ++ m)) (sym (ap reverse (no_cells more (measured_cells now so_far) same))))
 
 pub given_first_at_end : DecidedInAllOnce → (state : FrontState) (samples : List ℤ) (given intervals : List ℕ)

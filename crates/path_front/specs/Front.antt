@@ -2,42 +2,43 @@
 -- intervals with the first.
 use Rattle.std.specs.Prelude.{◌≡◌, ℕ, ◌+◌, ◌*◌, ◌^◌, ◌≤◌, ℤ, List, [], ◌∷◌, ◌++◌, length, reverse, take, drop, Option}
 use Rattle.std.specs.Prelude.{Some, None}
-use Rattle.std.specs.List.{flat_map}
+use Rattle.std.specs.List.{flat_map, All}
 use Rattle.cell_path.specs.declared.placed.Placed.{Placed}
 use Rattle.cell_path.specs.Decided.{AreDecided, AreDecidedInAll}
+use Rattle.path_front.specs.declared.gate.Ear.{Ear}
 use Rattle.path_front.specs.declared.gate.Judged.{Judged}
 use Rattle.path_front.specs.declared.gate.TheConstants.{NEIGHBOURS}
 use Rattle.step_grid.specs.declared.grid.Grid.{Grid}
 use Rattle.path_front.specs.declared.judging.Phase.TheVariants.{Sound, Drain}
 use Rattle.path_front.specs.declared.measured.Measured.{Measured}
 use Rattle.path_front.specs.Cells.{measured_cells, IsIdle, SameSound}
-use Rattle.path_front.specs.Gate.{breaks}
+use Rattle.path_front.specs.Gate.{breaks, ear_of}
 use Rattle.path_front.specs.Judging.{judging_left, ForMore, IsSettled, JudgingState, JudgingStandFor}
 use Rattle.path_front.specs.Steps.{path_steps, sounds_of}
-use Rattle.path_front.specs.Tiles.{tiles_of}
+use Rattle.path_front.specs.Tiles.{tiles_of, IsSaid}
 
 -- cells with whether the stretch breaks in front of each, the first one first, where these cells come behind them
-unfoldable pub judgements : ℕ → List Measured → List Measured → List Judged
-judgements least [] behind = []
-judgements least (cell ∷ before) behind =
-    judgements least before (cell ∷ behind)
-    ++ record { cell = cell; breaks = breaks least before cell behind } ∷ []
+unfoldable pub judgements : Ear → List Measured → List Measured → List Judged
+judgements ear [] behind = []
+judgements ear (cell ∷ before) behind =
+    judgements ear before (cell ∷ behind)
+    ++ record { cell = cell; breaks = breaks ear before cell behind } ∷ []
 
 -- the intervals of cells, where these come behind them
-abbrev pub intervals_before : ℕ → ℕ → List Measured → List Measured → List ℕ
-intervals_before ticks least cells behind = flat_map (tiles_of ticks) (judgements least cells behind)
+abbrev pub intervals_before : ℕ → Ear → List Measured → List Measured → List ℕ
+intervals_before ticks ear cells behind = flat_map (tiles_of ticks) (judgements ear cells behind)
 
 -- the intervals of the best path of a sound: of all cells that are decided by its end
 pub record AreIntervals (grid : Grid) (ticks least : ℕ) (samples : List ℤ) (intervals : List ℕ) : Type 0 where
   pub cells : List Placed
   pub decided : AreDecidedInAll (path_steps (sounds_of grid least samples)) cells
   pub intervals_are : intervals
-      ≡ intervals_before ticks least (measured_cells (sounds_of grid least samples) cells) []
+      ≡ intervals_before ticks (ear_of grid least) (measured_cells (sounds_of grid least samples) cells) []
 
 -- the intervals of cells but for the latest eight, which wait for others behind them
-abbrev pub intervals_of_judged : ℕ → ℕ → List Measured → List ℕ
-intervals_of_judged ticks least cells =
-    intervals_before ticks least (drop NEIGHBOURS cells) (reverse (take NEIGHBOURS cells))
+abbrev pub intervals_of_judged : ℕ → Ear → List Measured → List ℕ
+intervals_of_judged ticks ear cells =
+    intervals_before ticks ear (drop NEIGHBOURS cells) (reverse (take NEIGHBOURS cells))
 
 -- the intervals that samples bring while others may follow: of the cells that are decided so far those are judged
 -- behind which eight others stand
@@ -45,7 +46,7 @@ pub record AreIntervalsSoFar (grid : Grid) (ticks least : ℕ) (samples : List �
   pub cells : List Placed
   pub decided : AreDecided (path_steps (sounds_of grid least samples)) cells
   pub intervals_are : intervals
-      ≡ intervals_of_judged ticks least (measured_cells (sounds_of grid least samples) cells)
+      ≡ intervals_of_judged ticks (ear_of grid least) (measured_cells (sounds_of grid least samples) cells)
 
 -- the cells on their way through the gate, the ticks of a step, and the intervals that wait
 pub record FrontState : Type 0 where
@@ -53,17 +54,18 @@ pub record FrontState : Type 0 where
   pub ticks : ℕ
   pub tiles : List ℕ
 
--- a step has from 2 to 65,536 ticks
+-- a step has from 2 to 65,536 ticks, and each interval that waits can be said
 pub record IsFront (state : FrontState) : Type 0 where
   pub least : 2 ≤ state.ticks
   pub most : state.ticks ≤ 2 ^ 16
+  pub said : All IsSaid state.tiles
 
 -- the intervals that were given, and those of the latest cell that are left, are those of the cells that were judged
 pub record FrontStandsFor (state : FrontState) (samples : List ℤ) (given : List ℕ) : Type 0 where
   pub judged : List Measured
   pub judging : JudgingStandFor state.judging samples judged
   pub out : ForMore state.judging.phase (λ more. given ++ state.tiles
-      ≡ intervals_before state.ticks state.judging.gate.least judged (state.judging.gate.ahead ++ more))
+      ≡ intervals_before state.ticks state.judging.gate.ear judged (state.judging.gate.ahead ++ more))
 
 -- nothing is left until more samples come, or at all
 abbrev pub IsFrontSettled : FrontState → Type 0

@@ -11,7 +11,7 @@ use Rattle.path_front.specs.declared.judging.Taken.TheVariants.{Judges, Waits, N
 use Rattle.path_front.specs.declared.measured.Measured.{Measured}
 use Rattle.path_front.specs.Cells.{cells_left, measured_cells, sounds_in, CellsEndFor, CellsState, CellsStandFor}
 use Rattle.path_front.specs.Cells.{IsIdle}
-use Rattle.path_front.specs.Gate.{breaks, GateState, GateStandsFor}
+use Rattle.path_front.specs.Gate.{breaks, ear_of, GateState, GateStandsFor}
 use Rattle.path_front.specs.Measured.{IsMeasured}
 use Rattle.path_front.specs.Steps.{path_steps}
 
@@ -53,8 +53,8 @@ pub record AreJudging (state : JudgingState) : Type 0 where
 pub record JudgingStandFor (state : JudgingState) (samples : List ℤ) (judged : List Measured) : Type 0 where
   pub given : List Placed
   pub cells : CellsIn state.phase state.cells samples given
-  pub gate : ForMore state.phase (λ more. GateStandsFor state.gate judged more)
-  pub least : state.gate.least ≡ state.cells.steps.hold.least
+  pub gate : GateStandsFor state.gate judged
+  pub ear : state.gate.ear ≡ ear_of state.cells.steps.grid state.cells.steps.hold.least
   pub order : reverse judged ++ state.gate.ahead ≡ reverse (measured_cells (sounds_in state.cells samples) given)
   pub few : length state.gate.ahead ≤ NEIGHBOURS
   -- until all have been given, eight wait behind those that were judged
@@ -76,7 +76,7 @@ pub record Moves (old new : JudgingState) (gone : List Measured) : Type 0 where
 -- in this phase a cell is judged so, behind those that were and before those ahead
 abbrev pub IsJudgedIn : Phase → GateState → List Measured → Judged → Type 0
 IsJudgedIn phase gate judged answer =
-    ForMore phase (λ more. answer.breaks ≡ breaks gate.least judged answer.cell (gate.ahead ++ more))
+    ForMore phase (λ more. answer.breaks ≡ breaks gate.ear judged answer.cell (gate.ahead ++ more))
 
 -- the next cell is judged
 pub record GivesJudged (old new : JudgingState) (answer : Judged) : Type 0 where

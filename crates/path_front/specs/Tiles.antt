@@ -1,9 +1,14 @@
 -- The intervals of cells. A cell begins where the one before it ended: its first interval takes the difference.
-use Rattle.std.specs.Prelude.{ℕ, ◌+◌, ◌-◌, ◌*◌, min, ltb, Bool, true, false, ◌||◌, List, [], ◌∷◌}
+use Rattle.std.specs.Prelude.{ℕ, ◌+◌, ◌-◌, ◌*◌, ◌≤◌, min, ltb, Bool, true, false, ◌||◌, List, [], ◌∷◌}
 use Rattle.std.specs.Int.{div_ceil}
 use Rattle.cell_path.specs.declared.cell.Bit.{Bit}
 use Rattle.cell_path.specs.declared.cell.Bit.TheVariants.{Zero, One}
+use Rattle.limits.specs.declared.recording.TheConstants.{MAX_INTERVAL}
 use Rattle.path_front.specs.declared.gate.Judged.{Judged}
+
+-- an interval that a file can say
+abbrev pub IsSaid : ℕ → Type 0
+IsSaid interval = (1 ≤ interval) × (interval ≤ MAX_INTERVAL)
 
 -- a tick is cut off the front where the stretch breaks: no reader takes it for a cell or a half
 abbrev pub cut : Bool → List ℕ → List ℕ

@@ -4,6 +4,7 @@ ghost use Rattle.std.specs.Prelude.{◌++◌, length};
 ghost use Rattle.path_front.specs.Cells.{SameSound};
 ghost use Rattle.path_front.specs.Front.{intervals_left, FrontStandsFor, GivesInterval, GoesOn, IsFrontSettled};
 ghost use Rattle.path_front.specs.Front.{IsReady};
+ghost use Rattle.path_front.specs.Tiles.{IsSaid};
 ghost use Rattle.step_grid.specs.Grid.{IsGrid};
 ghost use Rattle.path_front.specs.declared.judging.Phase.TheVariants.{Rest};
 
@@ -85,6 +86,7 @@ impl Front {
     fn give(&mut self) -> Option<u32>
         ensures gives { IfSome result (λ interval. (samples : List ℤ) (given : List ℕ)
             → FrontStandsFor self.old samples given → FrontStandsFor self.new samples (given ++ interval ∷ [])) }
+        ensures said { IfSome result (λ interval. IsSaid interval) }
         ensures none { IfNone result ((self.new ≡ self.old) × (self.old.tiles ≡ [])) }
         ensures less { OnSome result (intervals_left self.new < intervals_left self.old) }
         ensures goes { GoesOn self.old self.new }
@@ -117,6 +119,7 @@ impl Front {
     pub fn next(&mut self) -> Option<u32>
         ensures gives { (samples : List ℤ) (given : List ℕ) → FrontStandsFor self.old samples given
             → GivesInterval self.new samples given result }
+        ensures said { IfSome result (λ interval. IsSaid interval) }
         ensures settled { IfNone result (IsFrontSettled self.new) }
         ensures less { OnSome result (intervals_left self.new < intervals_left self.old) }
         ensures goes { GoesOn self.old self.new }

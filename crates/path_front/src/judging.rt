@@ -2,12 +2,13 @@
 ghost use Rattle.std.specs.Prelude.{◌≡◌, ◌+◌, ◌^◌, ◌<◌, ◌≤◌, ℤ, IfSome, IfNone, List, [], ◌∷◌, length};
 ghost use Rattle.path_front.specs.Cells.{IsIdle, SameSound};
 ghost use Rattle.step_grid.specs.Grid.{IsGrid};
+ghost use Rattle.path_front.specs.Gate.{ear_of};
 ghost use Rattle.path_front.specs.Judging.{closed, is_drain, GivesJudged, GivesNone, IsSettled, JudgingStandFor, Takes};
 ghost use Rattle.path_front.specs.declared.judging.Phase.TheVariants.{Sound, Rest, Drain};
 ghost use Rattle.path_front.specs.declared.measured.Measured.{Measured};
 
 use crate::cells::Cells;
-use crate::gate::{Gate, Judged};
+use crate::gate::{Gate, Judged, ear_of};
 use std::marker::Model;
 use step_grid::Grid;
 
@@ -81,7 +82,7 @@ impl Judging {
         ensures stands { JudgingStandFor result [] [] }
         ensures grid { result.cells.steps.grid ≡ grid }
         ensures least { result.cells.steps.hold.least ≡ least }
-        ensures same_least { result.gate.least ≡ least }
+        ensures ear { result.gate.ear ≡ ear_of grid least }
         ensures ahead { result.gate.ahead ≡ [] }
         ensures idle { IsIdle result.cells }
         ensures count { result.cells.steps.clip.count ≡ 0 }
@@ -89,7 +90,7 @@ impl Judging {
     {
         Judging {
             cells: Cells::new(grid, least),
-            gate: Gate::new(least),
+            gate: Gate::new(ear_of(grid, least)),
             phase: Phase::Sound,
         }
     }
@@ -128,7 +129,7 @@ impl Judging {
     fn take(&mut self) -> Taken
         ensures takes { Takes self.old self.new result }
         ensures same { SameSound self.old.cells self.new.cells }
-        ensures least { self.new.gate.least ≡ self.old.gate.least }
+        ensures ear { self.new.gate.ear ≡ self.old.gate.ear }
     {
         if self.phase.is_drain() {
             return Taken::Nothing;
@@ -150,7 +151,7 @@ impl Judging {
         ensures idle { IfNone result (self.new.phase ≡ Sound → IsIdle self.new.cells) }
         ensures closed { IfNone result (self.new.phase ≡ Rest → ⊥) }
         ensures same { SameSound self.old.cells self.new.cells }
-        ensures least { self.new.gate.least ≡ self.old.gate.least }
+        ensures ear { self.new.gate.ear ≡ self.old.gate.ear }
     {
         'cells: loop {
             match self.take() {
@@ -167,7 +168,7 @@ impl Judging {
         ensures none { IfNone result (self.new ≡ self.old) }
         ensures ahead { IfNone result (self.old.phase ≡ Drain → self.old.gate.ahead ≡ []) }
         ensures same { SameSound self.old.cells self.new.cells }
-        ensures least { self.new.gate.least ≡ self.old.gate.least }
+        ensures ear { self.new.gate.ear ≡ self.old.gate.ear }
     {
         if self.phase.is_drain() {
             self.gate.drain()
@@ -182,7 +183,7 @@ impl Judging {
         ensures none { IfNone result (GivesNone self.old self.new) }
         ensures settled { IfNone result (IsSettled self.new.phase self.new) }
         ensures same { SameSound self.old.cells self.new.cells }
-        ensures least { self.new.gate.least ≡ self.old.gate.least }
+        ensures ear { self.new.gate.ear ≡ self.old.gate.ear }
     {
         match self.judge() {
             Some(judged) => Some(judged),

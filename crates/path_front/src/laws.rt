@@ -1,31 +1,34 @@
 //! What follows from the definitions alone.
-ghost use Rattle.std.specs.Prelude.{◌≡◌, ℕ, ◌+◌, ◌*◌, ◌≤◌, ℤ, List, ◌++◌, length};
-ghost use Rattle.std.specs.List.{sum};
+ghost use Rattle.std.specs.Prelude.{◌≡◌, ℕ, ◌+◌, ◌*◌, ◌≤◌, ℤ, List, ◌++◌, length, take};
+ghost use Rattle.std.specs.List.{sum, All};
 ghost use Rattle.path_front.specs.declared.clip.TheConstants.{CLIP};
 ghost use Rattle.path_front.specs.declared.gate.TheConstants.{NEIGHBOURS};
+ghost use Rattle.path_front.specs.declared.gate.Ear.{Ear};
 ghost use Rattle.path_front.specs.declared.gate.Judged.{Judged};
 ghost use Rattle.path_front.specs.declared.latest.TheConstants.{KEPT};
-ghost use Rattle.path_front.specs.declared.levels.TheConstants.{FINE};
+ghost use Rattle.path_front.specs.declared.measured.Measured.{Measured};
 ghost use Rattle.path_front.specs.declared.sizes.TheConstants.{MEANS};
 ghost use Rattle.step_grid.specs.declared.grid.Grid.{Grid};
 ghost use Rattle.path_front.specs.declared.judging.Phase.TheVariants.{Sound};
 ghost use Rattle.path_front.specs.Front.{AreIntervals, AreIntervalsSoFar, FrontStandsFor, FrontState};
+ghost use Rattle.step_grid.specs.declared.grid.TheConstants.{MAX_TICKS};
+ghost use Rattle.path_front.specs.Gate.{breaks};
+ghost use Rattle.path_front.specs.Measured.{IsMeasured};
 ghost use Rattle.step_grid.specs.Grid.{AreStepsOf, IsGrid};
 ghost use Rattle.path_front.specs.Steps.{sounds_of};
-ghost use Rattle.path_front.specs.Tiles.{tiles_of};
+ghost use Rattle.path_front.specs.Tiles.{tiles_of, IsSaid};
 
 use cell_path::laws::{
     cells_are_decided_of_each_sound, one_list_is_decided, one_list_is_decided_in_all,
     the_cells_cover_the_sound, the_cells_decided_so_far_lie_in_the_sound, what_is_decided_stays,
 };
 
-/// Of how many sounds a mean size is, at what size samples are clipped, how finely levels are counted, and
-/// at how many neighbours the gate looks.
+/// Of how many sounds a mean size is, at what size samples are clipped, how many steps are kept, and at how
+/// many neighbours the gate looks.
 pub fn the_numbers_are_these()
     ensures means { MEANS ≡ 512 }
     ensures clip { CLIP ≡ 3 }
     ensures kept { KEPT ≡ 4_096 }
-    ensures fine { FINE ≡ 64 }
     ensures neighbours { NEIGHBOURS ≡ 8 }
 {}
 
@@ -33,6 +36,20 @@ pub fn the_numbers_are_these()
 pub fn the_intervals_of_a_cell_last_as_long()
     ensures long { (ticks : ℕ) (judged : Judged) → 2 ≤ ticks → 2 ≤ judged.cell.span
         → sum (tiles_of ticks judged) ≡ judged.cell.span * ticks }
+{}
+
+/// Each interval of a cell is one that a file can say.
+pub fn each_interval_of_a_cell_can_be_said()
+    ensures { (ticks : ℕ) (judged : Judged) → 2 ≤ ticks → ticks ≤ MAX_TICKS → IsMeasured judged.cell
+        → All IsSaid (tiles_of ticks judged) }
+{}
+
+/// The gate hears no further than eight cells on either side, so nothing but what lies beside a cell decides
+/// whether the stretch breaks in front of it: no silence, and no noise, that is further away.
+pub fn the_gate_hears_eight_cells_on_either_side()
+    ensures { (ear : Ear) (before other : List Measured) (cell : Measured) (behind far : List Measured)
+        → take NEIGHBOURS before ≡ take NEIGHBOURS other → take NEIGHBOURS behind ≡ take NEIGHBOURS far
+        → breaks ear before cell behind ≡ breaks ear other cell far }
 {}
 
 /// The samples of a sound have one list of intervals.

@@ -1,17 +1,21 @@
 //! The level of cells. Read next: `fit`.
-ghost use Rattle.std.specs.Prelude.{◌≡◌, ◌+◌, ◌+ℤ◌, ◌*◌, ◌/◌, ◌^◌, ◌<◌, ◌≤◌, ℕ, unsigned_abs, ◌∷◌, length, take};
+ghost use Rattle.std.specs.Prelude.{◌≡◌, ◌+◌, ◌+ℤ◌, ◌*◌, ◌/◌, ◌^◌, ◌<◌, ◌≤◌, unsigned_abs, length};
 ghost use Rattle.std.specs.List.{sum_by, All};
-ghost use Rattle.path_front.specs.Levels.{above, is_faint, level_of, mean_level, slowly};
+ghost use Rattle.path_front.specs.Levels.{above, eighths, is_faint, level_of, mean_level, range_by, IsRange};
 ghost use Rattle.path_front.specs.Measured.{IsMeasured};
-ghost use Rattle.path_front.specs.declared.measured.Measured.{Measured};
 
 use crate::measured::Measured;
+use cell_path::Bit;
 
-/// Levels are counted in 64ths of the unit of the samples.
-pub const FINE: u64 = 64;
+/// The mean levels of the cells before a cell and behind it: the lesser one, and the greater one.
+#[derive(Clone, Copy)]
+pub struct Range {
+    pub least: u64,
+    pub most: u64,
+}
 
 /// A number, or 0 if it is below zero.
-pub(crate) fn above(number: i64) -> u64
+fn above(number: i64) -> u64
     ensures value { result ≡ above number }
     ensures most { result ≤ unsigned_abs number }
 {
@@ -33,20 +37,20 @@ fn both_above(first: i64, second: i64) -> u64
 }
 
 /// The level of a cell: the mean of the sound times the signs.
-pub(crate) fn level(cell: &Measured) -> u64
+fn level(cell: &Measured) -> u64
     requires { IsMeasured cell.now }
     ensures value { result ≡ level_of cell.now }
-    ensures most { result ≤ 2 ^ 21 }
+    ensures most { result ≤ 2 ^ 15 }
 {
-    both_above(cell.first.sum, cell.second.sum) * 32 / u64::from(cell.length)
+    both_above(cell.first.sum, cell.second.sum) / (2 * u64::from(cell.length))
 }
 
 /// The sum of the levels of some cells.
-pub(crate) fn levels(cells: &[Measured]) -> u64
+fn levels(cells: &[Measured]) -> u64
     requires few { length cells.now ≤ 8 }
     requires measured { All IsMeasured cells.now }
     ensures value { result ≡ sum_by level_of cells.now }
-    ensures most { result ≤ length cells.now * 2 ^ 21 }
+    ensures most { result ≤ length cells.now * 2 ^ 15 }
 {
     let mut sum = 0;
     for cell in cells {
@@ -67,49 +71,61 @@ fn mean_of(sum: u64, many: usize) -> u64
     }
 }
 
-/// The mean of the levels of some cells, from their sum.
-pub(crate) fn mean_level(cells: &[Measured], sum: u64) -> u64
+/// The mean of the levels of some cells.
+fn mean_level(cells: &[Measured]) -> u64
     requires some { 0 < length cells.now }
-    requires sum { sum ≡ sum_by level_of cells.now }
-    requires most { sum ≤ length cells.now * 2 ^ 21 }
+    requires few { length cells.now ≤ 8 }
+    requires measured { All IsMeasured cells.now }
     ensures value { result ≡ mean_level cells.now }
-    ensures most { result ≤ 2 ^ 21 }
+    ensures most { result ≤ 2 ^ 15 }
 {
-    mean_of(sum, cells.len())
+    mean_of(levels(cells), cells.len())
 }
 
-/// The mean of a level and those of the next seven cells, from the sum of all levels behind it.
-pub(crate) fn mean_level_with(first: u64, behind: &[Measured], sum: u64) -> u64
-    requires first { first ≤ 2 ^ 21 }
-    requires few { length behind.now ≤ 8 }
-    requires measured { All IsMeasured behind.now }
-    requires sum { sum ≡ sum_by level_of behind.now }
-    requires most { sum ≤ length behind.now * 2 ^ 21 }
-    ensures { (cell : Measured) → first ≡ level_of cell → result ≡ mean_level (take 8 (cell ∷ behind.now)) }
+/// The mean levels of the neighbours: of those before a cell, and of those behind it where there are some.
+pub(crate) fn range_of(before: &[Measured], behind: &[Measured]) -> Range
+    requires some { 0 < length before.now }
+    requires few { length before.now ≤ 8 }
+    requires few_behind { length behind.now ≤ 8 }
+    requires before { All IsMeasured before.now }
+    requires behind { All IsMeasured behind.now }
+    ensures value { result ≡ range_by before.now behind.now }
+    ensures range { IsRange result }
 {
-    match behind.get(7) {
-        Some(last) => mean_of(first + sum - level(last), 8),
-        None => mean_of(first + sum, behind.len() + 1),
+    let near = mean_level(before);
+    if behind.is_empty() {
+        return Range {
+            least: near,
+            most: near,
+        };
+    }
+    let far = mean_level(behind);
+    Range {
+        least: near.min(far),
+        most: near.max(far),
     }
 }
 
-/// The latest value moves a slow mean by a 32nd of the difference.
-pub(crate) fn slowly(before: u64, latest: u64) -> u64
-    requires before { before ≤ 2 ^ 50 }
-    requires latest { latest ≤ 2 ^ 50 }
-    ensures value { result ≡ slowly before latest }
-    ensures most { (most : ℕ) → before ≤ most → latest ≤ most → result ≤ most }
+/// How many eighths of the level there have to be between two cells.
+fn eighths(before: Bit, bit: Bit) -> u64
+    ensures value { result ≡ eighths before bit }
+    ensures most { result ≤ 2 }
 {
-    (31 * before + latest) / 32
+    match (before, bit) {
+        (Bit::One, Bit::One) => 1,
+        (Bit::One, Bit::Zero) | (Bit::Zero, _) => 2,
+    }
 }
 
 /// Whether the sound from the middle of a cell to the middle of the next has no level.
-pub(crate) fn is_faint(before: &Measured, cell: &Measured, least: u64) -> bool
+pub(crate) fn is_faint(least: u32, level: u64, before: &Measured, cell: &Measured) -> bool
+    requires least { least ≤ 2 ^ 15 }
+    requires level { level ≤ 2 ^ 15 }
     requires before { IsMeasured before.now }
     requires cell { IsMeasured cell.now }
-    requires least { least ≤ 2 ^ 21 }
-    ensures { result ≡ is_faint before.now cell.now least }
+    ensures { result ≡ is_faint least level before.now cell.now }
 {
     let sum = both_above(before.second.sum, cell.first.sum);
-    FINE * sum < least * u64::from(before.length + cell.length)
+    let part = (eighths(before.bit, cell.bit) * level).max(2 * u64::from(least));
+    8 * sum < part * u64::from(before.length + cell.length)
 }

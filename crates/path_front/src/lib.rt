@@ -13,11 +13,11 @@
 //!   it ends, each measured in the sound of its own steps (`Cells::feed`, `Cells::finish`, `Cells::next`;
 //!   `specs/Cells.antt`, `GivesCell`, `GivesLastCell`; `specs/Measured.antt`, `measured_of`), whatever is
 //!   fetched when.
-//! - Each cell is judged by its eight neighbours on either side: the stretch of code breaks in front of
-//!   it if it jumps, if the sound from the middle of the cell before it to its own is too faint, if
-//!   a half does not fit, or if the path bends there, as at a cut of the tape (`Gate::feed`,
+//! - Each cell is judged by its eight neighbours on either side, and by nothing else: the stretch of code
+//!   breaks in front of it if it jumps, if the sound from the middle of the cell before it to its own is
+//!   too faint, if a half does not fit, or if the path bends there, as at a cut of the tape (`Gate::feed`,
 //!   `Gate::drain`; `specs/Gate.antt`, `breaks`; `specs/Levels.antt`, `specs/Fit.antt`,
-//!   `specs/Bend.antt`). What cells come behind these neighbours changes nothing.
+//!   `specs/Bend.antt`). So silence changes nothing but beside it.
 //! - Samples go in one by one, and the intervals of the best path come out: at the end those of the definition
 //!   over the list of all samples, and before it those of the cells that were judged so far, whenever they are
 //!   fetched (`Front::feed`, `Front::finish`, `Front::next`; `specs/Front.antt`, `AreIntervals`, `FrontStandsFor`).
@@ -50,14 +50,13 @@ mod tile;
 
 pub use cells::Cells;
 pub use clip::CLIP;
-pub use fit::{Fit, HalfFit, Range, Usual};
 pub use front::Front;
-pub use gate::{Gate, Judged, NEIGHBOURS};
+pub use gate::{Ear, Gate, Judged, NEIGHBOURS};
 pub use group::Sounds;
 pub use hold::{Loudness, Side};
 pub use judging::{Phase, Taken};
 pub use latest::KEPT;
-pub use levels::FINE;
+pub use levels::Range;
 pub use measured::{Half, Measured};
 pub use sizes::MEANS;
 pub use steps::Heard;

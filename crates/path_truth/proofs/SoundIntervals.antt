@@ -8,6 +8,7 @@ use Rattle.cell_path.specs.Decided.{placed, AreDecidedInAll}
 use Rattle.cell_path.specs.Lengths.{length_in}
 use Rattle.path_front.specs.Cells.{measured_cells}
 use Rattle.path_front.specs.Front.{intervals_before, AreIntervals}
+use Rattle.path_front.specs.Gate.{ear_of}
 use Rattle.path_front.specs.Steps.{path_steps, sounds_of}
 use Rattle.path_front.specs.Tiles.{cut}
 use Rattle.step_grid.specs.declared.grid.Grid.TheVariants.{Repeat}
@@ -40,7 +41,7 @@ intervals_in place ticks tape = cut true (intervals_of_tape (length_in LENGTHS p
 
 whole-intervals : (place : ℕ) (tape : List Cell) (repeats ticks least low high : ℕ) (samples : List ℤ)
     → IsSoundOf place tape repeats least low high samples → 5 * high ≤ 12 * low → 1 ≤ ticks
-    → intervals_before ticks least (measured_cells (sounds_of (Repeat repeats) least samples)
+    → intervals_before ticks (ear_of (Repeat repeats) least) (measured_cells (sounds_of (Repeat repeats) least samples)
     (placed (length (path_steps (sounds_of (Repeat repeats) least samples))) tape)) [] ≡ intervals_in place ticks tape
 whole-intervals place tape repeats ticks least low high samples is near some =
     let clear : IsClear least low high ticks =
@@ -52,7 +53,7 @@ whole-intervals place tape repeats ticks least low high samples is near some =
       some = some;
     } in
     let sounds = sounds_of (Repeat repeats) least samples in
-    tape-intervals place least low high ticks (length (path_steps sounds)) sounds tape [] clear
+    tape-intervals place (ear_of (Repeat repeats) least) low high ticks (length (path_steps sounds)) sounds tape [] clear
     (tape-in place tape repeats least low high samples is) tt
 
 pub intervals-only : (place : ℕ) (tape : List Cell) (repeats ticks least low high : ℕ) (samples : List ℤ)
@@ -62,7 +63,7 @@ pub intervals-only : (place : ℕ) (tape : List Cell) (repeats ticks least low h
 intervals-only place tape repeats ticks least low high samples intervals is near some decided are =
     let sounds = sounds_of (Repeat repeats) least samples in
     are.intervals_are
-    ∙ ap (λ c. intervals_before ticks least (measured_cells sounds c) []) (decided are.cells are.decided)
+    ∙ ap (λ c. intervals_before ticks (ear_of (Repeat repeats) least) (measured_cells sounds c) []) (decided are.cells are.decided)
     ∙ whole-intervals place tape repeats ticks least low high samples is near some
 
 pub intervals-are : ((steps : List Step) → (all : List Placed) × AreDecidedInAll steps all)

@@ -15,17 +15,18 @@ use Rattle.cell_path.specs.declared.cell.Step.{Step}
 use Rattle.cell_path.specs.declared.lengths.TheConstants.{LENGTHS}
 use Rattle.cell_path.specs.Decided.{placed}
 use Rattle.cell_path.specs.Lengths.{length_in}
+use Rattle.path_front.specs.declared.gate.Ear.{Ear}
 use Rattle.path_front.specs.declared.gate.Judged.{Judged}
 use Rattle.path_front.specs.declared.group.Sounds.{Sounds}
 use Rattle.path_front.specs.declared.measured.Measured.{Measured}
 use Rattle.path_front.specs.Cells.{cell_behind, measured_cells, plain}
 use Rattle.path_front.specs.Front.{intervals_before, judgements}
-use Rattle.path_front.specs.Gate.{breaks, long_of, refuses, usual_of}
+use Rattle.path_front.specs.Gate.{breaks, refuses}
 use Rattle.path_front.specs.Tiles.{cut, intervals, tiles_of}
 use Rattle.path_truth.specs.Intervals.{intervals_of_bit, intervals_of_tape}
 use Rattle.path_truth.specs.Sides.{KeepsSides}
 use Rattle.path_truth.specs.Sound.{alone}
-use Rattle.path_truth.proofs.FairCells.{long-most, AreFair}
+use Rattle.path_truth.proofs.FairCells.{AreFair}
 use Rattle.path_truth.proofs.MeasuredTape.{at, cell-fair, cells-fair, ends-at, next-tape, only-first-jumps, tape-long}
 use Rattle.path_truth.proofs.MeasuredTape.{IsTapeIn}
 use Rattle.path_truth.proofs.FairFit.{times}
@@ -83,15 +84,15 @@ tiles-of ticks n cell breaks length_is span_is even some long =
 flat-one : (ticks : ℕ) (judged : Judged) → flat_map (tiles_of ticks) (judged ∷ []) ≡ tiles_of ticks judged
 flat-one ticks judged = append-nil (tiles_of ticks judged)
 
-pushed : (ticks least : ℕ) (before : List Measured) (cell : Measured) (behind : List Measured)
-    → intervals_before ticks least (cell ∷ before) behind
-    ≡ intervals_before ticks least before (cell ∷ behind)
-    ++ tiles_of ticks (record { cell = cell; breaks = breaks least before cell behind })
+pushed : (ticks : ℕ) (ear : Ear) (before : List Measured) (cell : Measured) (behind : List Measured)
+    → intervals_before ticks ear (cell ∷ before) behind
+    ≡ intervals_before ticks ear before (cell ∷ behind)
+    ++ tiles_of ticks (record { cell = cell; breaks = breaks ear before cell behind })
 unfolding judgements
-pushed ticks least before cell behind =
-    let judged : Judged = record { cell = cell; breaks = breaks least before cell behind } in
-    flat_map-append (tiles_of ticks) (judgements least before (cell ∷ behind)) (judged ∷ [])
-    ∙ ap (λ l. intervals_before ticks least before (cell ∷ behind) ++ l) (flat-one ticks judged)
+pushed ticks ear before cell behind =
+    let judged : Judged = record { cell = cell; breaks = breaks ear before cell behind } in
+    flat_map-append (tiles_of ticks) (judgements ear before (cell ∷ behind)) (judged ∷ [])
+    ∙ ap (λ l. intervals_before ticks ear before (cell ∷ behind) ++ l) (flat-one ticks judged)
 
 cut-none : (xs : List ℕ) → cut false xs ≡ xs
 cut-none [] = refl
@@ -146,13 +147,13 @@ cell-tiles place low high ticks e sounds cell before breaks some is =
     (length_least place is.within) some
 
 -- the gate breaks the sound in front of no other cell
-no-break : (place least low high ticks e : ℕ) (sounds : List Sounds) (cell last : Cell) (before : List Cell)
-    (behind : List Measured) → IsClear least low high ticks → IsTapeIn place low high sounds e (cell ∷ last ∷ before)
+no-break : (place : ℕ) (ear : Ear) (low high ticks e : ℕ) (sounds : List Sounds) (cell last : Cell) (before : List Cell)
+    (behind : List Measured) → IsClear ear.least low high ticks → IsTapeIn place low high sounds e (cell ∷ last ∷ before)
     → AreFair low high (length_in LENGTHS place) behind
-    → breaks least (measured_cells sounds (placed (e - length_in LENGTHS cell.place) (last ∷ before)))
+    → breaks ear (measured_cells sounds (placed (e - length_in LENGTHS cell.place) (last ∷ before)))
     (measured e sounds cell (last ∷ before)) behind ≡ false
 unfolding placed measured_cells
-no-break place least low high ticks e sounds cell last before behind clear is come =
+no-break place ear low high ticks e sounds cell last before behind clear is come =
     let n = length_in LENGTHS place in
     let from = e - length_in LENGTHS cell.place in
     let next = next-tape place low high e sounds cell (last ∷ before) is in
@@ -161,37 +162,34 @@ no-break place least low high ticks e sounds cell last before behind clear is co
     let m = measured e sounds cell (last ∷ before) in
     let previous = measured from sounds last before in
     let others = measured_cells sounds (placed (from - length_in LENGTHS last.place) before) in
-    let long = long_of (m ∷ previous ∷ others) in
-    let usual = usual_of (previous ∷ others) (m ∷ behind) in
     let order = clear.order in
-    neither m.jumps (refuses least long usual (previous ∷ others) m behind)
-    (only-first-jumps place e cell last before is.go)
-    (refuses-none least low high n long usual previous others m behind clear.loud (omega (arith, clear.heard, order))
-    clear.near (long-most low high n (m ∷ previous ∷ others) (fair, rest)) rest fair come)
+    neither m.jumps (refuses ear (previous ∷ others) m behind) (only-first-jumps place e cell last before is.go)
+    (refuses-none ear low high n previous others m behind (omega (arith, clear.heard, order)) clear.near rest fair
+    come)
 
-pub tape-intervals : (place least low high ticks e : ℕ) (sounds : List Sounds) (cells : List Cell)
-    (behind : List Measured) → IsClear least low high ticks → IsTapeIn place low high sounds e cells
+pub tape-intervals : (place : ℕ) (ear : Ear) (low high ticks e : ℕ) (sounds : List Sounds) (cells : List Cell)
+    (behind : List Measured) → IsClear ear.least low high ticks → IsTapeIn place low high sounds e cells
     → AreFair low high (length_in LENGTHS place) behind
-    → intervals_before ticks least (measured_cells sounds (placed e cells)) behind
+    → intervals_before ticks ear (measured_cells sounds (placed e cells)) behind
     ≡ cut true (intervals_of_tape (length_in LENGTHS place * ticks) cells)
 unfolding placed measured_cells judgements intervals_of_tape
-tape-intervals place least low high ticks e sounds [] behind clear is come = refl
-tape-intervals place least low high ticks e sounds (cell ∷ []) behind clear is come =
-    pushed ticks least [] (measured e sounds cell []) behind
+tape-intervals place ear low high ticks e sounds [] behind clear is come = refl
+tape-intervals place ear low high ticks e sounds (cell ∷ []) behind clear is come =
+    pushed ticks ear [] (measured e sounds cell []) behind
     ∙ cell-tiles place low high ticks e sounds cell [] true clear.some is
-tape-intervals place least low high ticks e sounds (cell ∷ last ∷ before) behind clear is come =
+tape-intervals place ear low high ticks e sounds (cell ∷ last ∷ before) behind clear is come =
     let n = length_in LENGTHS place in
     let from = e - length_in LENGTHS cell.place in
     let m = measured e sounds cell (last ∷ before) in
     let rest = measured_cells sounds (placed from (last ∷ before)) in
     let fair = cell-fair place low high e sounds cell (last ∷ before) is in
     let next = next-tape place low high e sounds cell (last ∷ before) is in
-    let more = tape-intervals place least low high ticks from sounds (last ∷ before) (m ∷ behind) clear next
+    let more = tape-intervals place ear low high ticks from sounds (last ∷ before) (m ∷ behind) clear next
     (fair, come) in
-    let free = no-break place least low high ticks e sounds cell last before behind clear is come in
+    let free = no-break place ear low high ticks e sounds cell last before behind clear is come in
     let one = ap (λ b. tiles_of ticks (record { cell = m; breaks = b })) free
     ∙ cell-tiles place low high ticks e sounds cell (last ∷ before) false clear.some is
     ∙ cut-none (intervals_of_bit (n * ticks) cell.bit) in
-    pushed ticks least rest m behind ∙ ap₂ (λ a b. a ++ b) more one
+    pushed ticks ear rest m behind ∙ ap₂ (λ a b. a ++ b) more one
     ∙ sym (cut-front (intervals_of_tape (n * ticks) (last ∷ before)) (intervals_of_bit (n * ticks) cell.bit)
     (tape-some (n * ticks) last before))

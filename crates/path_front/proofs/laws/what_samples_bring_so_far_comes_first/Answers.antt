@@ -1,6 +1,7 @@
 use Rattle.std.proofs.Common.{[], refl}
 use Rattle.path_front.specs.Cells.{measured_cells}
 use Rattle.path_front.specs.Front.{intervals_before, intervals_of_judged}
+use Rattle.path_front.specs.Gate.{ear_of}
 use Rattle.path_front.specs.Steps.{path_steps, sounds_of}
 use Rattle.path_front.proofs.SoFar.{so_far_first, so_far_in_all, so_far_once}
 use Rattle.path_front.proofs.laws.what_samples_bring_so_far_comes_first.Goals as goal
@@ -20,7 +21,7 @@ pub returns-clause-some : goal.returns-clause-some
 returns-clause-some c = λ grid ticks least samples.
     let sounds = sounds_of grid least samples in
     let all = c.cells_are_decided_of_each_sound.ensures.decided (path_steps sounds) in (
-      intervals_of_judged ticks least (measured_cells sounds all.0),
+      intervals_of_judged ticks (ear_of grid least) (measured_cells sounds all.0),
       record { cells = all.0; decided = all.1; intervals_are = refl },
     )
 
@@ -28,6 +29,6 @@ pub returns-clause-whole : goal.returns-clause-whole
 returns-clause-whole c = λ grid ticks least samples.
     let sounds = sounds_of grid least samples in
     let all = c.cells_are_decided_of_each_sound.ensures.in_all (path_steps sounds) in (
-      intervals_before ticks least (measured_cells sounds all.0) [],
+      intervals_before ticks (ear_of grid least) (measured_cells sounds all.0) [],
       record { cells = all.0; decided = all.1; intervals_are = refl },
     )

@@ -11,5 +11,5 @@ returns-clause-most c =
     let a : FitsSigned w64 cell.first.sum = search rules in
     let b : FitsSigned w64 cell.second.sum = search rules in
     let most = rw (to_z-of_z a, to_z-of_z b) at c.both_above.ensures.most in
-    subst (λ n. c.both_above.result * 32 / n ≤ 2 ^ 21) (sym c.from.ensures)
-    (div-le_of_le-mul cell.length (omega (arith, most, r.first.sum, r.second.sum)))
+    subst (λ n. c.both_above.result / (2 * n) ≤ 2 ^ 15) (sym c.from.ensures)
+    (div-le_of_le-mul (2 * cell.length) (omega (arith, most, r.first.sum, r.second.sum)))

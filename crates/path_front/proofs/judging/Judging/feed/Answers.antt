@@ -3,6 +3,7 @@ use Rattle.std.proofs.Common.{◌∙◌}
 use Rattle.std.specs.Int.{w16}
 use Rattle.path_front.specs.declared.judging.Phase.TheVariants.{Sound}
 use Rattle.path_front.specs.Cells.{sounds_in, CellsStandFor}
+use Rattle.path_front.specs.Gate.{ear_of}
 use Rattle.path_front.specs.Judging.{CellsIn, JudgingState, JudgingStandFor}
 use Rattle.path_front.specs.Steps.{sounds_of}
 use Rattle.path_front.proofs.CellsNext.{cells_stay, sounds_more}
@@ -27,7 +28,7 @@ returns-clause-stands c = λ samples judged stand_now.
       cells = subst (λ p. CellsIn p c.feed.new.self (sample ∷ samples) stand.given) (sym phase)
           (stands samples stand.given cells);
       gate = stand.gate;
-      least = stand.least ∙ sym e.least;
+      ear = stand.ear ∙ sym (ap₂ ear_of e.grid e.least);
       order = stand.order ∙ ap reverse (sym (cells_stay (sounds_in i.cells samples)
           (sounds_in c.feed.new.self (sample ∷ samples)) cells.sounds
           (replicate i.cells.steps.left i.cells.steps.latest) more.0 stand.given cells.steps.all now cells.within));

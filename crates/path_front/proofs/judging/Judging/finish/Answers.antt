@@ -1,9 +1,8 @@
 use Rattle.std.proofs.Common.{◌≡◌, reverse, ap, subst, sym, ◌∙◌}
 use Rattle.path_front.specs.declared.judging.Phase.TheVariants.{Sound}
 use Rattle.path_front.specs.Cells.{measured_cells, CellsStandFor}
-use Rattle.path_front.specs.Gate.{GateStandsFor}
-use Rattle.path_front.specs.Judging.{is_drain, CellsIn, ForMore, JudgingState, JudgingStandFor}
-use Rattle.path_front.proofs.JudgingNext.{same_sounds}
+use Rattle.path_front.specs.Judging.{is_drain, CellsIn, JudgingState, JudgingStandFor}
+use Rattle.path_front.proofs.JudgingNext.{same_ear, same_sounds}
 use Rattle.path_front.proofs.judging.Judging.finish.Goals as goal
 
 pub returns-clause-stands : goal.returns-clause-stands
@@ -17,8 +16,8 @@ returns-clause-stands c = λ samples judged stand_now.
     record {
       given = stand.given;
       cells = e.stands samples stand.given cells;
-      gate = subst (λ p. ForMore p (λ more. GateStandsFor i.gate judged more)) phase stand.gate;
-      least = stand.least ∙ sym e.same.least;
+      gate = stand.gate;
+      ear = stand.ear ∙ same_ear i.cells c.finish.new.self e.same;
       order = stand.order
           ∙ ap (λ s. reverse (measured_cells s stand.given))
           (sym (same_sounds i.cells c.finish.new.self samples e.same));

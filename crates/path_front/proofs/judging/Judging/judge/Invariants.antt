@@ -7,7 +7,7 @@ abbrev pub invariant-cells : goal.invariant-cells
 invariant-cells l = record {
   none : GivesNone l.initial.self l.self;
   same : SameSound l.initial.self.cells l.self.cells;
-  least : l.self.gate.least ≡ l.initial.self.gate.least;
+  ear : l.self.gate.ear ≡ l.initial.self.gate.ear;
 }
 
 abbrev pub decreases-cells : goal.decreases-cells

@@ -1,5 +1,6 @@
-use Rattle.std.proofs.Common.{◌≤◌, [], length, subst, sym, ◌∙◌, arith}
+use Rattle.std.proofs.Common.{◌≤◌, [], length, ap₂, subst, sym, ◌∙◌, arith}
 use Rattle.path_front.specs.Cells.{measured_cells}
+use Rattle.path_front.specs.Gate.{ear_of}
 use Rattle.path_front.proofs.judging.Judging.new.Goals as goal
 
 pub returns-clause-stands : goal.returns-clause-stands
@@ -8,7 +9,7 @@ returns-clause-stands c = record {
   given = [];
   cells = c.new.ensures.stands;
   gate = c.new-2.ensures.stands;
-  least = c.new-2.ensures.least ∙ sym c.new.ensures.least;
+  ear = c.new-2.ensures.ear ∙ c.ear_of.ensures.value ∙ sym (ap₂ ear_of c.new.ensures.grid c.new.ensures.least);
   order = c.new-2.ensures.ahead;
   few = subst (λ l. length l ≤ 8) (sym c.new-2.ensures.ahead) (omega arith);
   eight = λ is some. absurd (omega arith);

@@ -31,13 +31,13 @@ returns-clause-takes c =
           let f = w.in-Some-feed.ensures in
           subst (λ (s : JudgingState). Takes s new c.match-feed.result) c.self.view_is
           (subst (λ r. Takes (judging i.cells i.gate i.phase) new r) (sym w.result-is)
-          (judges_next i.phase i.cells now i.gate next cell w.in-Some-feed.judged opened e.gives e.rest e.same f.least
+          (judges_next i.phase i.cells now i.gate next cell w.in-Some-feed.judged opened e.gives e.rest e.same f.ear
           f.front f.judges f.cell e.less f.eight))
       | in-None w ↦
           let f = w.in-None.ensures in
           subst (λ (s : JudgingState). Takes s new c.match-feed.result) c.self.view_is
           (subst (λ r. Takes (judging i.cells i.gate i.phase) new r) (sym w.result-is) (
-            waits i.phase i.cells now i.gate next cell opened e.gives e.rest e.same f.least f.waits f.stands e.less
+            waits i.phase i.cells now i.gate next cell opened e.gives e.rest e.same f.ear f.waits f.stands e.less
                 f.room,
             waits_less i.phase i.cells now i.gate next cell f.waits e.less,
           ))
