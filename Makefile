@@ -37,6 +37,8 @@ EXAMPLES = $(wildcard examples/*)
 # pixels into runs are examples too.
 DOCUMENTS = $(shell find docs conformance -type f) compat/README.md
 TOOLS = tools/draw_report tools/plot_chase tools/line_runs tools/line_rows
+# The way from these examples to the parts that they need, whatever the prefix is.
+TO_LIBDIR = $(shell realpath -m --relative-to="$(DOCDIR)/examples/tools" "$(LIBDIR)")
 
 # The name under which it is installed, in place of tc where the text speaks of the program.
 RENAME = sed -e 's/_tc\b/_$(PROGRAM)/g' -e 's/\b_tc_/_$(PROGRAM)_/g' -e 's/^\#compdef tc$$/\#compdef $(PROGRAM)/' \
@@ -118,8 +120,8 @@ install:
 	install -m 644 $(EXAMPLES) "$(DESTDIR)$(DOCDIR)/examples"
 	$(RENAME_DOCUMENTS) "$(DESTDIR)$(DOCDIR)"/docs/guide/*.md "$(DESTDIR)$(DOCDIR)"/docs/reference/*.md "$(DESTDIR)$(DOCDIR)/examples/README.md"
 	$(RENAME_README) "$(DESTDIR)$(DOCDIR)/README.md"
-	install -m 755 $(TOOLS) "$(DESTDIR)$(DOCDIR)/examples/tools"
-	install -m 755 tools/tape tools/archive tools/live tools/draw_report "$(DESTDIR)$(LIBDIR)"
+	install -m 755 tools/tape tools/archive tools/live $(TOOLS) "$(DESTDIR)$(LIBDIR)"
+	for tool in $(notdir $(TOOLS)); do ln -sf "$(TO_LIBDIR)/$$tool" "$(DESTDIR)$(DOCDIR)/examples/tools/$$tool"; done
 	install -m 644 $(wildcard tools/tape_report/*.*) "$(DESTDIR)$(LIBDIR)/tape_report"
 	install -m 644 $(wildcard tools/live_station/*.*) "$(DESTDIR)$(LIBDIR)/live_station"
 	install -m 644 VERSION "$(DESTDIR)$(LIBDIR)"

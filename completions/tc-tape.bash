@@ -3,7 +3,7 @@ _tc_tape() {
     local word=${COMP_WORDS[COMP_CWORD]} before=${COMP_WORDS[COMP_CWORD - 1]}
     local options="--track --system --rate --limit --all-words --threshold --smooth --deep --path --vitc --json --force --version"
     case ${COMP_WORDS[0]##*/} in
-        *-archive) options+=" --jobs --hosts --resume --part --edl --ale --margin" ;;
+        *-archive) options+=" --jobs --hosts --resume --all --part --edl --ale --margin" ;;
         *) options+=" --csv --picture --page --stamp" ;;
     esac
     case $before in

@@ -31,16 +31,16 @@ class Board:
         """Shows what is new, and wakes who serves it."""
         now = replace(self.shown, **changes)
         if now.state != self.shown.state:
-            now = replace(now, since=time.time())
+            now = replace(now, since=time.monotonic())
         if now == self.shown:
             return
         self.shown = now
         for wake in self.wakes:
             wake()
 
-    def happen(self, kind: str, label: str = "", text: str = "") -> None:
-        """Something happened, now."""
-        event = Event(time.time(), kind, label, text)
+    def happen(self, kind: str, label: str = "", text: str = "", at: float | None = None) -> None:
+        """Something happened, now if nothing else is said."""
+        event = Event(time.time() if at is None else at, kind, label, text)
         self.events.append(event)
         for listener in self.listeners:
             listener(event)

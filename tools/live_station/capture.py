@@ -27,6 +27,8 @@ BLOCK_TIME, KEPT_TIME = 10_000, 500_000
 FILE_BLOCK = 512
 PIECE = 8_192
 ANSWER_SECONDS = 5
+# How often JACK is asked for its ports.
+PORT_SECONDS = 1.0
 STANDARD_INPUT = "-"
 
 
@@ -40,6 +42,8 @@ class Capture:
         self.notes: int | None = None
         self.rest = b""
         self.left: int | None = None
+        # How many seconds lie between blocks, if these are long.
+        self.apart = 0.0
         os.set_blocking(descriptor, False)
 
     def read(self) -> bytes | None:
@@ -60,6 +64,10 @@ class Capture:
         size = len(data) // self.form.block * self.form.block
         self.rest = data[size:]
         return data[:size] or None
+
+    def fault(self) -> str:
+        """Why its samples are none, though some may come; empty if they are."""
+        return ""
 
     def close(self) -> str:
         """Ends it, and says how it ended."""
@@ -84,6 +92,27 @@ class Recorder(Capture):
         return f"{self.program} ended with {children.how(children.ended(self.process))}"
 
 
+class JackRecorder(Recorder):
+    """A port of JACK. A program that listens to a port which is gone gets silence: so it is looked for."""
+
+    def __init__(self, port: str, form: Form) -> None:
+        super().__init__(f"JACK {shown(port)}", form, ["jack-stdout", "-q", port])
+        self.port, self.is_gone, self.is_over = port, False, threading.Event()
+        self.thread = threading.Thread(target=self.watch, name="JACK's ports", daemon=True)
+        self.thread.start()
+
+    def watch(self) -> None:
+        while not self.is_gone and not self.is_over.wait(PORT_SECONDS):
+            self.is_gone = jack_has(self.port) is False
+
+    def fault(self) -> str:
+        return "there is no such port any more" if self.is_gone else ""
+
+    def close(self) -> str:
+        self.is_over.set()
+        return super().close()
+
+
 class Streamed(Capture):
     """Standard input, of which a first part was read."""
 
@@ -100,7 +129,7 @@ class Played(Capture):
     ) -> None:
         reading, writing = os.pipe()
         super().__init__(name, form, reading)
-        self.rest = begun
+        self.rest, self.apart = begun, FILE_BLOCK / form.rate / pace
         words = (source, writing, form, left, pace)
         self.thread = threading.Thread(target=play, args=words, name="player", daemon=True)
         self.thread.start()
@@ -145,7 +174,23 @@ def jack(port: str, rate: int | None) -> Capture:
     # Nobody who listens starts a server.
     os.environ.setdefault("JACK_NO_START_SERVER", "1")
     form = Form(rate or jack_rate(), 1)
-    return Recorder(f"JACK {shown(port)}", form, ["jack-stdout", "-q", port])
+    if jack_has(port) is False:
+        raise NoSound(f"JACK {shown(port)}: there is no such port; jack_lsp lists those that are there")
+    return JackRecorder(port, form)
+
+
+def jack_has(port: str) -> bool | None:
+    """Whether the JACK server has a port of this name; None if it does not answer, or nobody is there to ask it."""
+    if shutil.which("jack_lsp") is None:
+        return None
+    asking = children.started(["jack_lsp"], stderr=children.NOTHING)
+    try:
+        told, _ = asking.communicate(timeout=ANSWER_SECONDS)
+    except (subprocess.TimeoutExpired, ValueError, OSError):
+        told = b""
+    if children.ended(asking) != 0 or not told:
+        return None
+    return os.fsencode(port) in told.split(b"\n")
 
 
 def jack_rate() -> int:

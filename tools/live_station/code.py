@@ -1,4 +1,5 @@
 """What is known of the code now, from the lines of `tc`, and what happened to it."""
+import time
 from collections.abc import Iterator
 from dataclasses import dataclass
 from fractions import Fraction
@@ -41,6 +42,8 @@ class Code:
     length: int = 0
     user: str = ""
     last: Heard | None = None
+    # The label of the first word, and the moment at which it came, until a frame is heard.
+    first: tuple[str, float] | None = None
     words: int = 0
     refused: int = 0
     # How many frames were heard and invented, and how often the code was gone.
@@ -64,6 +67,8 @@ class Code:
     def begin(self, system: int | None) -> None:
         """The frames are read anew, as those of a system."""
         self.system, self.last, self.invented = system, None, 0
+        if system is None:
+            self.first = None
 
     def take(self, line: Line) -> Iterator[Happening]:
         """What a line says, and what happened by it."""
@@ -81,12 +86,19 @@ class Code:
             self.state, self.invented = LOST, 0
             self.gone += 1
 
+    def lose(self) -> None:
+        """No samples come: whatever was heard is gone."""
+        if self.state in (HEARD, INVENTED):
+            self.state, self.invented = LOST, 0
+
     def after_invented(self) -> str:
         return f"after {frames(self.invented)} invented" if self.invented else "no frame invented"
 
     def take_word(self, word: Word) -> None:
         self.words += 1
         self.length, self.user = word.length, word.user
+        if self.last is None and self.first is None:
+            self.first = (word.label, time.time())
         if self.system is None:
             # Until the system is known no frame is given, but the words are.
             self.state, self.label, self.direction = HEARD, word.label, word.direction
@@ -94,7 +106,9 @@ class Code:
     def take_heard(self, heard: Heard) -> Iterator[Happening]:
         before, was = self.last, self.state
         if before is None:
-            yield Happening(CODE, heard.label, f"{heard.direction}, {self.system} frames a second")
+            label, at = self.first or (heard.label, None)
+            yield Happening(CODE, label, f"{heard.direction}, {self.system} frames a second", at)
+            self.first = None
         elif heard.joined:
             if self.invented:
                 yield Happening(DROPOUT, heard.label, f"{frames(self.invented)}, bridged")

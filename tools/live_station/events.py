@@ -4,7 +4,8 @@ from dataclasses import dataclass
 
 BEGINS, ENDS = "begins", "ends"
 CODE, DROPOUT, JUMP, TURN, COUNT, GONE = "code", "drop-out", "jump", "turn", "count", "gone"
-SYSTEM, CARD, READING, MIDI, PAGE, LOG, NOTE = "system", "card", "reading", "midi", "page", "log", "note"
+SYSTEM, CARD, SAMPLES, READING = "system", "card", "samples", "reading"
+MIDI, PAGE, LOG, NOTE = "midi", "page", "log", "note"
 
 
 @dataclass(frozen=True)
@@ -14,6 +15,8 @@ class Happening:
     kind: str
     label: str = ""
     text: str = ""
+    # When it happened, in seconds of the machine's clock, if that is not now.
+    at: float | None = None
 
 
 @dataclass(frozen=True)
@@ -44,7 +47,3 @@ class Event:
     def record(self) -> str:
         """A line of the log."""
         return f"{self.stamp} {self.kind} {self.label or '-'} {self.text}".rstrip() + "\n"
-
-
-def now(happening: Happening) -> Event:
-    return Event(time.time(), happening.kind, happening.label, happening.text)

@@ -17,11 +17,17 @@ def loudest(levels: list[float], track: int) -> str:
     return f" Track {number} has {level:.0f} dB." if number and level >= here + LOUDER else ""
 
 
-def without_samples(source: str) -> str:
+def without_samples(source: str, note: str) -> str:
     """The card or the server is gone. It is opened again by itself."""
     if source.startswith("JACK"):
-        return f"no samples from {source}: does the JACK server run?"
+        return note if "port" in note else f"no samples from {source}: does the JACK server run?"
     return f"no samples from {source}: is its cable in, and its power on?"
+
+
+def samples_missing(source: str, age: float | None) -> str:
+    """An input that is open gives nothing."""
+    old = "" if age is None else f"; the label is {age:.0f} s old" if age >= 1 else f"; the label is {age:.1f} s old"
+    return f"no samples from {source}{old}: does it still run?"
 
 
 def without_code(code: Code, track: int, level: float, levels: list[float]) -> str:

@@ -18,7 +18,7 @@ from tape_report.faults import Fault
 
 from .reader import FOLLOWING, Reader, answer, asked, refusal
 from .screen import state_text
-from .shown import HISTORY_RATE, HISTORY_SECONDS, Shown
+from .shown import HISTORY_RATE, HISTORY_SECONDS, Moment, Shown, now
 
 LOOPBACK = "127.0.0.1"
 # More readers than these are refused.
@@ -46,16 +46,18 @@ def is_loopback(address: str) -> bool:
     return address == "localhost"
 
 
-def state_of(it: Shown, now: float) -> dict[str, Any]:
+def state_of(it: Shown, moment: Moment) -> dict[str, Any]:
     """The display as a message has it."""
+    age = it.age(moment)
     return {
-        "clock": time.strftime("%H:%M:%S", time.localtime(now)),
+        "clock": time.strftime("%H:%M:%S", time.localtime(moment.clock)),
         "source": it.source,
         "track": it.track,
         "system": it.system,
         "state": it.state,
-        "text": state_text(it, now),
+        "text": state_text(it, moment),
         "label": it.label,
+        "age": None if age is None else round(age, 1),
         "direction": it.direction,
         "invented": it.invented,
         "speed": it.speed,
@@ -82,9 +84,9 @@ def message(data: object, kind: str = "") -> bytes:
     return f"{name}data: {json.dumps(data, separators=(',', ':'))}\n\n".encode("ascii")
 
 
-def whole_of(it: Shown, now: float) -> bytes:
+def whole_of(it: Shown, moment: Moment) -> bytes:
     """What a reader begins with."""
-    return message(history_of(it), "history") + message(events_of(it), "events") + message(state_of(it, now))
+    return message(history_of(it), "history") + message(events_of(it), "events") + message(state_of(it, moment))
 
 
 class Page:
@@ -141,6 +143,8 @@ class Page:
             if time.monotonic() >= looked_at + LOOKED_AT:
                 looked_at = time.monotonic()
                 self.look(looked_at)
+        # Those who follow get to know how it ended.
+        self.tell()
         for descriptor in list(self.readers):
             self.drop(descriptor)
         self.socket.close()
@@ -178,18 +182,18 @@ class Page:
             reader.push()
             if reader.has_missed and not reader.kept and reader.state == FOLLOWING:
                 reader.has_missed = False
-                reader.send(whole_of(self.read(), time.time()))
+                reader.send(whole_of(self.read(), now()))
         self.settle(reader)
 
     def reply(self, reader: Reader, request: bytes) -> None:
         status, path = asked(request)
-        it, now = self.read(), time.time()
+        it, moment = self.read(), now()
         if status == 200 and path == "/":
             reader.give(answer(200, HTML, self.html))
         elif status == 200 and path == "/events":
-            reader.follow(whole_of(it, now))
+            reader.follow(whole_of(it, moment))
         elif status == 200 and path == "/state":
-            told = {**state_of(it, now), "events": events_of(it)}
+            told = {**state_of(it, moment), "events": events_of(it)}
             reader.give(answer(200, JSON, json.dumps(told).encode("ascii") + b"\n"))
         else:
             reader.give(refusal(404 if status == 200 else status))
@@ -211,7 +215,7 @@ class Page:
         followers = [reader for reader in self.readers.values() if reader.state == FOLLOWING]
         if not followers:
             return
-        data = message(state_of(it, time.time()))
+        data = message(state_of(it, now()))
         if it.events != self.told:
             data += message(events_of(it), "events")
         self.told = it.events

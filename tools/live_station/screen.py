@@ -4,10 +4,10 @@ from dataclasses import dataclass
 
 from . import code, shown
 from .digits import NO_LABEL, big, rows_of, scale_for
-from .shown import Shown
+from .shown import Moment, Shown
 
 GREEN, YELLOW, RED, GREY, BOLD = "32", "33", "31", "90", "1"
-COLOURS = {code.HEARD: GREEN, code.INVENTED: YELLOW, code.LOST: RED, shown.CARD_LOST: RED}
+COLOURS = {code.HEARD: GREEN, code.INVENTED: YELLOW, code.LOST: RED, shown.CARD_LOST: RED, shown.NO_SAMPLES: RED}
 # The level is drawn from here to full scale, in decibels.
 LOWEST = -60.0
 # The lines beside the digits: the head, the state, the level, what to do, the ways, and gaps; and events at least.
@@ -33,12 +33,18 @@ def cut(text: str, columns: int) -> str:
     return text if len(text) <= columns else text[: max(0, columns - 1)] + ("~" if columns else "")
 
 
-def state_text(it: Shown, now: float) -> str:
+def speed_text(speed: int) -> str:
+    """A speed in thousandths; 1.000 is nominal."""
+    return f"{speed / 1000:.3f}"
+
+
+def state_text(it: Shown, now: Moment) -> str:
     """What is known of the code, in a word."""
-    seconds = max(0, int(now - it.since))
+    seconds = max(0, int(now.steady - it.since))
     gone = f"{seconds} s" if seconds < 100 else f"{seconds // 60} min"
     return {
         shown.WAITING: "NO SAMPLES",
+        shown.NO_SAMPLES: f"NO SAMPLES {gone}",
         shown.CARD_LOST: f"CARD LOST {gone}",
         shown.ENDED: "ENDED",
         code.NONE: "NO CODE",
@@ -48,9 +54,9 @@ def state_text(it: Shown, now: float) -> str:
     }[it.state]
 
 
-def state_line(it: Shown, now: float) -> str:
+def state_line(it: Shown, now: Moment) -> str:
     parts = [f"{state_text(it, now):13}", f"{it.direction:8}"]
-    parts.append(f"speed {it.speed:4}" if it.speed else 10 * " ")
+    parts.append(f"speed {speed_text(it.speed):5}" if it.speed else 11 * " ")
     parts.append(f"user {it.user}" if it.user else 13 * " ")
     parts.append(f"{it.system} frames" if it.system else "")
     return "  ".join(parts).rstrip()
@@ -73,9 +79,9 @@ def level_line(it: Shown, style: Style) -> str:
     return said + "".join(bar) + behind
 
 
-def head(it: Shown, now: float, columns: int) -> str:
+def head(it: Shown, now: Moment, columns: int) -> str:
     """Where the sound comes from, and the time of day."""
-    clock = time.strftime("%H:%M:%S", time.localtime(now))
+    clock = time.strftime("%H:%M:%S", time.localtime(now.clock))
     left = cut(f"{it.source}  track {it.track}  {it.rate} samples a second", columns - len(clock) - 2)
     return f"{left}{clock:>{columns - len(left)}}"
 
@@ -95,7 +101,7 @@ def digits(it: Shown, style: Style, lines: int) -> list[str]:
     return [style.in_colour(left + row, f"{BOLD};{colour}" if not scale else colour) for row in rows]
 
 
-def rows(it: Shown, style: Style, now: float) -> list[str]:
+def rows(it: Shown, style: Style, now: Moment) -> list[str]:
     """The lines of the display, from the first on: at most as many as there are."""
     columns, room = style.columns, style.lines - OTHER_LINES - LEAST_EVENTS
     if style.lines < OTHER_LINES + 2 or columns < len(NO_LABEL):
@@ -114,18 +120,19 @@ def rows(it: Shown, style: Style, now: float) -> list[str]:
     return drawn[: style.lines]
 
 
-def small(it: Shown, style: Style, now: float) -> list[str]:
+def small(it: Shown, style: Style, now: Moment) -> list[str]:
     """If there is little room: the label, its state, the level and what to do."""
     colour = COLOURS.get(it.state, GREY)
     texts = [it.label or NO_LABEL, state_line(it, now), level_line(it, style), it.hint]
     return [style.in_colour(cut(text, style.columns), colour) for text in texts[: style.lines]]
 
 
-def plain_line(it: Shown, now: float) -> str:
+def plain_line(it: Shown, now: Moment) -> str:
     """The display as one line, if there is no terminal."""
-    clock = time.strftime("%H:%M:%S", time.localtime(now))
+    clock = time.strftime("%H:%M:%S", time.localtime(now.clock))
     level = f"level {it.level:.1f} dB" if it.level is not None else ""
-    parts = (clock, it.label, state_text(it, now).lower(), it.direction, f"speed {it.speed}" if it.speed else "")
+    speed = f"speed {speed_text(it.speed)}" if it.speed else ""
+    parts = (clock, it.label, state_text(it, now).lower(), it.direction, speed)
     return " ".join(part for part in (*parts, f"user {it.user}" if it.user else "", level) if part)
 
 

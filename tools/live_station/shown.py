@@ -1,12 +1,25 @@
 """What is shown: one value that nobody changes, which the station replaces and others read."""
+import time
 from dataclasses import dataclass
 
 from .events import Event
 
 # What the station itself adds to the states of the code.
-WAITING, CARD_LOST, ENDED = "waiting", "card lost", "ended"
+WAITING, NO_SAMPLES, CARD_LOST, ENDED = "waiting", "no samples", "card lost", "ended"
 # How many speeds are kept a second, and for how many seconds.
 HISTORY_RATE, HISTORY_SECONDS = 2, 300
+
+
+@dataclass(frozen=True)
+class Moment:
+    """A moment, by the machine's clock and by one that nobody sets."""
+
+    clock: float = 0.0
+    steady: float = 0.0
+
+
+def now() -> Moment:
+    return Moment(time.time(), time.monotonic())
 
 
 @dataclass(frozen=True)
@@ -21,8 +34,9 @@ class Shown:
     label: str = ""
     direction: str = ""
     invented: int = 0
-    # When the state began, in seconds of the machine's clock.
+    # When the state began, and when the label was heard or invented, in seconds of a clock that nobody sets.
     since: float = 0.0
+    labelled: float | None = None
     # In thousandths of nominal.
     speed: int = 0
     user: str = ""
@@ -39,3 +53,7 @@ class Shown:
     # there ever were.
     history: tuple[int | None, ...] = ()
     kept: int = 0
+
+    def age(self, moment: Moment) -> float | None:
+        """How old the label is, in seconds."""
+        return None if self.labelled is None else max(0.0, moment.steady - self.labelled)

@@ -1,5 +1,6 @@
 """The loop of the station: samples in, lines out, and what is shown of them."""
 import argparse
+import errno
 import signal
 import sys
 import threading
@@ -7,7 +8,8 @@ import time
 from functools import partial
 from types import FrameType
 
-from tape_report.endings import BY_SIGNAL, CAUGHT, end_if_told
+from tape_report.endings import BY_SIGNAL, CAUGHT, FAILED, end_if_told, say
+from tape_report.faults import reason_of
 from tape_report.names import shown as shown_name
 from tape_report.programs import version
 
@@ -17,7 +19,7 @@ from .capture import Capture
 from .chain import Chain, Slicing
 from .code import Code
 from .level import FLOOR, Meter, levels_of
-from .lines import Line, Word
+from .lines import Heard, Invented, Line, Word
 from .log import Log
 from .loop import Loop
 from .midi import Midi
@@ -27,13 +29,15 @@ from .system import System
 from .terminal import Display, display
 
 # How often timed work is done; and how often the levels of all tracks are shown, while nothing is heard, in seconds.
-LOOKED_AFTER, LEVELS_SECONDS = 0.1, 1.0
+LOOKED_AFTER, LEVELS_SECONDS = 0.05, 1.0
 # When a reading that ended is begun again; and how long what was read at the end is waited for, in seconds.
 AGAIN, END_SECONDS = 1.0, 10.0
 # After these seconds without code the operator is told what to do.
 HINT_SECONDS = 1.0
 GIVES_WAY = 0.001
 BROKEN_PIPE = BY_SIGNAL + 13
+# What a pipe and a terminal answer that were closed.
+GONE = (errno.EPIPE, errno.EIO, errno.ENOTTY)
 
 
 class Station:
@@ -116,9 +120,13 @@ class Station:
         name = fault.thread.name if fault.thread else "a thread"
         self.board.report(events.NOTE, f"a fault of this tool, {name} has ended: {fault.exc_value!r}")
 
-    def leave(self) -> None:
-        """Nobody reads standard output any more."""
-        self.status = BROKEN_PIPE
+    def leave(self, fault: OSError) -> None:
+        """Nobody reads standard output any more, or nothing can be written there."""
+        if fault.errno in GONE:
+            self.status = BROKEN_PIPE
+            return
+        say(f"standard output: {reason_of(fault)}")
+        self.status = FAILED
 
     def close(self) -> None:
         """Ends all that was started, whatever happened."""
@@ -189,7 +197,9 @@ class Station:
             self.board.happen(events.SYSTEM, line.label, f"{self.system.found} frames a second, by the labels")
             self.begin_frames(self.system.found)
         for happening in self.code.take(line):
-            self.board.happen(happening.kind, happening.label, happening.text)
+            self.board.happen(happening.kind, happening.label, happening.text, happening.at)
+        if isinstance(line, (Word, Heard, Invented)):
+            self.board.show(labelled=time.monotonic())
         self.show_code()
 
     def stop_reading(self) -> None:
@@ -217,6 +227,8 @@ class Station:
         """Looks after all that may have ended, and shows what has changed."""
         self.board.look()
         self.supply.look()
+        if self.supply.is_missing and self.code is not None:
+            self.code.lose()
         self.look_at_chain()
         if self.midi is not None and not self.ends_at:
             self.midi.tick()
@@ -233,7 +245,6 @@ class Station:
         now = time.monotonic()
         if self.ends_at:
             if self.chain is None or self.chain.is_done or now > self.ends_at:
-                self.board.show(state=shown.ENDED)
                 self.status = 0 if self.status is None else self.status
             return
         fault = self.chain.fault() if self.chain is not None else ""
@@ -245,10 +256,14 @@ class Station:
             self.begin_chain()
 
     def state(self) -> str:
-        if self.supply.capture is None and not self.ends_at:
+        if self.ends_at:
+            return shown.ENDED
+        if self.supply.capture is None:
             return shown.CARD_LOST
         if not self.supply.has_come:
             return shown.WAITING
+        if self.supply.is_missing:
+            return shown.NO_SAMPLES
         return self.code.state if self.code else code.NONE
 
     def show_code(self) -> None:
@@ -283,12 +298,16 @@ class Station:
         """What to do, in a line; empty if all is well."""
         it, level = self.board.shown, self.board.shown.level
         if it.state == shown.CARD_LOST:
-            return hints.without_samples(it.source)
+            return hints.without_samples(it.source, self.supply.note)
+        if it.state == shown.NO_SAMPLES:
+            return hints.samples_missing(it.source, it.age(shown.now()))
         if it.state == shown.WAITING or self.code is None or level is None:
             return f"no samples from {it.source} yet"
         if it.state in (code.HEARD, code.INVENTED):
             return hints.with_code(self.code, self.system, level, it.is_clipped)
-        if time.time() - it.since < HINT_SECONDS or it.state == shown.ENDED:
+        if it.state == shown.ENDED:
+            return ""
+        if time.monotonic() - it.since < HINT_SECONDS:
             return it.hint
         return hints.without_code(self.code, self.track, level, self.all_levels())
 

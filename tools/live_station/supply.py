@@ -6,12 +6,13 @@ from tape_report.faults import Fault, NoSound, reason_of
 
 from .board import Board
 from .capture import Capture
-from .events import CARD, NOTE
+from .events import CARD, NOTE, SAMPLES
 from .lines import Lines
 from .loop import Loop
 
-# A card that gives nothing for the first of these is lost, and is opened again after the second, in seconds.
-SILENT, AGAIN = 3.0, 1.0
+# After the first of these seconds without samples they are said to be missing; after the second a card is lost, and it
+# is opened again each of the third.
+MISSING, SILENT, AGAIN = 0.2, 3.0, 1.0
 # How many lines in which a program complains are shown in a minute.
 NOTES = 10
 Opened = Callable[[], tuple[Capture, int]]
@@ -34,6 +35,8 @@ class Supply:
         self.has_come, self.comes, self.is_ended = False, False, False
         self.last, self.next = 0.0, 0.0
         self.is_held = False
+        # Whether samples are missing; and what was said last of a capture that can't be opened.
+        self.is_missing, self.refused = False, ""
 
     def open(self) -> None:
         """Opens it. A card that came before may be gone for a while."""
@@ -56,7 +59,10 @@ class Supply:
         if not data:
             self.end()
             return
-        self.last = time.monotonic()
+        before, self.last = self.last, time.monotonic()
+        if self.is_missing:
+            self.is_missing = False
+            self.board.happen(SAMPLES, "", f"are back after {self.last - before:.1f} s")
         if not self.comes and self.has_come:
             self.board.happen(CARD, "", f"{self.capture.name} is back")
         self.comes = self.has_come = True
@@ -89,7 +95,7 @@ class Supply:
             raise NoSound(f"{capture.name}: {told}")
         elif self.comes:
             self.board.happen(CARD, self.board.shown.label, f"{capture.name} is lost, {told}; it is tried each second")
-        self.comes = False
+        self.comes = self.is_missing = False
         self.next = time.monotonic() + AGAIN
         self.pause()
 
@@ -98,18 +104,32 @@ class Supply:
         if self.capture is None:
             if not self.is_ended and time.monotonic() >= self.next:
                 self.open_again()
-        elif self.capture.is_lasting and time.monotonic() - self.last > SILENT and not self.is_held:
-            if self.has_come:
-                self.note = f"no samples for {SILENT:.0f} s"
-                self.end()
+        elif fault := self.capture.fault():
+            self.note = fault
+            self.end()
+        elif not self.is_held and self.has_come:
+            self.look_for_samples(self.capture, time.monotonic() - self.last)
+
+    def look_for_samples(self, capture: Capture, seconds: float) -> None:
+        """Tells that none came for so long."""
+        if capture.is_lasting and seconds > SILENT:
+            self.note = f"no samples for {SILENT:.0f} s"
+            self.end()
+        elif seconds > max(MISSING, 2 * capture.apart) and self.comes and not self.is_missing:
+            self.is_missing = True
+            self.board.happen(SAMPLES, self.board.shown.label, f"none from {capture.name}")
 
     def open_again(self) -> None:
         try:
             self.note = ""
             self.open()
+            self.refused = ""
         except (Fault, OSError) as fault:
             self.note = reason_of(fault)
             self.next = time.monotonic() + AGAIN
+            if self.note != self.refused:
+                self.refused = self.note
+                self.board.happen(CARD, "", f"{self.note}; it is tried each second")
 
     def hold(self, is_full: bool) -> None:
         """Takes no more while who reads is full."""

@@ -10,7 +10,7 @@ from collections.abc import Callable
 
 from .events import Event
 from .screen import Style, plain_line, rows
-from .shown import Shown
+from .shown import ENDED, Moment, Shown, now
 
 # The display is redrawn at most this often a second; and plain output repeats the time of day after these seconds.
 REDRAWN = 25
@@ -20,6 +20,8 @@ OUT = 1
 BEGIN, END = b"\x1b[?1049h\x1b[?25l\x1b[2J", b"\x1b[0m\x1b[?25h\x1b[?1049l"
 LOCAL = 3
 Read = Callable[[], Shown]
+# What is called when nothing can be written any more.
+Fail = Callable[[OSError], None]
 
 
 def is_screen() -> bool:
@@ -39,7 +41,7 @@ def has_blocks() -> bool:
 class Display:
     """What all displays have: a thread that draws what is shown, until it has to end."""
 
-    def __init__(self, read: Read, fail: Callable[[], None]) -> None:
+    def __init__(self, read: Read, fail: Fail) -> None:
         self.read, self.fail = read, fail
         self.is_over = threading.Event()
         self.thread = threading.Thread(target=self.work, name="display", daemon=True)
@@ -50,11 +52,11 @@ class Display:
     def work(self) -> None:
         try:
             while not self.is_over.wait(1 / REDRAWN):
-                self.draw(self.read(), time.time())
-        except OSError:
-            self.fail()
+                self.draw(self.read(), now())
+        except OSError as fault:
+            self.fail(fault)
 
-    def draw(self, it: Shown, now: float) -> None:
+    def draw(self, it: Shown, moment: Moment) -> None:
         """Nothing, if it is quiet."""
 
     def close(self, summary: str) -> None:
@@ -67,7 +69,7 @@ class Display:
 class Screen(Display):
     """A terminal, of which only the lines are written that differ."""
 
-    def __init__(self, read: Read, fail: Callable[[], None], is_plain: bool) -> None:
+    def __init__(self, read: Read, fail: Fail, is_plain: bool) -> None:
         super().__init__(read, fail)
         self.is_plain = is_plain or not has_blocks()
         self.has_colour = "NO_COLOR" not in os.environ
@@ -86,13 +88,13 @@ class Screen(Display):
         os.write(OUT, BEGIN)
         super().begin()
 
-    def draw(self, it: Shown, now: float) -> None:
+    def draw(self, it: Shown, moment: Moment) -> None:
         size = os.get_terminal_size(OUT)
         style = Style(size.columns or 80, size.lines or 24, self.is_plain, self.has_colour)
         text = ""
         if style != self.style:
             self.style, self.drawn, text = style, [], "\x1b[2J"
-        drawn = rows(it, style, now)
+        drawn = rows(it, style, moment)
         for number in range(max(len(drawn), len(self.drawn))):
             row = drawn[number] if number < len(drawn) else ""
             if number >= len(self.drawn) or row != self.drawn[number]:
@@ -113,12 +115,12 @@ class Screen(Display):
 class PlainLines(Display):
     """A line a second, and one an event."""
 
-    def __init__(self, read: Read, fail: Callable[[], None]) -> None:
+    def __init__(self, read: Read, fail: Fail) -> None:
         super().__init__(read, fail)
         self.told: Event | None = None
         self.next = 0.0
 
-    def draw(self, it: Shown, now: float) -> None:
+    def draw(self, it: Shown, moment: Moment) -> None:
         events = it.events
         if self.told in events:
             events = events[events.index(self.told) + 1 :]
@@ -126,16 +128,17 @@ class PlainLines(Display):
         self.told = it.events[-1] if it.events else None
         if time.monotonic() >= self.next:
             self.next = time.monotonic() + PLAIN_SECONDS
-            text += f"{plain_line(it, now)}\n" + (f"    {it.hint}\n" if it.hint else "")
+            text += f"{plain_line(it, moment)}\n" + (f"    {it.hint}\n" if it.hint else "")
         if text:
             write(text.encode("utf-8", "backslashreplace"))
 
     def close(self, summary: str) -> None:
         super().close(summary)
         if not self.thread.is_alive():
-            self.next = time.monotonic() + PLAIN_SECONDS
+            # The last line says how it ended.
+            self.next = time.monotonic() + (0 if self.read().state == ENDED else PLAIN_SECONDS)
             with contextlib.suppress(OSError):
-                self.draw(self.read(), time.time())
+                self.draw(self.read(), now())
 
 
 def write(data: bytes) -> None:
@@ -143,7 +146,7 @@ def write(data: bytes) -> None:
         data = data[os.write(OUT, data) :]
 
 
-def display(read: Read, fail: Callable[[], None], is_quiet: bool, is_plain: bool) -> Display:
+def display(read: Read, fail: Fail, is_quiet: bool, is_plain: bool) -> Display:
     """The display that fits."""
     if is_quiet:
         return Display(read, fail)

@@ -242,7 +242,7 @@ def try_browser(room):
             # The line of the speed takes a while to be one.
             time.sleep(3)
             text = browser.says("document.body.innerText")
-            has(text, "11:00:", "HEARD", "forward", "speed 1000", "level -11.2 dB")
+            has(text, "11:00:", "HEARD", "forward", "speed 1.000", "level -11.2 dB")
             has(text, "jump", "from 10:00:03:")
             assert browser.says("document.documentElement.scrollWidth") <= wide, "wider than the window"
             with open(os.path.join(pictures or room, f"live-{name}.png"), "wb") as file:

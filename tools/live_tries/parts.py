@@ -92,7 +92,7 @@ def try_every_size(_room):
     for columns in (1, 5, 11, 20, 36, 37, 39, 60, 79, 80, 81, 132, 200, 400):
         for lines in (1, 2, 5, 10, 11, 12, 13, 24, 50, 100):
             for is_plain in (False, True):
-                drawn = screen.rows(it, Style(columns, lines, is_plain, has_colour=False), 0.0)
+                drawn = screen.rows(it, Style(columns, lines, is_plain, has_colour=False), shown.Moment())
                 assert len(drawn) <= lines, (columns, lines, drawn)
                 assert all(len(row) <= columns for row in drawn), (columns, lines, drawn)
                 assert not is_plain or all(row.isascii() for row in drawn), drawn

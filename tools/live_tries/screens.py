@@ -25,12 +25,12 @@ def try_moments(room):
     there = on_terminal("--file", moments(room), "--log", log)
     first = there.until(r"no code: silence on track 1\. Is the tape running, and the cable in\?")
     has(first, "NO CODE", "--:--:--:--".replace("--:--:--:--", "track 1"), "level -96.0 dB")
-    heard = there.until(r"HEARD +forward +speed 1000 +user 00000000 +25 frames")
+    heard = there.until(r"HEARD +forward +speed 1\.000 +user 00000000 +25 frames")
     has(heard, BIG_ZERO, "system   10:00:01:00 25 frames a second, by the labels")
     there.until(r"drop-out 10:00:03:03 3 frames, bridged")
     gone = there.until(r"the code is gone: silence on track 1")
     has(gone, "GONE 1 s", "gone     10:00:05:02 after 5 frames invented")
-    turned = there.until(r"HEARD +backward +speed 1000")
+    turned = there.until(r"HEARD +backward +speed 1.000")
     assert re.search(r"turn     10:00:05:0\d now backward, after 2\.\d+ s without code", turned), turned
     there.until(r"the code is gone on track 1, level -\d+ dB: is it time code\?")
     assert there.all() == 0
@@ -80,7 +80,7 @@ def try_plain_lines(room):
     path = tape(room, words("25", "10:00:00:00", 60), silence(0.5), words("25", "11:00:00:00", 30))
     ended, out, notes = runs("--file", path)
     assert ended == 0 and not notes and "\x1b" not in out, out + notes
-    has(out, "10:00:01:00 25 frames a second, by the labels", "heard forward speed 1000 user 00000000 level -11.2 dB")
+    has(out, "10:00:01:00 25 frames a second, by the labels", "heard forward speed 1.000 user 00000000 level -11.2 dB")
     clock, told = r"\d\d:\d\d:\d\d\.\d{3}", r"from 10:00:02:0\d, after 0\.\d+ s without code"
     assert re.search(rf"{clock}  jump     11:00:00:0\d {told}", out), out
     ended, out, notes = runs("--file", path, "--pace", "4", "--quiet")

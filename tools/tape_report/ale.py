@@ -1,5 +1,6 @@
 """Avid log exchange: the spans of all tapes as clips, tabulators between their fields, one file a frame rate."""
 from .clips import Clip, by_form, clips_of
+from .names import in_cell
 from .row import Told
 
 # The most letters that a tape's name may have there.
@@ -23,9 +24,8 @@ def ale(clips: list[Clip]) -> str:
 
 
 def row(clip: Clip) -> str:
-    comment = "runs backward on the tape" if clip.is_backward else ""
-    cells = (f"{clip.reel} {clip.begin}", f"A{clip.track}", clip.begin, clip.end, clip.reel, clip.file, comment)
-    return "\t".join(cell.replace("\t", " ") for cell in cells)
+    cells = (f"{clip.reel} {clip.begin}", f"A{clip.track}", clip.begin, clip.end, clip.reel, clip.file, clip.comment)
+    return "\t".join(str(in_cell(cell.replace("\t", " "))) for cell in cells)
 
 
 def ale_files(tapes: list[Told]) -> dict[str, str]:

@@ -67,18 +67,29 @@ def joined_to(before: Span, lone: Span, span: Span, system: int) -> Span:
     return replace(span, gap=lone.gap + span.gap, relation=f"step {steps}")
 
 
+DROPOUT, JUMP, TURN, COUNT = "drop-out", "jump", "turn", "count"
+
+
+def kind_of(before: Span, span: Span, whole: Fraction | None) -> str:
+    """What lies between two spans; nothing if they only follow each other. If neither span has a length of its own, the
+    frame is that of the whole reading.
+    """
+    frame = before.frame or span.frame or whole
+    if span.relation in (TURN, COUNT):
+        return span.relation
+    if not goes_on(span, frame):
+        return JUMP
+    return DROPOUT if frame and span.gap and span.gap > MISSING * frame else ""
+
+
+def kinds_of(reading: Reading) -> list[str]:
+    """What lies before each span of a reading. A frame that was misread has nothing before it or behind."""
+    kept = without_misread(reading.spans, reading.system, reading.frame)
+    kinds = {span.begin: kind_of(before, span, reading.frame) for before, span in zip(kept, kept[1:])}
+    return [kinds.get(span.begin, "") for span in reading.spans]
+
+
 def breaks_of(reading: Reading) -> Breaks:
-    """The breaks of a reading. If neither span has a length of its own, the frame is that of the whole reading."""
-    found = Breaks()
-    spans = without_misread(reading.spans, reading.system, reading.frame)
-    for before, span in zip(spans, spans[1:]):
-        frame = before.frame or span.frame or reading.frame
-        if span.relation == "turn":
-            found.turns += 1
-        elif span.relation == "count":
-            found.counts += 1
-        elif not goes_on(span, frame):
-            found.jumps += 1
-        elif frame and span.gap and span.gap > MISSING * frame:
-            found.dropouts += 1
-    return found
+    """The breaks of a reading."""
+    kinds = kinds_of(reading)
+    return Breaks(*(kinds.count(kind) for kind in (DROPOUT, JUMP, TURN, COUNT)))

@@ -1,16 +1,12 @@
 """The spans of a folder's tapes as clips, for editing systems: what was heard of a tape, from a label to the one
-behind the
-last."""
+behind the last. A span whose rate is undecided is none."""
 import re
 from collections.abc import Iterable
 from dataclasses import dataclass
 
 from .labels import LABELS_A_DAY, label_of, number_of
+from .rates import SPEED
 from .row import Told
-
-# The frames a second of a span whose tape has another count than its first span.
-RATE_OF_COUNT = {"24": "24", "25": "25", "30": "30", "30d": "29.97"}
-
 
 @dataclass(frozen=True)
 class Clip:
@@ -25,6 +21,8 @@ class Clip:
     is_backward: bool
     track: int
     samples_a_second: int
+    # What is to be known of it besides.
+    comment: str = ""
 
     @property
     def frames(self) -> int:
@@ -54,16 +52,31 @@ def clips_of(tapes: list[Told], most: int) -> list[Clip]:
     """The spans of all tapes, in the order of the table."""
     with_code = [told for told in tapes if told.spans]
     reels = reels_of((told.row.file for told in with_code), most)
-    return [clip_of(told, span, reels[told.row.file]) for told in with_code for span in told.spans]
+    return [clip_of(told, span, reels[told.row.file]) for told in with_code for span in told.spans if is_decided(span)]
 
 
 def clip_of(told: Told, span: dict, reel: str) -> Clip:
     count, is_backward = span["count"], span["direction"] == "backward"
     first, last = (span["last"], span["first"]) if is_backward else (span["first"], span["last"])
-    is_of_first = count == told.spans[0]["count"]
-    rate = told.row.rate if is_of_first else RATE_OF_COUNT[count]
-    end = label_of(count, number_of(count, last) + 1)
-    return Clip(told.row.file, reel, count, rate, first, end, is_backward, told.row.track or 1, told.rate_of_samples)
+    rate, end = span["rate"], label_of(count, number_of(count, last) + 1)
+    track, comment = told.row.track or 1, comment_of(told, span)
+    return Clip(told.row.file, reel, count, rate, first, end, is_backward, track, told.rate_of_samples, comment)
+
+
+def is_decided(span: dict) -> bool:
+    return bool(span.get("rate"))
+
+
+def left_out(tapes: list[Told]) -> list[str]:
+    """The tapes of which spans are in no list, since their rate is undecided."""
+    return [told.row.file for told in tapes if not all(map(is_decided, told.spans))]
+
+
+def comment_of(told: Told, span: dict) -> str:
+    parts = ["runs backward on the tape"] if span["direction"] == "backward" else []
+    parts += [f"{span['rate']} frames a second by the speed alone"] if span["rate_by"] == SPEED else []
+    parts += [f"other codes: {told.row.other_codes}"] if told.row.other_codes else []
+    return "; ".join(parts)
 
 
 def by_form(clips: list[Clip]) -> dict[str, list[Clip]]:

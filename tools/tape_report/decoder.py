@@ -2,15 +2,19 @@
 import contextlib
 import json
 import os
+import re
 import subprocess
 import tempfile
 from collections.abc import Sequence
-from typing import Any
+from dataclasses import dataclass
+from typing import IO, Any
 
 from .faults import NoSound
+from .names import plain
 
 # Before a name, so that none is taken for an option or a protocol.
 FILE = "file:"
+ADDRESS = re.compile(r"\[([^\]@]*?) @ 0x[0-9a-f]+\]")
 # No header of a file is looked into for longer.
 SECONDS = 60
 
@@ -34,9 +38,9 @@ def probed(path: str, entries: str) -> dict[str, Any]:
 
 
 class Decoder:
-    """A stream of a file, decoded into a pipe. How it ended is known when it has."""
+    """A stream of a file, decoded into a pipe or a file. How it ended is known when it has."""
 
-    def __init__(self, path: str, stream: int, filters: Sequence[str] = ()) -> None:
+    def __init__(self, path: str, stream: int, filters: Sequence[str] = (), into: IO[bytes] | None = None) -> None:
         self.notes = tempfile.TemporaryFile()
         self.progress = tempfile.TemporaryFile()
         words = [
@@ -53,7 +57,7 @@ class Decoder:
         self.process = subprocess.Popen(
             words,
             stdin=subprocess.DEVNULL,
-            stdout=subprocess.PIPE,
+            stdout=subprocess.PIPE if into is None else into,
             stderr=self.notes,
             pass_fds=(self.progress.fileno(),),
         )
@@ -80,8 +84,28 @@ class Decoder:
     def note(self) -> str:
         """What it complained of, in one line."""
         self.notes.seek(0)
-        lines = self.notes.read(65_536).decode("utf-8", "replace").split("\n")
-        return next((line.strip() for line in lines if line.strip()), "")
+        return first_line(self.notes.read(65_536))
+
+
+@dataclass(frozen=True)
+class Kept:
+    """A stream that was decoded into a file without a name, and how that went."""
+
+    file: IO[bytes]
+    decoder: Decoder
+
+
+def kept(path: str, stream: int) -> Kept:
+    file = tempfile.TemporaryFile()
+    decoder = Decoder(path, stream, into=file)
+    decoder.wait()
+    return Kept(file, decoder)
+
+
+def first_line(said: bytes) -> str:
+    """The first complaint of ffmpeg, without the addresses in its memory, which are others in each run."""
+    lines = (line.strip() for line in said.decode("utf-8", "replace").split("\n"))
+    return plain(ADDRESS.sub(r"[\1]", next(filter(None, lines), "")))
 
 
 def streams_of(path: str) -> tuple[list[dict[str, Any]], dict[str, Any]]:

@@ -25,6 +25,8 @@ def events(clips: list[Clip]) -> Iterator[str]:
         if clip.is_backward:
             yield MOTION.format(reel=clip.reel, frames=float(round(float(clip.rate))), begin=clip.begin)
         yield f"* FROM CLIP NAME: {clip.file}"
+        if clip.comment:
+            yield f"* COMMENT: {clip.comment}"
         record = out
 
 

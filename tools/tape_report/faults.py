@@ -5,8 +5,16 @@ class Fault(Exception):
     """Ends the work on a tape with a line, and status 3."""
 
 
+class Nothing(Fault):
+    """There is nothing to draw."""
+
+
 class NoSound(Fault):
     """The file can't be read as sound."""
+
+
+class NotThere(NoSound):
+    """The file could not be opened at all: it was not looked at."""
 
 
 class NoPicture(Fault):

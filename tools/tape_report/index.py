@@ -22,8 +22,8 @@ def item(run: Run, name: str, row: Row) -> dict[str, Any]:
     return {**asdict(row), "report": link(run, name, store.REPORT), "page": link(run, name, store.PAGE)}
 
 
-def index(run: Run, names: list[str], rows: list[Row], counted: str) -> str:
+def index(run: Run, names: list[str], rows: list[Row], counted: str, remarks: list[str]) -> str:
     """The page, with the rows of the table as JSON inside."""
-    data = {"columns": COLUMNS, "tapes": [item(run, name, row) for name, row in zip(names, rows)]}
+    data = {"columns": COLUMNS, "remarks": remarks, "tapes": [item(run, name, row) for name, row in zip(names, rows)]}
     head, foot = form_of("index.html").replace("@COUNTS@", html.escape(counted)).split("/*DATA*/")
     return head + data_in_script(data) + foot

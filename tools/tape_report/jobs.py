@@ -6,10 +6,10 @@ import subprocess
 import sys
 
 from . import store
-from .faults import Fault, NoProgram, NoSound, reason_of
+from .faults import Fault, NoProgram, NoSound, NotThere, reason_of
 from .names import shown
 from .options import wanted_of
-from .row import FAILED, Row, Told
+from .row import FAILED, MISSING, Row, Told
 from .source import opened
 from .store import Run
 from .targets import write_text, written
@@ -19,6 +19,8 @@ from .work import silent_tape, tape_read
 JOB = "--job"
 # The most tapes of a job; and how many jobs, at least, each place for jobs does one after another.
 MOST_OF_A_JOB, JOBS_EACH = 8, 8
+# On so many hosts a job is tried.
+RETRIES = "4"
 # Above this status parallel itself failed, and not its jobs.
 MOST_FAILED_JOBS = 101
 
@@ -36,11 +38,14 @@ def names_of(run: Run) -> list[str]:
 
 def work_all(run: Run, numbers: list[int], jobs: int, hosts: str | None) -> None:
     """Works these tapes of the list. Whole commands go to parallel, so that it has nothing to replace in them."""
+    if not numbers:
+        return
     if shutil.which("parallel") is None:
         raise NoProgram("GNU parallel is not installed (Debian: parallel)")
     words = ["parallel", "--null", "--jobs", str(jobs), "--joblog", store.LOG]
     if hosts:
-        words += ["--sshloginfile", os.path.abspath(hosts), "--workdir", "/"]
+        # A host that is dead is left out, and what one that died had begun goes to another.
+        words += ["--sshloginfile", os.path.abspath(hosts), "--workdir", "/", "--filter-hosts", "--retries", RETRIES]
     if sys.stderr.isatty():
         words.append("--bar")
     tool = [os.path.abspath(sys.argv[0]), JOB, run.out]
@@ -69,7 +74,10 @@ def work_one(run: Run, name: str) -> None:
     except Exception as fault:
         # Whatever it is, the others go on, and this one has its row.
         reason = reason_of(fault) if isinstance(fault, (Fault, OSError)) else f"a fault of this tool: {fault!r}"
-        told, text = Told(Row(shown(name), FAILED, note=reason)), f"{shown(name)}\nfailed        {reason}\n"
+        # Without its state the file is away.
+        is_there = state is not None and not isinstance(fault, NotThere)
+        told = Told(Row(shown(name), FAILED if is_there else MISSING, note=reason))
+        text = f"{shown(name)}\n{'failed  ' if is_there else 'not read'}      {reason}\n"
     write_text(os.path.join(run.room(name), store.REPORT), text, force=True)
     store.put_row(run, name, state, told)
 

@@ -84,7 +84,7 @@ def level_of(sound: Sound, track: int, seconds: int = LEVEL_SECONDS) -> Level:
 
 def decoded_level(sound: Sound, track: int, seconds: int) -> Level:
     stream, number = sound.place_of(track)
-    source = sound.open(stream)
+    source = sound.open_kept(stream)
     try:
         skip_to_samples(source.output)
         return level_in(source.output, DECODED_BITS, stream.tracks, number, stream.rate, stream.rate * seconds)

@@ -1,9 +1,13 @@
 """Names of files as text that is valid UTF-8 and on one line, whatever bytes they have."""
 import os
 import re
+from collections.abc import Iterable
 
 # A backslash that could be taken for the beginning of an escape.
 LIKE_AN_ESCAPE = re.compile(r"\\(?=x[0-9a-f]{2})")
+
+# With these letters a formula begins.
+FORMULAS = ("=", "+", "@")
 
 
 def shown(name: str) -> str:
@@ -22,3 +26,19 @@ def is_plain(letter: str) -> bool:
 
 def escaped(letter: str) -> str:
     return "".join(f"\\x{byte:02x}" for byte in os.fsencode(letter))
+
+
+def plain(text: str) -> str:
+    """A text of another program, of which nothing moves the line or the terminal."""
+    return "".join(letter if is_plain(letter) else escaped(letter) for letter in text)
+
+
+def in_cell(value: object) -> object:
+    """A value of a table. A spreadsheet takes a first `=`, `+` or `@` for the beginning of a formula."""
+    if isinstance(value, str) and value[:1] in FORMULAS:
+        return f"\\x{ord(value[0]):02x}{value[1:]}"
+    return value
+
+
+def in_table(cells: Iterable[object]) -> list[object]:
+    return [in_cell(value) for value in cells]

@@ -10,8 +10,8 @@ from . import front_ends
 from .choice import SYSTEMS, Wanted
 from .front_ends import FrontEnd
 from .labels import RATES, system_of
-from .place import rate_given
 from .programs import version
+from .rates import rate_given
 
 
 def number_from(least: int, most: int) -> Callable[[str], int]:
@@ -78,6 +78,7 @@ def archive_parser() -> argparse.ArgumentParser:
     )
     words.add_argument("--hosts", metavar="FILE", help="hosts, one a line, reached by ssh")
     words.add_argument("--resume", action="store_true", help="goes on where a run was killed")
+    words.add_argument("--all", action="store_true", help="files of any ending, as far as ffprobe hears sound in them")
     words.add_argument("--part", metavar="K/N", type=part, help="each N-th tape from the K-th on, and no table")
     words.add_argument("--edl", action="store_true", help="the spans as edit decision lists too (CMX 3600)")
     words.add_argument("--ale", action="store_true", help="the spans as Avid logs too")

@@ -4,6 +4,7 @@ import json
 import os
 from typing import Any
 
+from .breaks import kinds_of
 from .spans import Reading
 
 # More words than these are thinned out: a page is to open at once.
@@ -31,6 +32,7 @@ def words_and_losses(reading: Reading) -> tuple[list[list[Any]], list[float]]:
 
 def data_of(reading: Reading) -> dict[str, Any]:
     words, lost = words_and_losses(reading)
+    kinds = kinds_of(reading)
     spans = [
         {
             "direction": span.direction,
@@ -43,8 +45,9 @@ def data_of(reading: Reading) -> dict[str, Any]:
             "speed": span.speed / 1000,
             "gap": "" if span.gap is None else f"{reading.seconds_at(span.gap):.3f} s",
             "relation": span.relation or "",
+            "kind": kind,
         }
-        for span in reading.spans
+        for span, kind in zip(reading.spans, kinds)
     ]
     return {"seconds": reading.seconds_at(reading.ticks), "words": words, "lost": lost, "spans": spans}
 

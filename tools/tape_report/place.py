@@ -1,6 +1,5 @@
 """Where a file lies in the day: one number, the whole samples since midnight of its first sample, with all that makes
-it
-doubtful. The report's label, its count and both kinds of stamp come from this number."""
+it doubtful. The report's label, its count and both kinds of stamp come from this number."""
 import itertools
 from dataclasses import dataclass
 from fractions import Fraction
@@ -8,15 +7,14 @@ from fractions import Fraction
 from .breaks import goes_on
 from .choice import Choice
 from .front_ends import FINENESS
-from .labels import FRAMES, LABELS_A_DAY, NTSC, RATES, label_of, name_of, number_of
+from .labels import FRAMES, LABELS_A_DAY, label_of, number_of
+from .rates import Rated, rated
 from .spans import Reading, Span, Word, words_in
 
 # How many seconds of code that goes on fix the first label.
 SECONDS_OF_CODE = 2
 # By how much, at most, code at play speed differs from nominal.
 PLAY_SPEED = Fraction(1, 100)
-# The rates of which a system has two differ by 1/1001; a speed as near to one of them shows which.
-NEAR = Fraction(3, 10_000)
 
 
 @dataclass(frozen=True)
@@ -55,33 +53,6 @@ class Place:
 def count_of(span: Span, system: int) -> str:
     """The count of a span's labels."""
     return "30d" if span.is_drop else str(system)
-
-
-def played_rate(reading: Reading, span: Span) -> Fraction | None:
-    """Frames a second as the tape plays a span."""
-    return FINENESS * reading.rate / span.frame if span.frame else None
-
-
-def rate_of(reading: Reading, given: Fraction | None) -> tuple[Fraction, str | None]:
-    """The true frame rate of the first span's labels, and why it is not decided."""
-    span, whole = reading.spans[0], Fraction(reading.system)
-    if given is not None:
-        return given, None
-    if span.is_drop:
-        return whole * NTSC, None
-    played = played_rate(reading, span)
-    if whole == 25:
-        return whole, None
-    if played is None:
-        return whole, f"one frame does not tell {name_of(whole)} from {name_of(whole * NTSC)}: say --rate"
-    # Of the whole rate and that of 1000/1001 the nearer.
-    nearest = whole if abs(played - whole) < abs(played - whole * NTSC) else whole * NTSC
-    if abs(played / nearest - 1) <= NEAR:
-        return nearest, None
-    return (
-        nearest,
-        f"{float(played):.3f} frames a second may be {name_of(whole)} or {name_of(whole * NTSC)}: say --rate",
-    )
 
 
 def first_words(reading: Reading, count: str) -> list[tuple[int, int]]:
@@ -123,21 +94,19 @@ def frames_that_go_on(reading: Reading) -> int:
     return heard
 
 
-def doubts_of(
-    choice: Choice, given: Fraction | None, rate: Fraction, length: Fraction, undecided: str | None
-) -> list[str]:
+def doubts_of(choice: Choice, given: Fraction | None, how: Rated, length: Fraction) -> list[str]:
     """Why the first sample is not sure."""
     mine, doubts = choice.reading, []
     if not choice.is_sure and given is None:
         doubts.append(choice.sureness.removeprefix("not sure: "))
-    if undecided:
-        doubts.append(undecided)
+    if how.doubt:
+        doubts.append(how.doubt)
     frames = frames_that_go_on(mine)
     if frames < SECONDS_OF_CODE * mine.system:
         doubts.append(
             f"the first label stands on {frames} frame{'s' * (frames != 1)} that go on, less than two seconds"
         )
-    speed = FINENESS * mine.rate / length / rate
+    speed = FINENESS * mine.rate / length / how.rate
     if abs(speed - 1) > PLAY_SPEED and given is None:
         doubts.append(f"the code is at speed {float(speed):.3f} where it begins: say --rate to take it as it is")
     if mine.is_filtered:
@@ -152,15 +121,12 @@ def place_of(choice: Choice, given: Fraction | None = None) -> Place | None:
         return None
     span = mine.spans[0]
     count = count_of(span, mine.system)
-    rate, undecided = rate_of(mine, given)
+    how = rated(mine, span, given)
+    rate = how.rate
     begin, length = begin_of(mine, count, rate)
     # Sums of samples come half their number late.
     before = begin / FINENESS - Fraction(mine.sums - 1, 2)
     day = LABELS_A_DAY[count] * mine.rate / rate
     reference = round((number_of(count, span.first) * mine.rate / rate - before) % day)
-    doubts = doubts_of(choice, given, rate, length, undecided)
+    doubts = doubts_of(choice, given, how, length)
     return Place(count, rate, mine.rate, reference if reference < day else 0, tuple(doubts))
-
-
-def rate_given(name: str | None) -> Fraction | None:
-    return RATES[name] if name else None

@@ -6,10 +6,13 @@ from typing import TextIO
 
 from .breaks import breaks_of
 from .choice import Choice
-from .labels import NTSC, name_of, number_of
+from .codes import own_codes
+from .labels import NTSC, name_of
 from .levels import LEVEL_SECONDS, Level
 from .margin import MOST_DECIBELS
-from .place import Place, count_of, played_rate, rate_of
+from .names import in_table
+from .place import Place
+from .rates import SPEED, TOLD, UNDECIDED, Rated, played_rate, rated
 from .sound import Sound
 from .spans import Reading
 
@@ -51,7 +54,7 @@ def write_csv(name: str, reading: Reading | None, out: TextIO, has_head: bool) -
     if has_head:
         rows.writerow(SPAN_ROW)
     if reading is not None:
-        rows.writerows(span_rows(name, reading))
+        rows.writerows(map(in_table, span_rows(name, reading)))
 
 
 def sound_line(sound: Sound) -> str:
@@ -65,58 +68,38 @@ def early(sound: Sound) -> str:
     return " in the first ten minutes" if sound.seconds is None or sound.seconds > LEVEL_SECONDS else ""
 
 
-def rate_line(choice: Choice, place: Place | None, is_given: bool) -> Iterator[str]:
-    """Said if the words do not decide the rate."""
+def rate_line(choice: Choice, how: Rated) -> Iterator[str]:
+    """Said if the labels do not decide the rate."""
     mine = choice.reading
     played = played_rate(mine, mine.spans[0])
-    if played is None or mine.system == 25 and not is_given:
-        return
-    if is_given and place is not None:
-        yield f"rate          {name_of(place.rate)} as given; the tape plays {float(played):.3f} frames a second"
-    elif not mine.spans[0].is_drop:
-        taken, _ = rate_of(mine, None)
+    if how.by == TOLD and played is not None:
+        yield f"rate          {name_of(how.rate)} as given; the tape plays {float(played):.3f} frames a second"
+    elif how.by == SPEED:
         whole = Fraction(mine.system)
-        other = whole if taken != whole else whole * NTSC
-        yield f"rate          {name_of(taken)} by its speed alone; --rate {name_of(other)} says otherwise"
+        other = whole if how.rate != whole else whole * NTSC
+        yield f"rate          {name_of(how.rate)} by its speed alone; --rate {name_of(other)} says otherwise"
+    elif how.by == UNDECIDED:
+        yield f"rate          undecided: {how.doubt}"
 
 
 def tracks_lines(choice: Choice) -> Iterator[str]:
     """The tracks, and the code of those that have their own."""
-    mine, tracks = choice.reading, choice.best_of_tracks
+    tracks = choice.best_of_tracks
     if len(tracks) < 2:
         return
     yield "tracks        " + ", ".join(f"{it.track}: {it.heard} frames heard" for it in tracks)
-    for it in tracks:
-        if it.track != mine.track and has_own_code(it, mine):
-            first, last = it.spans[0].first, it.spans[-1].last
-            heard = f"heard {it.heard} in {len(it.spans)} span{'s' * (len(it.spans) != 1)}"
-            yield f"track {it.track:<7} {it.system} frames a second, {first} to {last}, {heard}"
+    for it in own_codes(choice):
+        first, last = it.spans[0].first, it.spans[-1].last
+        heard = f"heard {it.heard} in {len(it.spans)} span{'s' * (len(it.spans) != 1)}"
+        yield f"track {it.track:<7} {it.system} frames a second, {first} to {last}, {heard}"
 
 
-def has_own_code(other: Reading, mine: Reading) -> bool:
-    """Another track's labels are not those of the chosen one at the same time."""
-    if other.heard < other.system:
-        return False
-    spans = other.spans[0], mine.spans[0]
-    if other.system != mine.system or len({(span.is_drop, span.direction) for span in spans}) > 1:
-        return True
-    return abs(label_at_begin(other) - label_at_begin(mine)) > 1
-
-
-def label_at_begin(reading: Reading) -> float:
-    """The number of the label where the sound begins, if its code had gone on before its first span."""
-    span = reading.spans[0]
-    way = -1 if span.direction == "backward" else 1
-    frame = span.frame or reading.frame or 1
-    return number_of(count_of(span, reading.system), span.first) - way * float(span.begin / frame)
-
-
-def code_lines(choice: Choice, place: Place | None, level: Level, sound: Sound, is_given: bool) -> Iterator[str]:
+def code_lines(choice: Choice, level: Level, sound: Sound, given: Fraction | None) -> Iterator[str]:
     mine = choice.reading
-    rate = place.rate if place else rate_of(mine, None)[0]
+    how = rated(mine, mine.spans[0], given)
     form = ", drop-frame" if mine.spans[0].is_drop else ""
-    yield f"code          track {mine.track}, {name_of(rate)} frames a second{form}; {choice.sureness}"
-    yield from rate_line(choice, place, is_given)
+    yield f"code          track {mine.track}, {how.name} frames a second{form}; {choice.sureness}"
+    yield from rate_line(choice, how)
     yield from tracks_lines(choice)
     if choice.tried:
         before = "" if choice.before_path is None else f"; without the path {choice.before_path} frames"
@@ -160,14 +143,14 @@ def found_report(
     choice: Choice,
     place: Place | None,
     level: Level,
-    is_given: bool,
+    given: Fraction | None,
     margin: int | None = None,
 ) -> str:
     """The report of a tape with code."""
     lines = [
         name,
         sound_line(sound),
-        *code_lines(choice, place, level, sound, is_given),
+        *code_lines(choice, level, sound, given),
         *margin_lines(margin),
         *first_lines(place),
         "spans",

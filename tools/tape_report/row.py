@@ -1,14 +1,16 @@
 """What a table says of a tape: a row of the archive's table, and the JSON object of a tape."""
 import json
-from dataclasses import asdict, dataclass, field, fields
+from dataclasses import asdict, dataclass, field, fields, replace
+from fractions import Fraction
 from typing import Any
 
+from . import codes
 from .breaks import breaks_of
 from .choice import Choice
-from .labels import name_of
-from .place import Place, count_of, rate_of
+from .place import Place, count_of
+from .rates import UNDECIDED, Rated, rated
 from .sound import Sound
-from .spans import Reading
+from .spans import Reading, Span
 
 # The version of the JSON objects: it grows if a field changes its meaning or goes.
 JSON_VERSION = 1
@@ -48,6 +50,10 @@ class Row:
     note: str = ""
     # What the rows of the picture say, where they were looked at.
     vitc: str = ""
+    # By what the rate is known: labels, speed, told; or undecided, and then the rate is empty.
+    rate_by: str = ""
+    # The codes of other tracks, if they are not that of the chosen one.
+    other_codes: str = ""
 
     def cells(self) -> list[object]:
         return ["" if value is None else value for value in asdict(self).values()]
@@ -74,7 +80,7 @@ class Told:
         return json.dumps({**object_of, "spans": self.spans, "tracks": self.tracks, **picture}, sort_keys=False)
 
 
-def row_of(name: str, sound: Sound, choice: Choice, place: Place | None) -> Row:
+def row_of(name: str, sound: Sound, choice: Choice, place: Place | None, given: Fraction | None) -> Row:
     """The row of a tape that was read."""
     mine = choice.reading
     row = Row(name, NONE, seconds=None if sound.seconds is None else round(sound.seconds, 3))
@@ -82,7 +88,9 @@ def row_of(name: str, sound: Sound, choice: Choice, place: Place | None) -> Row:
     if not choice.is_found:
         return row
     row.status, row.track, row.system = CODE, mine.track, mine.system
-    row.rate, row.drop = name_of(place.rate if place else rate_of(mine, None)[0]), yes(mine.spans[0].is_drop)
+    how = rate_known(choice, mine.spans[0], given)
+    row.rate, row.rate_by, row.drop = how.cell, how.by, yes(mine.spans[0].is_drop)
+    row.other_codes = codes.cell(choice)
     row.sure, row.front_end = yes(choice.is_sure), mine.front
     row.spans, row.first, row.last = len(mine.spans), mine.spans[0].first, mine.spans[-1].last
     row.heard, row.bridged = mine.heard, mine.bridged
@@ -90,7 +98,8 @@ def row_of(name: str, sound: Sound, choice: Choice, place: Place | None) -> Row:
     row.dropouts, row.jumps, row.turns, row.counts = breaks.dropouts, breaks.jumps, breaks.turns, breaks.counts
     row.stamp = "no: the tape runs backward where its code begins"
     if place is not None:
-        row.start, row.reference = place.label, place.reference
+        if how.by != UNDECIDED:
+            row.start, row.reference = place.label, place.reference
         row.stamp = "no: " + "; ".join(place.doubts) if place.doubts else "yes"
     return row
 
@@ -99,13 +108,23 @@ def yes(is_so: bool) -> str:
     return "yes" if is_so else "no"
 
 
-def told_of(name: str, sound: Sound, choice: Choice, place: Place | None) -> Told:
-    row = row_of(name, sound, choice, place)
+def rate_known(choice: Choice, span: Span, given: Fraction | None) -> Rated:
+    """The rate of a span, which is undecided as long as another system fits as well."""
+    how = rated(choice.reading, span, given)
+    return how if choice.is_sure or given is not None else replace(how, by=UNDECIDED, doubt=choice.sureness)
+
+
+def told_of(name: str, sound: Sound, choice: Choice, place: Place | None, given: Fraction | None) -> Told:
+    row = row_of(name, sound, choice, place, given)
     tracks = [
         {"track": it.track, "system": it.system, "heard": it.heard, "front_end": it.front, "spans": spans_of(it)}
         for it in choice.best_of_tracks
     ]
-    return Told(row, sound.streams[0].rate, spans_of(choice.reading), tracks)
+    spans = spans_of(choice.reading)
+    for span, said in zip(choice.reading.spans, spans):
+        how = rate_known(choice, span, given)
+        said |= {"rate": how.cell, "rate_by": how.by}
+    return Told(row, sound.streams[0].rate, spans, tracks)
 
 
 def spans_of(reading: Reading) -> list[dict[str, Any]]:

@@ -1,6 +1,7 @@
 """A track read by `tc`: its intervals are made once, and go to a reader of each system."""
 import contextlib
 import os
+import select
 import subprocess
 import sys
 import tempfile
@@ -10,7 +11,7 @@ from typing import IO
 
 
 from .decoder import Decoder
-from .faults import NoProgram, NoSound
+from .faults import Fault, NoProgram, NoSound, NotThere
 from .front_ends import FrontEnd
 from .programs import program
 from .sound import Input, Sound
@@ -24,6 +25,12 @@ PIECE = 1 << 20
 # A decoder that ends at least these seconds before the length that was said has ended early.
 EARLY_SECONDS = 0.5
 Progress = Callable[[Input], None]
+# With less room than this, in bytes, a disk is full.
+ROOM = 65_536
+# How often it is shown how far a sound is read, while nothing comes of it.
+SHOWN_SECONDS = 0.5
+# An interval of the greatest length: a silence is written as so many of them.
+LONGEST = (16_777_215).to_bytes(4, "big")
 
 
 class Reader:
@@ -69,6 +76,20 @@ def started(words: list[str], output: IO[bytes]) -> "subprocess.Popen[bytes]":
     return subprocess.Popen([program(), *words], stdin=subprocess.PIPE, stdout=output, stderr=subprocess.DEVNULL)
 
 
+class Silences:
+    """How many intervals have the greatest length: they are pieces of a silence, and no transitions. The first byte of
+    each interval is zero, so no two neighbours have these bytes between them.
+    """
+
+    def __init__(self) -> None:
+        self.count, self.rest = 0, b""
+
+    def take(self, data: bytes) -> None:
+        data = self.rest + data
+        self.count += data.count(LONGEST)
+        self.rest = data[-3:]
+
+
 class Slicing:
     """`tc` of a track, by `wav-ltc` or the best path: the bytes of its interval file, and then how it and the decoder
     ended.
@@ -77,7 +98,7 @@ class Slicing:
     def __init__(self, sound: Sound, track: int, front: FrontEnd) -> None:
         self.sound, self.front = sound, front
         self.stream, number = sound.place_of(track)
-        self.input = sound.open(self.stream, front.filters)
+        self.input = sound.open(self.stream, front.filters) if front.filters else sound.open_kept(self.stream)
         self.notes = tempfile.TemporaryFile()
         words = ["wav-ltc", "25", str(number)]
         samples: IO[bytes] = self.input.output
@@ -92,7 +113,13 @@ class Slicing:
         self.output = self.slicer.stdout
 
     def pieces(self, progress: Progress | None) -> Iterator[bytes]:
-        while data := self.output.read(PIECE):
+        """What comes, and meanwhile how far the sound is read: a silence gives nothing for long."""
+        while True:
+            while progress and not select.select([self.output], [], [], SHOWN_SECONDS)[0]:
+                progress(self.input)
+            data = os.read(self.output.fileno(), PIECE)
+            if not data:
+                return
             if progress:
                 progress(self.input)
             yield data
@@ -152,25 +179,34 @@ def read_track(
     slicing = Slicing(sound, track, front)
     begin = f"{track}-{front.name}".replace(" ", "-")
     readers = [Reader(room, begin, system, limit, all_words) for system in systems]
-    is_empty = True
+    is_empty, silences = True, Silences()
     try:
         for data in slicing.pieces(progress):
+            silences.take(data)
             for reader in readers:
                 # The system is in byte 5 of the header, and nothing else depends on it.
                 reader.take(data[:5] + bytes([reader.system]) + data[6:] if is_empty else data)
             is_empty = False
         note = slicing.ended(is_empty)
     except BrokenPipeError:
-        raise NoProgram("tc did not read the intervals that it made") from None
+        raise not_read(room) from None
     finally:
         are_whole = all([reader.close() for reader in readers])
         slicing.close()
     if not are_whole and not is_empty:
-        raise NoProgram("tc did not read the intervals that it made")
-    return [told(reader, track, slicing.stream.rate, front, note) for reader in readers]
+        raise not_read(room)
+    return [told(reader, track, slicing.stream.rate, front, note, silences.count) for reader in readers]
 
 
-def told(reader: Reader, track: int, rate: int, front: FrontEnd, note: str) -> Reading:
+def not_read(room: str) -> Fault:
+    """Why a reader gave up: nothing but a full disk makes it do so."""
+    there = os.statvfs(room)
+    if there.f_bavail * there.f_frsize < ROOM:
+        return NotThere(f"no space left for its words in {os.path.dirname(room)} (TMPDIR names another folder)")
+    return NoProgram("tc did not read the intervals that it made")
+
+
+def told(reader: Reader, track: int, rate: int, front: FrontEnd, note: str, silent: int) -> Reading:
     """What a reader wrote, as a reading."""
     spans, ticks = spans_in(reader.lines(0))
     reading = Reading(
@@ -190,6 +226,7 @@ def told(reader: Reader, track: int, rate: int, front: FrontEnd, note: str) -> R
         words = line.split()
         if words and words[0] == "end":
             reading.intervals, reading.words, reading.refused, reading.lost = (int(words[n]) for n in (2, 4, 6, 8))
+            reading.intervals -= silent
     return reading
 
 

@@ -8,12 +8,14 @@ from dataclasses import dataclass, field
 from typing import IO, Any
 
 from . import programs
-from .decoder import Decoder, number_in, streams_of
-from .faults import NoSound
-from .source import Source
+from .decoder import Decoder, Kept, kept, number_in, streams_of
+from .faults import NoSound, NotThere
+from .source import Source, path_of
 from .wave import NO_SIZE, Wave, is_wave, wave_of
 
 
+# A decoded stream is kept up to this size, in bytes.
+MOST_KEPT = 64 << 20
 # Forms whose header has no length: ffprobe estimates it.
 ESTIMATED = ("mp3", "aac", "ac3", "eac3")
 # Files of `tc` that are no sound, by their first bytes, and the command that reads each.
@@ -46,6 +48,8 @@ class Sound:
     is_decoded: bool = False
     # What was found of the levels of its tracks, by `levels`.
     levels: dict[int, Any] = field(default_factory=dict)
+    # Streams that were decoded once, by their numbers.
+    kept: dict[int, Kept] = field(default_factory=dict)
 
     @property
     def tracks(self) -> int:
@@ -59,6 +63,20 @@ class Sound:
                 return stream, left
             left -= stream.tracks
         raise NoSound(f"it has no track {track}, but {self.tracks}")
+
+    def open_kept(self, stream: Stream) -> "Input":
+        """A stream as a WAV file. One that is decoded is decoded once, if it is short."""
+        size = MOST_KEPT if stream.seconds is None and self.seconds is None else self.size_of(stream)
+        if not self.is_decoded or size >= MOST_KEPT:
+            return self.open(stream)
+        if stream.number not in self.kept:
+            self.kept[stream.number] = kept(self.source.path, stream.number)
+        there = self.kept[stream.number]
+        return Input(file=open(path_of(there.file), "rb"), decoder=there.decoder)
+
+    def size_of(self, stream: Stream) -> float:
+        """How many bytes it has when it is decoded, about."""
+        return 3.0 * stream.tracks * stream.rate * (stream.seconds or self.seconds or 0.0)
 
     def open(self, stream: Stream, filters: Sequence[str] = ()) -> "Input":
         """A stream as a WAV file, to read from."""
@@ -78,16 +96,16 @@ class Input:
 
     @property
     def output(self) -> IO[bytes]:
-        source = self.file if self.decoder is None else self.decoder.output
+        source = self.decoder.output if self.file is None and self.decoder is not None else self.file
         if source is None:
             raise NoSound("it is not open")
         return source
 
     def close(self) -> None:
-        if self.decoder is not None:
-            self.decoder.close()
-        elif self.file is not None:
+        if self.file is not None:
             self.file.close()
+        elif self.decoder is not None:
+            self.decoder.close()
 
 
 def relayed(path: str, place: int, is_riff: bool) -> Input:
@@ -150,7 +168,7 @@ def sound_of(source: Source) -> Sound:
             return decoded_sound(source, None)
         form = wave_of(source.path)
     except OSError as fault:
-        raise NoSound((fault.strerror or "it can't be read").lower()) from fault
+        raise NotThere((fault.strerror or "it can't be read").lower()) from fault
     if form.form is None or form.data is None or form.form.is_whole:
         return wave_sound(source, form)
     return decoded_sound(source, form)

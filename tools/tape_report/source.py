@@ -10,7 +10,7 @@ from collections.abc import Iterator
 from dataclasses import dataclass
 from typing import IO
 
-from .faults import NoSound
+from .faults import NoSound, NotThere
 from .targets import Identity, identity
 
 STANDARD_INPUT = "-"
@@ -36,7 +36,7 @@ def opened(name: str) -> Iterator[Source]:
     try:
         mode = os.fstat(0).st_mode if name == STANDARD_INPUT else os.stat(name).st_mode
     except OSError as fault:
-        raise NoSound((fault.strerror or "it can't be read").lower()) from fault
+        raise NotThere((fault.strerror or "it can't be read").lower()) from fault
     if stat.S_ISDIR(mode):
         raise NoSound("it is a folder")
     if stat.S_ISREG(mode) and name != STANDARD_INPUT:

@@ -19,25 +19,27 @@ WITHOUT_A_PLACE = ("aiff", "w64", "flac", "mp3", "ogg", "caf", "au", "wv", "ape"
 
 def stamp(
     sound: Sound, track: int, place: Place | None, out: str, force: bool, tapes: Iterable[targets.Identity]
-) -> None:
-    """Writes the copy. No file is changed in place."""
+) -> list[str]:
+    """Writes the copy, and tells what is not as it was in the file. No file is changed in place."""
     if place is None:
         raise NoStamp(BACKWARD)
     if place.doubts:
         raise NoStamp("no stamp, since it is not sure: " + "; ".join(place.doubts))
     form = CONTAINERS.get(os.path.splitext(out)[1].lower())
     refuse_form(sound, form)
+    told: list[str] = []
     with targets.written(out, force, tapes) as part:
         if sound.wave is not None:
-            stamp_wave(sound.source.path, sound.wave, place.reference, part.file)
+            stamp_wave(sound.source.path, sound.wave, place, part.file)
             part.file.flush()
-            check_wave(sound.source.path, sound.wave, name_of(part), place.reference)
+            told = check_wave(sound.source.path, sound.wave, name_of(part), place)
         elif form is not None:
             label = label_of_picture(place, sound.place_of(track)[0].begins, sound.source.path)
             stamp_container(sound.source.path, form, label, name_of(part))
-            check_container(sound.source.path, name_of(part), label)
+            told = [f"not kept: {it}" for it in check_container(sound.source.path, name_of(part), label)]
         if sound.source.name == sound.source.path:
             keep_mode_and_time(sound.source.path, part)
+    return told
 
 
 def refuse_form(sound: Sound, form: str | None) -> None:

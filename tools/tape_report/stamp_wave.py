@@ -1,17 +1,22 @@
 """A copy of a sound file whose chunk `bext` says where it begins (EBU Tech 3285), read back before it gets its name.
 """
+import re
 import struct
 from collections.abc import Iterator
 from typing import IO
 
 from . import ixml
 from .faults import NoStamp
+from .place import Place
 from .wave import NO_SIZE, Chunk, Wave, wave_of
 
 # Where the reference is in `bext`: behind description, originator, its reference, date and time.
 REFERENCE_AT = 256 + 32 + 32 + 10 + 8
 BEXT_SIZE = 602
 PIECE = 1 << 20
+# The chunk of XMP, and the timecode of the beginning that it may say.
+XMP = b"_PMX"
+XMP_TIME = re.compile(rb"""timeValue\s*(?:=\s*["']|>)\s*(\d\d[:;]\d\d[:;]\d\d[:;]\d\d)""")
 # The sizes of a file with `ds64` are there: of the whole, of `data`, and how many samples it has.
 LONG_SIZES = struct.Struct("<QQQ")
 
@@ -55,33 +60,38 @@ def rate_of_whole(form: Wave) -> int:
     return form.form.rate
 
 
-def stamp_wave(path: str, form: Wave, reference: int, out: IO[bytes]) -> None:
+def stamp_wave(path: str, form: Wave, place: Place, out: IO[bytes]) -> None:
     """Writes the copy: each chunk as it was, but `bext` and iXML with the reference, and `bext` before `data` where
-    there
-    was none."""
-    rate = rate_of_whole(form)
+    there was none.
+    """
+    rate_of_whole(form)
     has_bext = form.first(b"bext") is not None
     with open(path, "rb") as file:
         out.write(file.read(12))
         for chunk in form.chunks:
             if chunk.name == b"data" and not has_bext:
-                write_chunk(out, b"bext", bext_of(reference))
+                write_chunk(out, b"bext", bext_of(place.reference))
                 has_bext = True
-            copy_chunk(file, chunk, form.length, rate, reference, out)
+            copy_chunk(file, chunk, form, place, out)
         # What comes behind the last chunk and is none.
         for data in pieces(file, min(form.chunks[-1].end, form.length), form.length):
             out.write(data)
     lengthen(out, form)
 
 
-def copy_chunk(file: IO[bytes], chunk: Chunk, length: int, rate: int, reference: int, out: IO[bytes]) -> None:
+def timecode_of(place: Place) -> ixml.Timecode:
+    return ixml.timecode_of(place.rate, place.count == "30d")
+
+
+def copy_chunk(file: IO[bytes], chunk: Chunk, form: Wave, place: Place, out: IO[bytes]) -> None:
     if chunk.name == b"bext":
-        write_chunk(out, chunk.name, with_reference(body_of(file, chunk), reference))
+        write_chunk(out, chunk.name, with_reference(body_of(file, chunk), place.reference))
     elif chunk.name == b"iXML":
-        write_chunk(out, chunk.name, ixml.stamped(body_of(file, chunk), reference, rate))
+        body, rate = body_of(file, chunk), place.samples_a_second
+        write_chunk(out, chunk.name, ixml.stamped(body, place.reference, rate, timecode_of(place)))
     else:
         # With the eight bytes before it, and the byte behind it if the size is odd and it is there.
-        for data in pieces(file, chunk.place - 8, min(chunk.end, length)):
+        for data in pieces(file, chunk.place - 8, min(chunk.end, form.length)):
             out.write(data)
 
 
@@ -110,10 +120,11 @@ def add_at(out: IO[bytes], place: int, form: str, more: int) -> None:
     out.write(struct.pack(form, number + more if number else 0))
 
 
-def check_wave(path: str, form: Wave, copy: str, reference: int) -> None:
+def check_wave(path: str, form: Wave, copy: str, place: Place) -> list[str]:
     """Reads the copy back: its samples and its other chunks are the file's, and all that says where it begins is
-    meant.
+    meant; but for what is told.
     """
+    reference = place.reference
     made = wave_of(copy)
     with open(path, "rb") as file, open(copy, "rb") as other:
         theirs = [chunk for chunk in made.chunks if chunk.name != b"bext"]
@@ -123,9 +134,23 @@ def check_wave(path: str, form: Wave, copy: str, reference: int) -> None:
         for mine, its in zip(ours, theirs):
             if mine.name not in (b"iXML", b"ds64") and not are_equal(file, mine, other, its):
                 raise NoStamp(f"the copy has another chunk {mine.name.decode('ascii', 'replace')}")
-        said = references_in(other, made)
+        said, told = references_in(other, made), told_in(other, made, place)
     if made.form != form.form or not said or set(said) != {reference}:
         raise NoStamp(f"the copy says {said} and not {reference}")
+    return told
+
+
+def told_in(file: IO[bytes], form: Wave, place: Place) -> list[str]:
+    """What a file says of its timecode that is another one, and is left as it is."""
+    told, meant = [], timecode_of(place)
+    for chunk in form.chunks:
+        if chunk.name == b"iXML":
+            others = ixml.timecodes_in(body_of(file, chunk)) - {meant.rate.encode(), meant.flag.encode()}
+            told += [f"iXML says {it.decode('ascii', 'replace')}" for it in sorted(others)]
+        elif chunk.name == XMP:
+            others = {it.decode("ascii") for it in XMP_TIME.findall(body_of(file, chunk))} - {place.label}
+            told += [f"XMP says {it} and is left as it is" for it in sorted(others)]
+    return told
 
 
 def are_equal(file: IO[bytes], mine: Chunk, other: IO[bytes], its: Chunk) -> bool:

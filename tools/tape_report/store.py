@@ -1,22 +1,20 @@
-"""The output of an archive: whose it is, and what it has of each tape. A tape's row is written last, so with it the
-tape
-is done."""
+"""What the output of an archive has of its run and of each tape. A tape's row is written last, so with it the tape is
+done."""
 import contextlib
 import json
 import os
 from dataclasses import asdict, dataclass
 from typing import Any
 
-from .faults import NoTarget
-from .names import shown
-from .row import Row, Told
+from .row import FAILED, MISSING, Row, Told
 from .targets import write_text
 
 TAPES, ROW, REPORT, PAGE = "tapes", "row.json", "report.txt", "page.html"
-RUN, LIST, LOG = "run.json", "jobs.list", "jobs.log"
-TABLE, OBJECTS, INDEX = "archive.csv", "archive.jsonl", "index.html"
-OWN = (TABLE, OBJECTS, INDEX, TAPES, LIST, LOG)
+RUN, LIST, LOG, LOCK = "run.json", "jobs.list", "jobs.log", "run.lock"
 OF_A_TAPE = (ROW, REPORT, PAGE)
+
+# Rows of another form are read again.
+FORM = 2
 
 
 @dataclass
@@ -50,32 +48,10 @@ def put_run(run: Run) -> None:
     write_text(os.path.join(run.out, RUN), text + "\n", force=True)
 
 
-def prepare(run: Run, goes_on: bool, force: bool) -> None:
-    """Makes the output, if nothing that is there is harmed by it."""
-    folder, out = os.path.realpath(run.folder), os.path.realpath(run.out)
-    if os.path.commonpath([folder, out]) == out:
-        raise NoTarget(f"{shown(run.out)}: the tapes lie in it; the reports want a folder of their own")
-    os.makedirs(run.out, exist_ok=True)
-    before = run_in(run.out)
-    stands = [name for name in OWN if os.path.lexists(os.path.join(run.out, name))]
-    if force:
-        return
-    if before is None and stands:
-        raise NoTarget(
-            f"{shown(run.out)}: {stands[0]} stands there and is of no run of this tool; --force replaces it"
-        )
-    if before is not None and before.folder != run.folder:
-        raise NoTarget(f"{shown(run.out)}: it has the reports of {shown(before.folder)}; --force replaces them")
-    if before is not None and not goes_on:
-        raise NoTarget(
-            f"{shown(run.out)}: it has the reports of a run before; --resume goes on, --force reads all again"
-        )
-
-
 def state_of(run: Run, name: str) -> dict[str, Any]:
     """What shows whether a tape changed since it was read."""
     there = os.stat(run.path(name))
-    return {"size": there.st_size, "modified": there.st_mtime_ns, "reading": run.reading}
+    return {"form": FORM, "size": there.st_size, "modified": there.st_mtime_ns, "reading": run.reading}
 
 
 def put_row(run: Run, name: str, state: dict[str, Any] | None, told: Told) -> None:
@@ -98,7 +74,7 @@ def is_done(run: Run, name: str) -> bool:
     """The tape was read, did not fail, and has not changed since, nor has the way of reading."""
     found = stored(run, name)
     try:
-        return found is not None and found[1].row.status != "failed" and found[0] == state_of(run, name)
+        return found is not None and found[1].row.status not in (FAILED, MISSING) and found[0] == state_of(run, name)
     except OSError:
         return False
 
@@ -108,3 +84,18 @@ def take_away(run: Run, name: str) -> None:
     for part in OF_A_TAPE:
         with contextlib.suppress(FileNotFoundError):
             os.unlink(os.path.join(run.room(name), part))
+
+
+def names_stored(run: Run) -> list[str]:
+    """The tapes of which anything is stored."""
+    top = os.path.join(run.out, TAPES)
+    places = (place for place, _, files in os.walk(top) if any(part in files for part in OF_A_TAPE))
+    return [os.path.relpath(place, top) for place in places]
+
+
+def take_empty_away(run: Run, name: str) -> None:
+    """The folder of a tape, and those above it, as far as nothing is in them."""
+    with contextlib.suppress(OSError):
+        while name:
+            os.rmdir(run.room(name))
+            name = os.path.dirname(name)

@@ -2,18 +2,19 @@
 """
 import argparse
 import os
-import subprocess
 import sys
 from collections.abc import Sequence
 
 from . import options as words
-from . import report, row, stamp, targets
+from . import report, row, stamp, targets, vitc_report
 from .endings import FAILED, FOUND, NONE_FOUND, say
-from .faults import Fault, NoSound, reason_of
+from .faults import Fault, NoSound, NoTarget, reason_of
 from .front_ends import FINENESS
+from .kinds import TAPE, kind_of
 from .names import shown
-from .programs import HERE
+from .plot import draw_part
 from .source import opened
+from .speed_plot import speed_of_report
 from .spans import Reading
 from .work import Silent, Tape, silent_tape, tape_read
 
@@ -30,6 +31,8 @@ def tell(options: argparse.Namespace, name: str, is_first: bool) -> int:
         with opened(name) as source:
             asked = (options.page, options.picture, options.stamp)
             targets.refuse_all(asked, options.force, [source.tape])
+            for path in (options.page, options.picture):
+                refuse_tape(path)
             wanted, rate = words.wanted_of(words.reading_of(options))
             try:
                 with tape_read(source, name, wanted, rate, is_shown=True, has_vitc=options.vitc) as tape:
@@ -48,6 +51,12 @@ def tell(options: argparse.Namespace, name: str, is_first: bool) -> int:
         return FAILED
 
 
+def refuse_tape(path: str | None) -> None:
+    """A page or a picture takes no tape's place, by force neither."""
+    if path is not None and os.path.isfile(path) and os.path.getsize(path) and kind_of(path) == TAPE:
+        raise NoTarget(f"{shown(path)}: it is a tape, and is left as it is")
+
+
 def tell_silent(options: argparse.Namespace, tape: Silent, is_first: bool) -> int:
     """A file of which the picture alone can be read."""
     if options.json:
@@ -63,37 +72,54 @@ def tell_silent(options: argparse.Namespace, tape: Silent, is_first: bool) -> in
 
 
 def tell_tape(options: argparse.Namespace, tape: Tape, is_first: bool) -> int:
-    is_found = tape.choice.is_found
+    """The report at once; the JSON object, of which a file has one, when all that was asked for is written."""
     text = tape.report(has_margin=True) if options.page or not (options.csv or options.json) else ""
-    if options.json:
-        print(tape.told().as_json())
-    elif options.csv:
-        report.write_csv(tape.name, tape.choice.reading if is_found else None, sys.stdout, is_first)
-    else:
+    if options.csv:
+        report.write_csv(tape.name, tape.choice.reading if tape.choice.is_found else None, sys.stdout, is_first)
+    elif not options.json:
         sys.stdout.write(text if is_first else "\n" + text)
     sys.stdout.flush()
-    if is_found:
-        write_asked(options, tape, text)
+    fault, told = None, []
+    try:
+        told = write_asked(options, tape, text) if tape.choice.is_found else []
+    except BrokenPipeError:
+        raise
+    except (Fault, OSError) as why:
+        fault = reason_of(why)
+    if options.json:
+        print(object_of(tape, [*told, *([fault] if fault else [])]), flush=True)
+    elif not options.csv:
+        sys.stdout.write("".join(f"copy          {it}\n" for it in told))
+        sys.stdout.flush()
+    for each in (*told, *([fault] if fault else [])):
+        say(f"{tape.name}: {each}")
+    if fault:
+        return FAILED
     return FOUND if tape.is_found else NONE_FOUND
 
 
-def write_asked(options: argparse.Namespace, tape: Tape, text: str) -> None:
-    """The files that the options name."""
+def object_of(tape: Tape, notes: Sequence[str]) -> str:
+    told = tape.told()
+    told.row.note = "; ".join(it for it in (told.row.note, *notes) if it)
+    return told.as_json()
+
+
+def write_asked(options: argparse.Namespace, tape: Tape, text: str) -> list[str]:
+    """The files that the options name; what a copy has not kept."""
     tapes, mine = [tape.source.tape], tape.choice.reading
     if options.page:
         targets.write_text(options.page, tape.page(text), options.force, tapes)
     if options.picture:
         with targets.written(options.picture, options.force, tapes) as part:
-            draw(part, mine)
+            draw_reading(part, mine)
     if options.stamp:
-        stamp.stamp(tape.sound, mine.track, tape.place, options.stamp, options.force, tapes)
+        vitc_report.refuse_apart(tape.vitc, tape.sound, mine)
+        return stamp.stamp(tape.sound, mine.track, tape.place, options.stamp, options.force, tapes)
+    return []
 
 
-def draw(part: targets.Part, reading: Reading) -> None:
-    """The picture, by the script beside this tool."""
-    drawing = os.path.join(HERE, "draw_report")
-    target = part.name or f"/proc/{os.getpid()}/fd/{part.file.fileno()}"
-    with open(reading.path, "rb") as lines:
-        ran = subprocess.run([drawing, str(FINENESS * reading.rate), target], stdin=lines, check=False)
-    if ran.returncode != 0:
-        raise Fault("the picture was not drawn")
+def draw_reading(part: targets.Part, reading: Reading) -> None:
+    """The picture of the speed over time."""
+    with open(reading.path, encoding="ascii") as lines:
+        points, script = speed_of_report(lines, FINENESS * reading.rate)
+    draw_part(points, script, part)

@@ -8,7 +8,7 @@ from dataclasses import dataclass, field
 from fractions import Fraction
 from typing import IO, Any
 
-from .decoder import FILE, number_in, probed
+from .decoder import FILE, first_line, number_in, probed
 from .faults import NoPicture, NoProgram
 from .labels import LABELS_A_DAY, NTSC, label_of, name_of, number_of
 from .programs import has_ffmpeg, program
@@ -158,8 +158,7 @@ def vitc_of(path: str, limit: int) -> Vitc:
         for line in lines_of(path, vitc.screen, notes):
             take(vitc, line.split(), limit)
         notes.seek(0)
-        said = notes.read(65_536).decode("utf-8", "replace").split("\n")
-        vitc.note = next((it.strip() for it in said if it.strip()), "")
+        vitc.note = first_line(notes.read(65_536))
     if not vitc.fields:
         raise NoPicture(f"no field of it can be read: {vitc.note or 'it is empty'}")
     if vitc.first_field is not None:

@@ -4,6 +4,7 @@ from collections.abc import Iterator
 from fractions import Fraction
 from typing import Any
 
+from .faults import NoStamp
 from .labels import LABELS_A_DAY, name_of, number_of
 from .place import count_of
 from .report import clock
@@ -62,6 +63,16 @@ def agreement(vitc: Vitc, sound: Sound | None, reading: Reading | None) -> str:
         return "the same labels as the sound" + at
     frames = f"{abs(ahead):,} frame{'s' * (abs(ahead) != 1)}"
     return f"{frames} {'ahead of' if ahead > 0 else 'behind'} the sound" + at
+
+
+def refuse_apart(vitc: Vitc | str | None, sound: Sound, reading: Reading) -> None:
+    """Raises where the picture says other labels than the sound: then it is not sure by which a copy is stamped."""
+    if not isinstance(vitc, Vitc) or not vitc.runs or not reading.heard:
+        return
+    found = differences(vitc, sound, reading)
+    if not found or 10 * found.count(0) < 9 * len(found):
+        how = agreement(vitc, sound, reading)
+        raise NoStamp(f"no stamp: of the picture it is said: {how}; without --vitc it is stamped by the sound")
 
 
 def listed(numbers: list[int]) -> str:

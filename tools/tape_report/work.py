@@ -2,10 +2,10 @@
 import contextlib
 import tempfile
 from collections.abc import Iterator
-from dataclasses import dataclass
+from dataclasses import dataclass, replace
 from fractions import Fraction
 
-from . import levels, page, report, row, slicing, vitc_report
+from . import codes, levels, page, report, row, slicing, vitc_report
 from .margin import margin_of
 from .choice import Choice, Wanted, choose
 from .faults import NoPicture, NoSound, reason_of
@@ -26,7 +26,8 @@ class Tape:
     sound: Sound
     choice: Choice
     place: Place | None
-    is_rate_given: bool
+    # The frames a second that were given.
+    given: Fraction | None
     # What the rows of the picture say, or why they were not looked at; None where that was not asked for.
     vitc: Vitc | str | None = None
 
@@ -45,14 +46,13 @@ class Tape:
         if self.choice.is_found:
             level = levels.level_of(self.sound, mine.track)
             margin = margin_of(self.sound, mine) if has_margin else None
-            is_given = self.is_rate_given
-            return report.found_report(self.name, self.sound, self.choice, self.place, level, is_given, margin)
+            return report.found_report(self.name, self.sound, self.choice, self.place, level, self.given, margin)
         tracks = sorted({reading.track for reading in self.choice.others})
         heights = {track: levels.level_of(self.sound, track) for track in tracks}
         return report.empty_report(self.name, self.sound, self.choice, heights)
 
     def told(self) -> row.Told:
-        told = row.told_of(self.name, self.sound, self.choice, self.place)
+        told = row.told_of(self.name, self.sound, self.choice, self.place, self.given)
         if self.vitc is not None:
             add_picture(told, self.vitc, self.sound, self.choice.reading)
         return told
@@ -107,6 +107,13 @@ def silent_tape(source: Source, name: str, limit: int, fault: NoSound) -> Silent
     raise fault
 
 
+def placed(choice: Choice, given: Fraction | None) -> Place | None:
+    """Where the tape lies in the day, which is doubtful if another track has another code."""
+    place = place_of(choice, given) if choice.is_found else None
+    doubt = codes.doubt_of(choice) if place is not None else ""
+    return replace(place, doubts=(*place.doubts, doubt)) if place is not None and doubt else place
+
+
 @contextlib.contextmanager
 def tape_read(
     source: Source, name: str, wanted: Wanted, rate: Fraction | None, is_shown: bool = False, has_vitc: bool = False
@@ -122,6 +129,6 @@ def tape_read(
         finally:
             if progress:
                 slicing.end_progress()
-        place = place_of(choice, rate) if choice.is_found else None
+        place = placed(choice, rate)
         vitc = picture_read(source, wanted.limit) if has_vitc else None
-        yield Tape(shown(name), source, sound, choice, place, rate is not None, vitc)
+        yield Tape(shown(name), source, sound, choice, place, rate, vitc)

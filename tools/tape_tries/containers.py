@@ -41,7 +41,8 @@ def try_containers(room):
         assert timecode_in(copy) == "09:59:59:20", f"{name}: {timecode_in(copy)}"
         # The copy is read as the file was.
         again, _ = tape(copy)
-        assert again.split("\n")[2:] == out.split("\n")[2:], again
+        told = [line for line in out.split("\n")[2:] if not line.startswith("copy ")]
+        assert again.split("\n")[2:] == told, again
 
 
 def try_drop_in_containers(room):

@@ -2,9 +2,13 @@
 import json
 import os
 import re
+import sys
 
-from .making import code, intervals, wav
+from .making import TOP, code, intervals, wav
 from .running import ARCHIVE, TAPE, has, run, tape, want
+
+sys.path.insert(0, os.path.join(TOP, "tools"))
+from tape_report.row import COLUMNS
 
 CMX_EVENT = re.compile(r"(\d{3})  ([A-Z0-9]{1,8} *) (AA|V|A|B|A2)( +)([CDWK])( +)((?:\d\d:\d\d:\d\d[:;]\d\d ?){4})$")
 
@@ -136,7 +140,7 @@ def try_index(room):
 # The page sorts and filters as a click and a word typed would.
 CLICKED = """<script>
 const told = document.createElement("pre");
-const files = () => [...document.querySelectorAll("td.file")].map(it => it.textContent).join("|");
+const files = () => [...document.querySelectorAll("td.file > a")].map(it => it.textContent).join("|");
 told.textContent += "at first " + files() + "\\n";
 const heads = [...document.querySelectorAll("#heads button")];
 heads[0].click(); told.textContent += "by file " + files() + "\\n";
@@ -157,6 +161,62 @@ def try_index_in_browser(room):
     _, told, _ = run(*words, "file://" + page)
     has(told, "at first silent.wav|", "by file drop.wav|film.wav|Reel 1.wav|reel-1.wav|silent.wav")
     has(told, "turned silent.wav|reel-1.wav|Reel 1.wav|film.wav|drop.wav", "without silent.wav\n")
+
+
+# What a page draws as text, and how its head stands.
+DRAWN = """<script>
+const drawn = [], plainText = CanvasRenderingContext2D.prototype.fillText;
+CanvasRenderingContext2D.prototype.fillText = function(text, ...at) { drawn.push(text); plainText.call(this, text, ...at); };
+draw();
+const said = document.createElement("pre");
+said.textContent = "drawn " + drawn.join("|");
+document.body.append(said);
+</script>"""
+STANDS = """<script>
+const said = document.createElement("pre"), buttons = () => document.querySelectorAll("#heads button").length;
+said.textContent = "head " + getComputedStyle(document.querySelector("thead")).position + ", " + buttons() + " columns";
+said.textContent += ", first " + document.querySelector("tbody tr:last-child td:first-child").firstChild.getAttribute("href");
+document.querySelector("#same button").click();
+said.textContent += ", unfolded " + buttons() + "\\n";
+document.body.append(said);
+</script>"""
+
+
+def dumped(room, page, script):
+    """What a browser makes of a page with a script behind it."""
+    want("chromium")
+    with open(page, "a", encoding="utf-8") as file:
+        file.write(script)
+    words = ["chromium", "--headless", "--no-sandbox", "--disable-gpu", "--user-data-dir=" + room, "--dump-dom"]
+    return run(*words, "file://" + page)[1]
+
+
+def try_page_with_a_jump(room):
+    """The page and the picture of a tape draw a jump of 51 seconds, and the speed on the scale of what it does."""
+    want("gnuplot")
+    made = [code(48_000, intervals("25", label, 100, rate=25.1)) for label in ("10:00:00:00", "10:00:55:00")]
+    path, page = wav(os.path.join(room, "cut.wav"), 48_000, [made[0] + made[1]]), os.path.join(room, "cut.html")
+    picture = os.path.join(room, "cut.png")
+    tape(path, "--page", page, "--picture", picture)
+    has(dumped(room, page, DRAWN), "10:00:03:24 &gt; 10:00:55:00", "|1.000|1.005|1.010|")
+    from tape_report.speed_plot import speed_of_report
+
+    with open(os.path.join(room, "lines"), "w", encoding="ascii") as file:
+        word = "word forward {} user 0 flags 0 balance 1 tick {} length 1920 speed 1004"
+        labels = ("10:00:00:00", "10:00:00:01", "10:00:51:02")
+        file.writelines(word.format(label, 1920 * n) + "\n" for n, label in enumerate(labels, 1))
+    with open(os.path.join(room, "lines"), encoding="ascii") as lines:
+        points, script = speed_of_report(lines, 48_000)
+    assert len(points["jump"]) == 1 and "10:00:51:02" in points["named"][1], points
+    assert "set yrange [0.99" in script, script
+
+
+def try_head_of_the_page(room):
+    """The head stays, the name leads to the tape's page, and what is equal for all tapes is folded away."""
+    page = os.path.join(lists_of(room), "index.html")
+    told = re.search(r"head (\w+), (\d+) columns, first (\S+), unfolded (\d+)", dumped(room, page, STANDS))
+    assert told and told[1] == "sticky" and told[3].endswith("/page.html"), told
+    assert int(told[2]) < int(told[4]) == len(COLUMNS), told
 
 
 def try_several_files(room):

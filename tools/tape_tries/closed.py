@@ -1,0 +1,98 @@
+"""Ends: outputs that are closed or full, each with its status and without a traceback."""
+import os
+import subprocess
+
+from .harm import small_disk
+from .left_out import plain
+from .making import TC, TOP
+from .running import ARCHIVE, TAPE, has, run, want
+
+
+def shell(command, **others):
+    ended, out, notes = run("sh", "-c", command, **others)
+    assert "Traceback" not in notes and "Exception" not in notes, f"{command}\n{notes}"
+    return ended, out, notes
+
+
+def commands(room):
+    """The tools, each as a command that ends well, and writes to standard output."""
+    want("parallel", "gnuplot")
+    tape = plain(os.path.join(room, "folder", "a.wav"))
+    live, rows, runs = (os.path.join(TOP, "tools", name) for name in ("live", "line_rows", "line_runs"))
+    lines, pixels = os.path.join(room, "lines"), os.path.join(room, "pixels")
+    with open(lines, "wb") as file:
+        subprocess.run([TC, "vitc-make", "25", "10:00:00:00", "1", "864"], stdout=file, check=True)
+    with open(lines, "rb") as file, open(pixels, "wb") as out:
+        subprocess.run([rows, "720", "12"], stdin=file, stdout=out, check=True)
+    archive = f"'{ARCHIVE}' '{room}/folder' '{room}/out' --force"
+    return {
+        "tape": f"'{TAPE}' '{tape}'",
+        "tape --json": f"'{TAPE}' --json '{tape}'",
+        "archive": archive,
+        "archive --json": archive + " --json",
+        "live": f"'{live}' --file '{tape}'",
+        "line_rows": f"'{rows}' 720 12 < '{lines}'",
+        "line_runs": f"'{runs}' 25 864 720 2 < '{pixels}'",
+    }
+
+
+def try_closed_output(room):
+    """A standard output that is closed, or full, is status 3 with a note; one whose reader left is 141."""
+    for name, command in commands(room).items():
+        ended, _, notes = shell(f"{command} >&-")
+        assert ended == 3 and notes.strip(), f"{name} >&-: {ended} {notes}"
+        ended, _, notes = shell(f"{command} > /dev/full")
+        assert ended == 3 and "no space left" in notes, f"{name} > /dev/full: {ended} {notes}"
+        ended, out, notes = shell(f"{{ {command}; echo $? >&2; }} | true")
+        # A short output may be written before its reader has gone.
+        assert notes.split()[-1] in ("141", "0"), f"{name} | true: {notes}"
+        ended, _, notes = shell(f"{{ sleep 1; {command}; echo $? >&2; }} | true")
+        assert notes.split()[-1] == "141", f"{name} | true: {notes}"
+
+
+def try_closed_notes(room):
+    """With standard error closed, or full, a tool does what it does."""
+    for name, command in commands(room).items():
+        for where in ("2>&-", "2> /dev/full", "<&- 2>&-" if "<" not in command else "2>&-"):
+            ended, out, _ = shell(f"{command} {where}")
+            assert ended == 0 and out, f"{name} {where}: {ended}"
+    for where in ("2>&-", "2> /dev/full"):
+        assert shell(f"'{TAPE}' '{room}/none.wav' {where}")[0] == 3
+
+
+def try_help_of_all(_room):
+    """Each tool helps, and refuses words that it does not take with status 2."""
+    for name in ("tape", "archive", "live", "draw_report", "plot_chase", "line_rows", "line_runs"):
+        tool = os.path.join(TOP, "tools", name)
+        ended, out, _ = run(tool, "--help")
+        assert ended == 0 and "usage: " + name in out, f"{name}: {ended} {out}"
+        ended, _, notes = run(tool, "--no-such-word")
+        assert ended == 2 and "Traceback" not in notes, f"{name}: {ended} {notes}"
+
+
+def try_broken_lines(room):
+    """What is no line file is refused with status 3."""
+    rows = os.path.join(TOP, "tools", "line_rows")
+    for text in (b"", b"VITL", b"no line file at all", b"VITL" + bytes(8) + b"\1\5\0"):
+        ended, _, notes = run(rows, "720", "12", input=text)
+        assert ended == 3 and "Traceback" not in notes and "line file" in notes, f"{text}: {ended} {notes}"
+
+
+def try_full_rooms(room):
+    """A full TMPDIR, and a full disk under the output, are status 3 or a tape that was not read; nothing is called
+    done.
+    """
+    all_of = commands(room)
+    with small_disk(room, "64k") as disk:
+        with open(os.path.join(disk, "fill"), "wb") as file:
+            file.write(bytes(60 * 1024))
+        there = {**os.environ, "TMPDIR": disk}
+        ended, _, notes = shell(all_of["tape"], env=there)
+        assert ended == 3, f"tape: {ended} {notes}"
+        has(notes, "no space left")
+        ended, out, notes = shell(all_of["archive"], env=there)
+        assert ended in (1, 3), f"archive: {ended} {out} {notes}"
+        assert "1 with code" not in out, out
+        ended, out, notes = shell(f"'{ARCHIVE}' '{room}/folder' '{disk}/out'")
+        assert ended == 3, f"a full OUT: {ended} {out} {notes}"
+        has(notes, "no space left")
