@@ -10,9 +10,11 @@
 //!   those of all samples so far, each once and in order, in whatever pieces the samples come
 //!   (`specs/Write.antt`, `Goes`). Behind the events that it writes it changes none, and where it leaves
 //!   room for two it has taken all samples, unless the reader is full.
-//! - `tc_tape_write_` does so with intervals, where room for three is left (`TapeGoes`). It takes no number
-//!   that is no interval, and says where one comes. With what `tc_tape_last_` writes, the events are those of
-//!   the tape.
+//! - `tc_tape_write_` does so with intervals, where room for three is left, or for four of consecutive words
+//!   (`TapeGoes`, `room_of`). It takes no number that is no interval, and says where one comes. With what
+//!   `tc_tape_last_` writes, the events are those of the tape.
+//! - `tc_reader_told_` and `tc_tape_told_` give the tick up to which all words are told: one that is told later
+//!   ends there or behind it, whatever follows.
 //! - `tc_wheel_hear_` and `tc_wheel_pass_` write the frames of all words so far, up to the latest tick
 //!   (`WheelGoes`). A tick that falls is refused.
 //! - `tc_mtc_writer_write_` writes what the MIDI Time Code of the frames so far grows by (`MtcWrites`), and
