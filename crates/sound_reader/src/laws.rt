@@ -7,9 +7,7 @@ ghost use Rattle.sound_reader.specs.declared.reader.TheConstants.{MAX_SAMPLES};
 ghost use Rattle.sound_reader.specs.Settings.{slicing, AreInRange};
 ghost use Rattle.sound_reader.specs.Sound.{intervals_of, AllElseIsLater, IsSettled, SoundState, StandsFor};
 
-use direction_reader::laws::{
-    a_reader_gives_the_events_of_its_list, events_of_a_front_come_first,
-};
+use direction_reader::laws::{a_reader_gives_the_events_of_its_list, events_of_a_front_come_first};
 use pcm_front::laws::intervals_of_a_front_come_first;
 
 /// A reader takes 2 to the 50th samples at most.

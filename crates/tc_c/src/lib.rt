@@ -27,7 +27,7 @@
 //!   `tc_sound_at` make an object in the room that they are given (`specs/Opening.antt`).
 //! - The numbers of an event are those of `specs/CEvent.antt`, `c_event` and `c_told`, and those of a frame
 //!   `c_frame` of `specs/CFrame.antt`; numbers mean one settings, one label, one word and one frame at most
-//!   (`laws`).
+//!   (`laws`). `number_laws` writes them out.
 //! - `tc_word_bits` gives the bits that spell the word which the numbers mean (`specs/CWord.antt`,
 //!   `MeansWord`), and `tc_bits_word` the word that bits spell, or the number of their first fault.
 //! - `tc_line_read` gives what a line of vertical interval time code says, of its runs: its word, or its first fault
@@ -75,6 +75,7 @@ mod mtc_writer_exports;
 mod mtc_writer_handle;
 mod mtc_writer_kept;
 mod mtc_writer_opening;
+pub mod number_laws;
 mod opening;
 mod settings;
 mod sound_exports;

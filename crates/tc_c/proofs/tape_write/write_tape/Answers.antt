@@ -24,15 +24,27 @@ writing-preserved c =
     let room : room_for c.witness.result ≡ room_of c.args.tape.now = ap room_for c.witness.ensures in
     record {
       at = grind (arith, common_steps, c.writing.invariant.at, c.read-count.ensures.within);
-      made = grind (arith, common_steps, c.writing.invariant.made, c.put_all-last.ensures.count, c.read-count.ensures.most,
-          c.room_for-room.ensures.enough);
+      made = grind (
+        arith,
+        common_steps,
+        c.writing.invariant.made,
+        c.put_all-last.ensures.count,
+        c.read-count.ensures.most,
+        c.room_for-room.ensures.enough,
+      );
       settings = c.read-count.ensures.settings ∙ c.writing.invariant.settings;
       goes = step_on StandsFor c_told c.args.tape.now c.writing.tape c.read-count.new.self c.writing.at
           c.read-count.result.0 c.args.intervals.now (take c.writing.made c.writing.events)
           (take c.put_all-last.result c.put_all-last.new.events) (consecutive_list told) c.writing.invariant.goes
           c.read-count.ensures.brings c.put_all-last.ensures.writes;
-      few = λ lt. absurd (omega (arith, lt, room, c.room_for-room.ensures.value, c.writing-test.true,
-          c.writing.auto.events));
+      few = λ lt. absurd (omega (
+        arith,
+        lt,
+        room,
+        c.room_for-room.ensures.value,
+        c.writing-test.true,
+        c.writing.auto.events,
+      ));
       rest = rest_on c.writing.made (length (consecutive_list told)) c.put_all-last.result c.args.events.now
           c.writing.events c.put_all-last.new.events c.put_all-last.ensures.count c.writing.invariant.rest
           c.put_all-last.ensures.rest;
