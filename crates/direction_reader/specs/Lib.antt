@@ -19,6 +19,7 @@ pub mod Gathered
 pub mod Hissy
 pub mod HoldsBits
 pub mod Invariants
+pub mod JoinRows
 pub mod KeptStep
 pub mod LatestBits
 pub mod LatestCells
