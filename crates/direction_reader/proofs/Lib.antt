@@ -21,7 +21,6 @@ pub mod FirmWindows
 pub mod FrontsFirst
 pub mod InOrder
 pub mod InSync
-pub mod JoinRows
 pub mod LaterEvents
 pub mod MirroredEvents
 pub mod MirroredWindows

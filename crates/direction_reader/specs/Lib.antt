@@ -19,7 +19,6 @@ pub mod Gathered
 pub mod Hissy
 pub mod HoldsBits
 pub mod Invariants
-pub mod JoinRows
 pub mod KeptStep
 pub mod LatestBits
 pub mod LatestCells

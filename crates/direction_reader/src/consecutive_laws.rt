@@ -7,22 +7,18 @@ ghost use Rattle.biphase.specs.Chain.{bits, flat, IsChain};
 ghost use Rattle.direction_reader.specs.declared.event.Event.{Event};
 ghost use Rattle.direction_reader.specs.declared.firm_event.FirmEvent.{FirmEvent};
 ghost use Rattle.direction_reader.specs.declared.firm_event.FirmEvent.TheVariants.{Told};
-ghost use Rattle.direction_reader.specs.Consecutive.{joins, AreConsecutiveEvents};
+ghost use Rattle.direction_reader.specs.Consecutive.{AreConsecutiveEvents};
 ghost use Rattle.direction_reader.specs.ConsecutiveStep.{consecutive_until, ConsecutiveStandsFor, ConsecutiveState};
 ghost use Rattle.direction_reader.specs.ConsecutiveTape.{AreBacked, ConsecutiveTellsTheTape, IsSameOrTold};
 ghost use Rattle.direction_reader.specs.ConsecutiveTold.{AreConsecutiveTold};
 ghost use Rattle.direction_reader.specs.Firm.{AreFirmEvents};
 ghost use Rattle.direction_reader.specs.FirmTape.{AreOneWay, IsJudged};
 ghost use Rattle.direction_reader.specs.FirmTold.{ComesFirst};
-ghost use Rattle.direction_reader.specs.JoinRows.{word_ending};
 ghost use Rattle.direction_reader.specs.ListEvents.{AreEvents, duration};
 ghost use Rattle.direction_reader.specs.Played.{Played, AreSpelled, bits_of_words, events_of_words};
 ghost use Rattle.direction_reader.specs.Tracker.{profile_of};
-ghost use Rattle.tc_address.specs.declared.count.Count.TheVariants.{C25, C30, Drop30};
 ghost use Rattle.tc_address.specs.declared.direction.Direction.{Direction};
-ghost use Rattle.tc_address.specs.declared.direction.Direction.TheVariants.{Forward, Backward};
 ghost use Rattle.tc_address.specs.declared.system.System.{System};
-ghost use Rattle.tc_address.specs.Label.{address};
 
 use crate::firm_laws::{
     a_list_has_one_list_of_firm_events, a_list_has_one_list_of_told_events,
@@ -127,41 +123,3 @@ pub fn consecutive_told_come_first()
     each_list_has_events();
     a_witness_changes_words_alone();
 }
-
-/// Which words join: the next label, over midnight, over the labels that drop-frame counting leaves out, and in
-/// the tenth minute; and of words that are played backward the label before.
-pub fn these_words_join()
-    ensures next { joins (word_ending (address C25 10 20 30 3) Forward 700)
-        (word_ending (address C25 10 20 30 4) Forward 800) ≡ true }
-    ensures midnight { joins (word_ending (address C25 23 59 59 24) Forward 700)
-        (word_ending (address C25 0 0 0 0) Forward 800) ≡ true }
-    ensures dropped { joins (word_ending (address Drop30 10 20 59 29) Forward 700)
-        (word_ending (address Drop30 10 21 0 2) Forward 800) ≡ true }
-    ensures tenth { joins (word_ending (address Drop30 10 29 59 29) Forward 700)
-        (word_ending (address Drop30 10 30 0 0) Forward 800) ≡ true }
-    ensures backward { joins (word_ending (address C25 0 0 0 0) Backward 700)
-        (word_ending (address C25 23 59 59 24) Backward 800) ≡ true }
-    ensures dropped_backward { joins (word_ending (address Drop30 10 21 0 2) Backward 700)
-        (word_ending (address Drop30 10 20 59 29) Backward 800) ≡ true }
-{}
-
-/// And which do not: those of the same label, of the one after the next, of the label before where words are played
-/// forward, of another direction or count, and those that do not begin where the first ends.
-pub fn other_words_do_not_join()
-    ensures same { joins (word_ending (address C25 10 20 30 3) Forward 700)
-        (word_ending (address C25 10 20 30 3) Forward 800) ≡ false }
-    ensures skipped { joins (word_ending (address C25 10 20 30 3) Forward 700)
-        (word_ending (address C25 10 20 30 5) Forward 800) ≡ false }
-    ensures before { joins (word_ending (address C25 10 20 30 3) Forward 700)
-        (word_ending (address C25 10 20 30 2) Forward 800) ≡ false }
-    ensures kept { joins (word_ending (address C30 10 20 59 29) Forward 700)
-        (word_ending (address C30 10 21 0 2) Forward 800) ≡ false }
-    ensures turned { joins (word_ending (address C25 10 20 30 3) Forward 700)
-        (word_ending (address C25 10 20 30 4) Backward 800) ≡ false }
-    ensures count { joins (word_ending (address C30 10 20 30 3) Forward 700)
-        (word_ending (address Drop30 10 20 30 4) Forward 800) ≡ false }
-    ensures early { joins (word_ending (address C25 10 20 30 3) Forward 700)
-        (word_ending (address C25 10 20 30 4) Forward 799) ≡ false }
-    ensures late { joins (word_ending (address C25 10 20 30 3) Forward 700)
-        (word_ending (address C25 10 20 30 4) Forward 801) ≡ false }
-{}

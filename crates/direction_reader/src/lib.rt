@@ -29,7 +29,7 @@
 //!   them (`specs/ConsecutiveStep.antt`, and of the list alone `specs/ConsecutiveTold.antt`,
 //!   `AreConsecutiveTold`), and `finish` gives what is held (clause `all`). At most one word is held, and at
 //!   most two words are told with an interval. `consecutive_laws` says what the next word changes and what
-//!   not, and has rows of words that join and of words that do not.
+//!   not.
 //! - A window holds the latest of the bits that it was given (`specs/HoldsBits.antt`).
 //! - `window_events` gives the candidates of one window, the forward one first
 //!   (`specs/Candidate.antt`).
