@@ -1,4 +1,5 @@
-//! A reader of a tape. Read next: `direction_reader/src/reader.rt`, `firm_reader.rt` and `consecutive.rt` beside it.
+//! A reader of a tape. Read next: `laws`, and of the readers that it has `direction_reader/src/reader.rt`,
+//! `direction_reader/src/firm_reader.rt` and `direction_reader/src/consecutive.rt`.
 ghost use Rattle.std.specs.Prelude.{◌≡◌, ℕ, ◌≤◌, ◌<◌, ◌↔◌, IsTrue, List, [], ◌∷◌, ◌++◌, length, take, drop, map, sum};
 ghost use Rattle.std.specs.Prelude.{true, false, None};
 ghost use Rattle.direction_reader.specs.declared.event.Event.{Event};

@@ -81,33 +81,33 @@ pub fn events_have_these_numbers()
           length = 30000;
         } }
     ensures refused { c_event (Refused Backward faults.Hours 70000) ≡ record {
-          kind = 2;
-          direction = 1;
-          detail = 8;
-          flags = 0;
-          hours = 0;
-          minutes = 0;
-          seconds = 0;
-          frames = 0;
-          user = 0;
-          zero = 0;
-          tick = 70000;
-          length = 0;
-        } }
+      kind = 2;
+      direction = 1;
+      detail = 8;
+      flags = 0;
+      hours = 0;
+      minutes = 0;
+      seconds = 0;
+      frames = 0;
+      user = 0;
+      zero = 0;
+      tick = 70000;
+      length = 0;
+    } }
     ensures lost { c_event (Lost 97 70000) ≡ record {
-          kind = 3;
-          direction = 0;
-          detail = 0;
-          flags = 0;
-          hours = 0;
-          minutes = 0;
-          seconds = 0;
-          frames = 0;
-          user = 0;
-          zero = 0;
-          tick = 70000;
-          length = 97;
-        } }
+      kind = 3;
+      direction = 0;
+      detail = 0;
+      flags = 0;
+      hours = 0;
+      minutes = 0;
+      seconds = 0;
+      frames = 0;
+      user = 0;
+      zero = 0;
+      tick = 70000;
+      length = 97;
+    } }
     ensures told { c_told (Told (Lost 97 70000)) ≡ c_event (Lost 97 70000) }
     ensures alone { c_told (Alone Backward (word_with Drop30 19 47 58 23 (flags true false true false true) 8421 true)
         70000 30000) ≡ record {
@@ -129,62 +129,62 @@ pub fn events_have_these_numbers()
 /// A frame of each kind.
 pub fn frames_have_these_numbers()
     ensures heard { c_frame (Heard (address Drop30 19 47 58 23) Backward true 70000) ≡ record {
-          kind = 1;
-          direction = 1;
-          joined = 1;
-          step = 0;
-          label = record { count = 3; hours = 19; minutes = 47; seconds = 58; frames = 23 };
-          zero = 0;
-          tick = 70000;
-        } }
+      kind = 1;
+      direction = 1;
+      joined = 1;
+      step = 0;
+      label = record { count = 3; hours = 19; minutes = 47; seconds = 58; frames = 23 };
+      zero = 0;
+      tick = 70000;
+    } }
     ensures invented { c_frame (Invented (address Drop30 19 47 58 23) Backward 5 70000) ≡ record {
-          kind = 2;
-          direction = 1;
-          joined = 0;
-          step = 5;
-          label = record { count = 3; hours = 19; minutes = 47; seconds = 58; frames = 23 };
-          zero = 0;
-          tick = 70000;
-        } }
+      kind = 2;
+      direction = 1;
+      joined = 0;
+      step = 5;
+      label = record { count = 3; hours = 19; minutes = 47; seconds = 58; frames = 23 };
+      zero = 0;
+      tick = 70000;
+    } }
     ensures gone { c_frame (Gone 70000) ≡ record {
-          kind = 3;
-          direction = 0;
-          joined = 0;
-          step = 0;
-          label = record { count = 0; hours = 0; minutes = 0; seconds = 0; frames = 0 };
-          zero = 0;
-          tick = 70000;
-        } }
+      kind = 3;
+      direction = 0;
+      joined = 0;
+      step = 0;
+      label = record { count = 0; hours = 0; minutes = 0; seconds = 0; frames = 0 };
+      zero = 0;
+      tick = 70000;
+    } }
 {}
 
 /// An event of each kind of MIDI Time Code.
 pub fn labels_of_midi_have_these_numbers()
     ensures full { c_mtc_event (midi.Full (address Drop30 19 47 58 23) 97) ≡ record {
-          kind = 1;
-          direction = 0;
-          fault = 0;
-          label = record { count = 3; hours = 19; minutes = 47; seconds = 58; frames = 23 };
-          place = 97;
-        } }
+      kind = 1;
+      direction = 0;
+      fault = 0;
+      label = record { count = 3; hours = 19; minutes = 47; seconds = 58; frames = 23 };
+      place = 97;
+    } }
     ensures quarter { c_mtc_event (midi.Quarter Backward (address Drop30 19 47 58 23) 97) ≡ record {
-          kind = 2;
-          direction = 1;
-          fault = 0;
-          label = record { count = 3; hours = 19; minutes = 47; seconds = 58; frames = 23 };
-          place = 97;
-        } }
+      kind = 2;
+      direction = 1;
+      fault = 0;
+      label = record { count = 3; hours = 19; minutes = 47; seconds = 58; frames = 23 };
+      place = 97;
+    } }
     ensures refused_full { c_mtc_event (midi.RefusedFull label_faults.Seconds 97) ≡ record {
-          kind = 1;
-          direction = 0;
-          fault = 3;
-          label = record { count = 0; hours = 0; minutes = 0; seconds = 0; frames = 0 };
-          place = 97;
-        } }
+      kind = 1;
+      direction = 0;
+      fault = 3;
+      label = record { count = 0; hours = 0; minutes = 0; seconds = 0; frames = 0 };
+      place = 97;
+    } }
     ensures refused_quarter { c_mtc_event (midi.RefusedQuarter Backward label_faults.Seconds 97) ≡ record {
-          kind = 2;
-          direction = 1;
-          fault = 3;
-          label = record { count = 0; hours = 0; minutes = 0; seconds = 0; frames = 0 };
-          place = 97;
-        } }
+      kind = 2;
+      direction = 1;
+      fault = 3;
+      label = record { count = 0; hours = 0; minutes = 0; seconds = 0; frames = 0 };
+      place = 97;
+    } }
 {}
