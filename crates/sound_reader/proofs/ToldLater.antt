@@ -1,5 +1,5 @@
 -- Of a sound, what is told later ends later.
-use Rattle.std.proofs.Common.{◌≡◌, ℕ, ℤ, ◌≤◌, List, [], ◌++◌, All, sum}
+use Rattle.std.proofs.Common.{◌≡◌, ℕ, ℤ, ◌≤◌, List, ◌++◌, All, sum}
 use Rattle.std.proofs.Common.{subst, sym, ap, ◌∙◌, append_assoc, append-nil}
 use Rattle.biphase.specs.declared.profile.Profile.{Profile}
 use Rattle.direction_reader.specs.declared.event.Event.{Event}

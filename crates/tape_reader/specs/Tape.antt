@@ -1,5 +1,5 @@
 -- What a reader of a tape keeps, and which intervals it stands for, with what it has told of them.
-use Rattle.std.specs.Prelude.{◌≡◌, ℕ, ◌-◌, ◌≤◌, nat_le, ◌&&◌, not, Bool, true, false, List, [], ◌∷◌, ◌++◌, map, take, sum}
+use Rattle.std.specs.Prelude.{◌≡◌, ℕ, ◌-◌, ◌≤◌, nat_le, ◌&&◌, not, Bool, false, List, [], ◌∷◌, ◌++◌, map, take, sum}
 use Rattle.std.specs.Prelude.{None}
 use Rattle.biphase.specs.declared.profile.Profile.{Profile}
 use Rattle.direction_reader.specs.declared.consecutive_event.ConsecutiveEvents.{ConsecutiveEvents}
