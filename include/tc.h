@@ -76,6 +76,7 @@ size_t tc_reader_boundary(void);
 void tc_reader_at(void *room, tc_handle *handle);
 bool tc_reader_start_(tc_handle *handle, const tc_settings *settings);
 tc_taken tc_reader_write_s16_(tc_handle *handle, const int16_t *samples, size_t count, tc_event *events, size_t room);
+uint64_t tc_reader_told_(tc_handle *handle);
 
 /* ---- a reader: samples in, events out */
 #define TC_READER_BYTES 4096
@@ -112,14 +113,24 @@ static inline tc_taken tc_reader_write_s16(tc_reader *reader, const int16_t *sam
     return tc_reader_write_s16_(&handle, samples, count, events, room);
 }
 
+/* Up to which tick all words are told: one that is told later ends at this tick or behind it, whatever samples follow.
+ * A flywheel that is told the words of a call, and then this tick by tc_wheel_pass, refuses none. It is the end of the
+ * last interval that was read: with a pace of 0 it stands still during a silence, and else it goes on by such pieces.
+ * The reader does not change. */
+static inline uint64_t tc_reader_told(tc_reader *reader) {
+    tc_handle handle = {reader->state};
+    return tc_reader_told_(&handle);
+}
+
 /* ---- a reader of a tape: intervals in, events out */
 
 /* How a tape is read. A number that is not named here is refused. */
 typedef struct tc_tape_settings {
     uint32_t system;    /* frames a second: 24, 25 or 30, which reads 29.97 and drop-frame counting too */
     uint32_t tolerance; /* how much cells may differ: 0 normal, 1 worn, 2 rough */
-    uint32_t firm;      /* 1: a word needs a witness, which is another word's sync word beside it, or the edge of the
-                           code; without one it is refused as TC_ALONE. 0: each word is told */
+    uint32_t firm;      /* 0: each word is told. 1: a word needs a witness, which is another word's sync word beside it,
+                           or the edge of the code; without one it is refused as TC_ALONE. 2: a word needs a witness, or
+                           the word that follows it on the tape: one that is beside it and has the next label */
 } tc_tape_settings;
 
 /* What a call took and gave. */
@@ -137,6 +148,7 @@ void tc_tape_at(void *room, tc_handle *handle);
 bool tc_tape_start_(tc_handle *handle, const tc_tape_settings *settings);
 tc_tape_taken tc_tape_write_(tc_handle *handle, const uint32_t *ticks, size_t count, tc_event *events, size_t room);
 size_t tc_tape_last_(tc_handle *handle, tc_event *events, size_t room);
+uint64_t tc_tape_told_(tc_handle *handle);
 
 #define TC_TAPE_BYTES 4096
 #define TC_TAPE_BOUNDARY 16
@@ -161,21 +173,30 @@ static inline bool tc_tape_init(tc_tape *tape, const tc_tape_settings *settings)
 }
 
 /* Takes intervals, in ticks from 1 to 16777215, from the front, and writes the events that they bring, in order, as
- * long as there is room for three more: with a room of 0, 1 or 2 it takes nothing, writes nothing, and leaves the
- * reader as it was. Behind the events that are made no element changes. If room - made < 3, intervals may be left: call
- * again with those. In whatever pieces the intervals come, the events are the same. If words need a witness, one that
- * is read backward is told 16 cells after its end. */
+ * long as there is room for three more, or for four where `firm` is 2: with less room it takes nothing, writes nothing,
+ * and leaves the reader as it was. Behind the events that are made no element changes. If it leaves less room than
+ * that, intervals may be left: call again with those. In whatever pieces the intervals come, the events are the same.
+ * If words need a witness, one that is read backward is told 16 cells after its end. Where `firm` is 2, one that is
+ * read forward and has no witness is told with the next event. */
 static inline tc_tape_taken tc_tape_write(tc_tape *tape, const uint32_t *ticks, size_t count, tc_event *events,
                                           size_t room) {
     tc_handle handle = {tape->state};
     return tc_tape_write_(&handle, ticks, count, events, room);
 }
 
-/* Writes the events that come if the tape ends here, 2 at most, and gives their number. Together with those before they
- * are the events of the tape. The reader does not change, and may go on. With a room of 0, 1 or 2 it writes none. */
+/* Writes the events that come if the tape ends here, 3 at most, and gives their number. Together with those before they
+ * are the events of the tape. The reader does not change, and may go on. With less room than tc_tape_write needs it
+ * writes none. */
 static inline size_t tc_tape_last(tc_tape *tape, tc_event *events, size_t room) {
     tc_handle handle = {tape->state};
     return tc_tape_last_(&handle, events, room);
+}
+
+/* Up to which tick all words are told, as tc_reader_told says it: one that waits for its witness, or for the word that
+ * follows it, ends at this tick. */
+static inline uint64_t tc_tape_told(tc_tape *tape) {
+    tc_handle handle = {tape->state};
+    return tc_tape_told_(&handle);
 }
 
 /* ---- labels: the frame addresses of a count. If the numbers are no label, a call gives false and changes nothing */
@@ -311,8 +332,9 @@ static inline bool tc_wheel_init(tc_wheel *wheel, uint32_t limit) {
 }
 
 /* Tells the time: writes the frames that are due at the tick, as long as there is room. A frame is due half a length
- * after it should have been heard. No tick may lie before that of an earlier call, a word's tick included. With a room
- * of 0 nothing is written, and the flywheel stays as it was. */
+ * after it should have been heard. No tick may lie before that of an earlier call, a word's tick included. Behind the
+ * words of a call on a reader tell what tc_reader_told or tc_tape_told gives: the next word may end before the tick of
+ * the latest sample. With a room of 0 nothing is written, and the flywheel stays as it was. */
 static inline tc_given tc_wheel_pass(tc_wheel *wheel, uint64_t tick, tc_frame *frames, size_t room) {
     tc_handle handle = {wheel->state};
     return tc_wheel_pass_(&handle, tick, frames, room);

@@ -53,6 +53,16 @@ class Follows(enum.IntEnum):
     QUARTER = 2
 
 
+class Witness(enum.IntEnum):
+    """What a word of a tape is asked for, so that it counts: nothing; a witness, which is another word's sync word beside
+    it; or a witness, or the word that follows it on the tape, if that is beside it and has the next label.
+    """
+
+    NOT_ASKED = 0
+    ASKED = 1
+    CONSECUTIVE = 2
+
+
 class Fault(enum.IntEnum):
     """Why a word is refused: the first of its fields that no label has, or that it has no witness. A line has others
     before those of its fields: a run that is no whole number of cells, or too many cells; a sync pair; or the check.
@@ -354,6 +364,9 @@ def _describe(loaded: ctypes.CDLL) -> None:
     loaded.tc_tape_write_.restype = _TapeTaken
     loaded.tc_tape_write_.argtypes = [place, ctypes.c_void_p, size, events, size]
     loaded.tc_tape_last_.restype, loaded.tc_tape_last_.argtypes = size, [place, events, size]
+    for name in ("reader", "tape"):
+        told = getattr(loaded, f"tc_{name}_told_")
+        told.restype, told.argtypes = ctypes.c_uint64, [place]
     loaded.tc_wheel_start_.argtypes = [place, ctypes.c_uint32]
     loaded.tc_wheel_pass_.restype = loaded.tc_wheel_hear_.restype = _Given
     loaded.tc_wheel_pass_.argtypes = [place, ctypes.c_uint64, frames, size]
@@ -451,19 +464,26 @@ class Reader(_Object):
             raise ValueError("samples are of 16 bits, one behind another")
         return _events_of(self, "write_s16_", view, 2, 2)
 
+    def told(self) -> int:
+        """Up to which tick all words are told: one that is told later ends there or behind it. This is the time to tell
+        a `Wheel`. With a pace of 0 it stands still during a silence, and else it goes on by such pieces.
+        """
+        return self._call("told_", ctypes.byref(self._handle))
+
 
 class Tape(_Object):
     """Reads the words of a tape from its intervals, in pieces of any length. One serves one thread at a time."""
 
     _name, _gives = "tape", _Event
 
-    def __init__(self, system: int = 25, tolerance: Tolerance = Tolerance.NORMAL, firm: bool = False):
-        """Frames a second, 24, 25 or 30; how much cells may differ; and whether each word is asked for a witness,
+    def __init__(self, system: int = 25, tolerance: Tolerance = Tolerance.NORMAL, firm: Witness | bool = False):
+        """Frames a second, 24, 25 or 30; how much cells may differ; and what each word is asked for: True is a witness,
         another word's sync word beside it. Raises ValueError if one is out of range.
         """
         self._make()
         told = (system, tolerance, int(firm))
         self._start(_TapeSettings(*_numbers(told, told)), told)
+        self._least = 4 if firm == Witness.CONSECUTIVE else 3
 
     def write(self, intervals) -> list[Event]:
         """Takes all intervals, in ticks from 1 to 16,777,215, and gives the events that they bring. Raises ValueError
@@ -475,12 +495,18 @@ class Tape(_Object):
         view = memoryview(intervals)
         if not view.c_contiguous or view.format not in ("I", "<I", "L", "B", "b", "c") or view.nbytes % 4:
             raise ValueError("intervals are of 32 bits, one behind another")
-        return _events_of(self, "write_", view, 4, 3)
+        return _events_of(self, "write_", view, 4, self._least)
 
     def last(self) -> list[Event]:
-        """The events that come if the tape ends here: a word that still waits for its witness. The reader may go on."""
+        """The events that come if the tape ends here: a word that still waits for its witness, or for the next word. The
+        reader may go on.
+        """
         made = self._call("last_", ctypes.byref(self._handle), self._given, ROOM)
         return [event.seen() for event in self._given[:made]]
+
+    def told(self) -> int:
+        """Up to which tick all words are told, as `Reader.told` says it."""
+        return self._call("told_", ctypes.byref(self._handle))
 
 
 def _events_of(kept: _Object, what: str, view: memoryview, width: int, least: int) -> list:
@@ -503,7 +529,7 @@ def _events_of(kept: _Object, what: str, view: memoryview, width: int, least: in
 
 class Wheel(_Object):
     """A flywheel: frames of the words that were heard, and invented ones for those that were not. No tick that it is
-    told, of a word or of the time, may lie before an earlier one.
+    told, of a word or of the time, may lie before an earlier one: `told` of the reader gives the time behind its words.
     """
 
     _name, _gives = "wheel", _Frame

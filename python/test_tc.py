@@ -85,7 +85,9 @@ class Tapes(unittest.TestCase):
         cls.labels = [f"{'09:59:59' if n < 5 else f'10:00:{(n - 5) // 25:02}'}:{(20 + n) % 25:02}" for n in range(60)]
 
     def test_words_of_a_clean_tape(self):
-        for settings in ({}, {"tolerance": tc.Tolerance.WORN}, {"tolerance": tc.Tolerance.ROUGH, "firm": True}):
+        rough = {"tolerance": tc.Tolerance.ROUGH}
+        asked = ({}, {"firm": True}, *({"firm": witness} for witness in tc.Witness))
+        for settings in ({}, {"tolerance": tc.Tolerance.WORN}, *({**rough, **firm} for firm in asked)):
             tape = tc.Tape(25, **settings)
             words = tape.write(self.ticks) + tape.last()
             self.assertEqual([word.label for word in words], self.labels)
@@ -114,9 +116,30 @@ class Tapes(unittest.TestCase):
         for wrong in (b"abc", [-1], [1 << 32], array.array("h", [1])):
             with self.assertRaises(ValueError):
                 tc.Tape().write(wrong)
-        for settings in ((29,), (25, 3), (25, 0, 2)):
+        for settings in ((29,), (25, 3), (25, 0, 3), (25, 0, -1)):
             with self.assertRaises(ValueError):
                 tc.Tape(*settings)
+
+    def test_the_next_word_stands_in_for_a_witness(self):
+        labels = ["09:59:59:24", "10:00:00:00", "10:00:00:02"]
+        maker = tc.Maker(1_000)
+        front = maker.write(0b10, 20) + maker.write(tc.bits(labels[0], "25"))  # no sync word before the first word
+        more = [tick for label in labels[1:] for tick in maker.write(tc.bits(label, "25"))]
+        for witness, first, last, later in (
+            (tc.Witness.NOT_ASKED, labels[:1], [], labels[1:]),
+            (tc.Witness.ASKED, [tc.Fault.ALONE], [], labels[1:]),
+            (tc.Witness.CONSECUTIVE, [], [tc.Fault.ALONE], labels),
+        ):
+            tape = tc.Tape(25, firm=witness)
+            self.assertEqual([told_as(event) for event in tape.write(front)], first)
+            self.assertEqual([told_as(event) for event in tape.last()], last)
+            self.assertEqual(tape.told(), 100_000)
+            self.assertEqual([told_as(event) for event in tape.copy().write(more)], later)
+
+
+def told_as(event):
+    """The label of a word, or the fault of a refused one."""
+    return event.label if isinstance(event, tc.Word) else event.fault
 
 
 @unittest.skipUnless(os.path.exists(TC), "bin/tc is not built")
@@ -131,6 +154,36 @@ class Wheels(unittest.TestCase):
             self.assertEqual([frame.kind for frame in frames], [1] * 4 + kinds + [1] * 3)
             self.assertEqual(frames[4 + len(kinds)].joined, limit == 3)
             self.assertEqual([frame.label for frame in frames if frame.kind == tc.Kind.HEARD][4], words[7].label)
+
+    def test_what_is_told_up_to_refuses_no_word(self):
+        samples = array.array("h", code(48_000, intervals("25", "09:59:59:20", 12), lead=700)) + array.array("h", [0] * 9_000)
+        wanted = {}
+        for pace in (0, 7_680):
+            for length in (len(samples), 1, 63, 64, 480, 1_001, 1_024):
+                reader, wheel, frames = tc.Reader(system=25, pace=pace), tc.Wheel(5), []
+                for at in range(0, len(samples), length):
+                    for event in reader.write(samples[at : at + length]):
+                        if isinstance(event, tc.Word):
+                            frames += wheel.heard(event)
+                    frames += wheel.passed(reader.told())
+                self.assertEqual(frames, wanted.setdefault(pace, frames))
+                self.assertLessEqual(reader.told(), 16 * len(samples))
+        kinds = {pace: [frame.kind for frame in frames] for pace, frames in wanted.items()}
+        self.assertEqual(kinds, {0: [tc.Kind.HEARD] * 12, 7_680: [tc.Kind.HEARD] * 12 + [tc.Kind.INVENTED] * 4})
+
+    def test_what_a_tape_has_told_refuses_no_word(self):
+        for way in ("forward", "backward"):
+            ticks = intervals("25", "09:59:59:20", 12, way)
+            for witness in tc.Witness:
+                for length in (1, 7, 100, 999):
+                    tape, wheel, frames = tc.Tape(25, tc.Tolerance.ROUGH, witness), tc.Wheel(5), []
+                    for at in range(0, len(ticks), length):
+                        for word in tape.write(ticks[at : at + length]):
+                            frames += wheel.heard(word)
+                        frames += wheel.passed(tape.told())
+                    for word in tape.last():
+                        frames += wheel.heard(word)
+                    self.assertEqual([frame.kind for frame in frames], [tc.Kind.HEARD] * 12)
 
     def test_time_does_not_fall(self):
         wheel = tc.Wheel(1)

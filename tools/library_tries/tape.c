@@ -13,6 +13,7 @@
 
 static tc_tape tapes[2];
 static int now;
+static size_t least; /* the room that a call asks for */
 
 /* Whether a call kept what tc.h says of it. `events` were all 0xa5. */
 static bool keeps(tc_tape_taken taken, const uint32_t *ticks, size_t count, const tc_event *events, size_t room) {
@@ -23,8 +24,8 @@ static bool keeps(tc_tape_taken taken, const uint32_t *ticks, size_t count, cons
         }
     }
     bool next = taken.used < count && (ticks[taken.used] < 1 || ticks[taken.used] > 16777215);
-    bool all = taken.used == count || taken.full || taken.refused || taken.made + 3 > room;
-    bool few = room >= 3 || (taken.used == 0 && taken.made == 0);
+    bool all = taken.used == count || taken.full || taken.refused || taken.made + least > room;
+    bool few = room >= least || (taken.used == 0 && taken.made == 0);
     return taken.used <= count && taken.made <= room && taken.refused == next && all && few;
 }
 
@@ -42,7 +43,7 @@ static int take(const uint32_t *ticks, size_t count, tc_event *events, size_t ro
         tc_tape before = tapes[now];
         tc_tape_taken taken = tc_tape_write(&tapes[now], ticks + at, count - at, events, room);
         bool same = memcmp(&before, &tapes[now], sizeof before) == 0;
-        if (!keeps(taken, ticks + at, count - at, events, room) || (room < 3 && !same)) {
+        if (!keeps(taken, ticks + at, count - at, events, room) || (room < least && !same)) {
             return 3;
         }
         fwrite(events, sizeof *events, taken.made, stdout);
@@ -53,7 +54,7 @@ static int take(const uint32_t *ticks, size_t count, tc_event *events, size_t ro
         if (taken.refused) {
             return 4;
         }
-        if (room < 3 || room - taken.made >= 3 || taken.full) {
+        if (room < least || room - taken.made >= least || taken.full) {
             return 0;
         }
     }
@@ -69,11 +70,12 @@ int main(int argc, char **argv) {
     }
     tc_tape_settings settings = {numbers[0], numbers[1], numbers[2]};
     size_t piece = numbers[3], room = numbers[4];
+    least = settings.firm == 2 ? 4 : 3;
     if (!tc_tape_init(&tapes[now], &settings)) {
         return 2;
     }
     uint32_t *ticks = (uint32_t *)malloc(piece * sizeof *ticks);
-    tc_event *events = (tc_event *)malloc((room + 3) * sizeof *events);
+    tc_event *events = (tc_event *)malloc((room + 4) * sizeof *events);
     if (!ticks || !events) {
         return 1;
     }
@@ -84,10 +86,12 @@ int main(int argc, char **argv) {
     }
     /* The end changes nothing, and neither do settings that are refused. Others begin anew. */
     tc_tape before = tapes[now];
-    size_t last = tc_tape_last(&tapes[now], events, 3);
+    uint64_t told = tc_tape_told(&tapes[now]);
+    size_t last = tc_tape_last(&tapes[now], events, least);
     fwrite(events, sizeof *events, last, stdout);
     tc_tape_settings none = {0, 0, 0};
-    bool kept = last <= 2 && tc_tape_last(&tapes[now], events, 2) == 0 && !tc_tape_start(&tapes[now], &none);
+    bool kept = last <= least - 1 && (last == 0 || events[0].tick >= told) &&
+                tc_tape_last(&tapes[now], events, least - 1) == 0 && !tc_tape_start(&tapes[now], &none);
     if (!kept || memcmp(&before, &tapes[now], sizeof before) != 0 || !tc_tape_start(&tapes[now], &settings)) {
         status = 3;
     }

@@ -6,6 +6,7 @@ from library_tries.midi import damaged, mtc_line
 
 COUNTS = ("24", "25", "30", "30d")
 REPORTS = ("ltc-read", "ltc-worn", "ltc-rough")
+ASKED = ((), ("firm",), ("consecutive",))
 HEARD, FRAME, LABEL = struct.Struct("<6I2Q"), struct.Struct("<10IQ"), struct.Struct("<8IQ")
 WAYS = ("forward", "backward")
 KINDS = ("heard", "invented", "gone")
@@ -94,11 +95,12 @@ def try_tape(program, programs, chance, intervals, lines_of):
     count, ticks = tape(chance, intervals)
     made, system = file_of(program, count, ticks), count.rstrip("d")
     tolerance = chance.randrange(3)
-    firm = int(tolerance == 2 and chance.random() < 0.5)
-    words = [REPORTS[tolerance]] + (["firm"] if firm else [])
+    firm = chance.choice((0, 0, 1, 2)) if tolerance == 2 else 0
+    words = [REPORTS[tolerance], *ASKED[firm]]
+    least = 4 if firm == 2 else 3
     wanted, _ = report_of(program, words, made)
     raw = struct.pack(f"={len(ticks)}I", *ticks)
-    for piece, room in ((1, 3), (7, 4), (1_024, chance.randrange(3, 9)), (1_000_000, 1_000)):
+    for piece, room in ((1, least), (7, least + 1), (1_024, chance.randrange(least, 9)), (1_000_000, 1_000)):
         how = [chance.choice(reads), system, str(tolerance), str(firm), str(piece), str(room)]
         how += ["moved"] if chance.random() < 0.5 else []
         found, status = run(how, raw)
@@ -106,7 +108,7 @@ def try_tape(program, programs, chance, intervals, lines_of):
         if status != 0:
             raise Differs(f"{told}: status {status}")
         first_difference(told, lines_of(found), wanted)
-    for room in ("0", "1", "2"):
+    for room in map(str, range(least)):
         found, status = run([reads[0], system, str(tolerance), str(firm), "1024", room], raw)
         if status != 0 or found:
             raise Differs(f"room for {room}: status {status}, or something was taken")
@@ -170,8 +172,8 @@ def try_edges(programs):
     """Settings, limits, words and frames at their edges: how many."""
     reads, turns, midi = programs
     good = [25, 0, 0]
-    taken = ((0, 24), (0, 25), (0, 30), (1, 0), (1, 2), (2, 0), (2, 1))
-    refused = ((0, 0), (0, 23), (0, 29), (1, 3), (2, 2), *((place, 4_294_967_295) for place in range(3)))
+    taken = ((0, 24), (0, 25), (0, 30), (1, 0), (1, 2), (2, 0), (2, 1), (2, 2))
+    refused = ((0, 0), (0, 23), (0, 29), (1, 3), (2, 3), *((place, 4_294_967_295) for place in range(3)))
     for status, places in ((0, taken), (2, refused)):
         for place, number in places:
             words = [str(number if at == place else each) for at, each in enumerate(good)]

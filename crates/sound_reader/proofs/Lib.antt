@@ -1,2 +1,3 @@
 mod OnlyPieces
 mod StepsGoOn
+mod ToldLater

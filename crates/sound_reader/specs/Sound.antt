@@ -1,9 +1,9 @@
 -- What a reader of sound keeps, and which samples it stands for, with which events.
-use Rattle.std.specs.Prelude.{◌≡◌, ℕ, ℤ, ◌-◌, ◌*◌, ◌≤◌, nat_le, ◌||◌, Bool, List, [], ◌∷◌, ◌++◌, replicate, take}
+use Rattle.std.specs.Prelude.{◌≡◌, ℕ, ℤ, ◌-◌, ◌*◌, ◌≤◌, nat_le, ◌||◌, Bool, List, [], ◌∷◌, ◌++◌, replicate, take, All}
 use Rattle.direction_reader.specs.declared.brought.Brought.{Brought}
 use Rattle.direction_reader.specs.declared.event.Event.{Event}
 use Rattle.direction_reader.specs.declared.event.Events.{Events}
-use Rattle.direction_reader.specs.Events.{event_list}
+use Rattle.direction_reader.specs.Events.{event_list, tick_of}
 use Rattle.direction_reader.specs.ListEvents.{AreEvents}
 use Rattle.direction_reader.specs.Reader.{ReaderState, Takes}
 use Rattle.direction_reader.specs.StandsFor as reader
@@ -94,3 +94,16 @@ pub record AreEventsSoFar (s : SoundSettings) (samples : List ℤ) (told : List 
 abbrev pub NoneButTheLatestTells : SoundState → ℕ → List ℤ → Type 0
 NoneButTheLatestTells old count samples = (front : List ℤ) (given : List Event) → StandsFor old front given
     → 1 ≤ count → AreEventsSoFar old.settings (front ++ take (count - 1) samples) given
+
+-- these events come first among others, of which all that follow end at a tick or later
+pub record ComesFirst (told : List Event) (until : ℕ) (events : List Event) : Type 0 where
+  pub rest : List Event
+  pub are : events ≡ told ++ rest
+  pub later : All (λ event. until ≤ tick_of event) rest
+
+-- whatever samples follow those that the reader was given, what it has told comes first among the events of all of them,
+-- and what is told later ends at a tick or later
+abbrev pub AllElseIsLater : SoundState → ℕ → Type 0
+AllElseIsLater s until = (samples more : List ℤ) (told events : List Event) → StandsFor s samples told
+    → AreEvents s.settings.system s.settings.profile (intervals_of s.settings (samples ++ more)) events
+    → ComesFirst told until events

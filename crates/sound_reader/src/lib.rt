@@ -11,6 +11,7 @@
 //! - If it gives no event it has taken all samples, and no interval waits, unless it is full (`all`).
 //! - If it gives events it has taken no sample behind the one that brought them (`latest`). Whole pieces of a
 //!   distance are found with the sample that ends it, or with the last that was given.
+//! - All that is told later ends at the tick that `told_until` gives, or behind it (clause `later`).
 //! - So they are the events of the intervals of the samples, under the settings that it was made with
 //!   (`laws::what_is_given_are_the_events_of_the_samples`).
 //!

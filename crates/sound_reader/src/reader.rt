@@ -1,15 +1,17 @@
 //! A reader of sound. Read next: `laws`.
 ghost use Rattle.std.specs.Prelude.{◌≡◌, ◌+◌, ◌≤◌, ◌<◌, ◌↔◌, IsTrue, [], length, take, true, false, None, IfSome};
+ghost use Rattle.std.specs.Prelude.{ℤ, List, sum};
+ghost use Rattle.direction_reader.specs.declared.event.Event.{Event};
 ghost use Rattle.direction_reader.specs.declared.event.Events.{Events};
 ghost use Rattle.direction_reader.specs.Events.{event_list, no_events};
 ghost use Rattle.direction_reader.specs.StandsFor.{MayTell, Tells};
 ghost use Rattle.limits.specs.declared.recording.TheConstants.{MAX_INTERVAL, MAX_INTERVALS};
 ghost use Rattle.sound_reader.specs.Settings.{AreInRange};
 ghost use Rattle.sound_reader.specs.Sound.{is_full, Brings, Found, IsSettled, NoneButTheLatestTells, OnlyPass, Reads};
-ghost use Rattle.sound_reader.specs.Sound.{StandsFor};
+ghost use Rattle.sound_reader.specs.Sound.{intervals_of, AllElseIsLater, StandsFor};
 ghost use Rattle.sound_reader.specs.Waiting.{count_of, is_nothing, AreIntervals};
 
-use crate::laws::what_is_given_are_the_events_of_the_samples;
+use crate::laws::{what_is_given_are_the_events_of_the_samples, what_is_told_later_ends_later};
 use crate::settings::SoundSettings;
 use crate::waiting::{alone, next};
 use direction_reader::{Brought, DirectionReader, Events};
@@ -91,6 +93,19 @@ impl SoundReader {
         ensures { result ≡ is_full self.now }
     {
         self.reader.intervals() >= MAX_INTERVALS || self.samples >= MAX_SAMPLES
+    }
+
+    /// Up to which tick all events are told: all that is told later ends there or behind it, whatever samples
+    /// follow. It is the sum of the intervals that were read, so it stands still during a silence, or goes on
+    /// piece by piece, as the pace says.
+    pub fn told_until(&self) -> u64
+        ensures value { result ≡ self.now.reader.tick }
+        ensures later { AllElseIsLater self.now result }
+        ensures settled { (samples : List ℤ) (told : List Event) → StandsFor self.now samples told
+            → IsSettled self.now → result ≡ sum (intervals_of self.now.settings samples) }
+    {
+        what_is_told_later_ends_later();
+        self.reader.tick()
     }
 
     /// Takes samples from the front up to the first one that brings an event, or else all of them. Gives how

@@ -1,1 +1,2 @@
 mod StepsGoOn
+mod ToldFirst

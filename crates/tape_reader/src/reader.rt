@@ -1,18 +1,26 @@
-//! A reader of a tape. Read next: `direction_reader/src/reader.rt` and `direction_reader/src/firm_reader.rt`.
-ghost use Rattle.std.specs.Prelude.{◌≡◌, ℕ, ◌≤◌, ◌<◌, ◌↔◌, IsTrue, List, [], ◌∷◌, ◌++◌, length, take, drop, map};
-ghost use Rattle.std.specs.Prelude.{true, false};
+//! A reader of a tape. Read next: `laws`, and of the readers that it has `direction_reader/src/reader.rt`,
+//! `direction_reader/src/firm_reader.rt` and `direction_reader/src/consecutive.rt`.
+ghost use Rattle.std.specs.Prelude.{◌≡◌, ℕ, ◌≤◌, ◌<◌, ◌↔◌, IsTrue, List, [], ◌∷◌, ◌++◌, length, take, drop, map, sum};
+ghost use Rattle.std.specs.Prelude.{true, false, None};
 ghost use Rattle.direction_reader.specs.declared.event.Event.{Event};
 ghost use Rattle.direction_reader.specs.declared.firm_event.FirmEvent.{FirmEvent};
 ghost use Rattle.direction_reader.specs.declared.firm_event.FirmEvent.TheVariants.{Told};
+ghost use Rattle.direction_reader.specs.ConsecutiveStep.{consecutive_list};
 ghost use Rattle.direction_reader.specs.Events.{event_list, listed};
-ghost use Rattle.direction_reader.specs.FirmStep.{firm_list, firm_listed, nothing_told};
+ghost use Rattle.direction_reader.specs.FirmStep.{firm_list, firm_listed};
+ghost use Rattle.direction_reader.specs.FirmTold.{ComesFirst};
 ghost use Rattle.limits.specs.declared.recording.TheConstants.{MAX_INTERVAL, MAX_INTERVALS};
-ghost use Rattle.tape_reader.specs.Tape.{begins_with_none, is_full, is_interval, settings_of};
-ghost use Rattle.tape_reader.specs.Tape.{AreTapeEvents, Brings, NoneButTheLatestTells, StandsFor};
+ghost use Rattle.tape_reader.specs.Tape.{begins_with_none, is_full, is_interval, most_told, nothing_brought, settings_of};
+ghost use Rattle.tape_reader.specs.Tape.{told_until, AreTapeEvents, AreTapeTold, Brings, NoneButTheLatestTells};
+ghost use Rattle.tape_reader.specs.Tape.{StandsFor};
 
-use crate::settings::TapeSettings;
+use crate::laws::what_is_told_comes_first;
+use crate::settings::{TapeSettings, Witness};
 use direction_reader::laws::a_reader_gives_the_events_of_its_list;
-use direction_reader::{DirectionReader, Event, Events, FirmEvent, FirmEvents, FirmReader};
+use direction_reader::{
+    ConsecutiveEvents, ConsecutiveReader, DirectionReader, Event, Events, FirmEvent, FirmEvents,
+    FirmReader,
+};
 use limits::{MAX_INTERVAL, MAX_INTERVALS};
 
 /// Reads the words of a tape, in either direction, some intervals at a time.
@@ -22,6 +30,8 @@ pub enum TapeReader {
     Plain(DirectionReader),
     /// A word is told where it has a witness, and as alone where it has none.
     Firm(FirmReader),
+    /// A word is told where it has a witness too, or where the word that follows it on the tape joins it.
+    Joined(ConsecutiveReader),
 }
 
 impl TapeReader {
@@ -34,12 +44,12 @@ impl TapeReader {
         let TapeSettings {
             system,
             profile,
-            firm,
+            witness,
         } = settings;
-        if firm {
-            TapeReader::Firm(FirmReader::new(system, profile))
-        } else {
-            TapeReader::Plain(DirectionReader::new(system, profile))
+        match witness {
+            Witness::NotAsked => TapeReader::Plain(DirectionReader::new(system, profile)),
+            Witness::Asked => TapeReader::Firm(FirmReader::new(system, profile)),
+            Witness::Consecutive => TapeReader::Joined(ConsecutiveReader::new(system, profile)),
         }
     }
 
@@ -51,18 +61,49 @@ impl TapeReader {
         let count = match self {
             TapeReader::Plain(reader) => reader.intervals(),
             TapeReader::Firm(reader) => reader.intervals(),
+            TapeReader::Joined(reader) => reader.intervals(),
         };
         count >= MAX_INTERVALS
     }
 
+    /// What each word is asked for.
+    pub fn witness(&self) -> Witness
+        ensures { result ≡ (settings_of self.now).witness }
+    {
+        match self {
+            TapeReader::Plain(_) => Witness::NotAsked,
+            TapeReader::Firm(_) => Witness::Asked,
+            TapeReader::Joined(_) => Witness::Consecutive,
+        }
+    }
+
+    /// Up to which tick all words are told: one that is told later ends there or behind it. Words that are not
+    /// asked for a witness are told up to the sum of the intervals.
+    pub fn told_until(&self) -> u64
+        ensures value { result ≡ told_until self.now }
+        ensures told { (intervals : List ℕ) (told : List FirmEvent) → StandsFor self.now intervals told
+            → AreTapeTold (settings_of self.now) intervals told result }
+        ensures later { (intervals more : List ℕ) (told events : List FirmEvent) → StandsFor self.now intervals told
+            → AreTapeEvents (settings_of self.now) (intervals ++ more) events
+            → ComesFirst told result events (sum (intervals ++ more)) }
+    {
+        what_is_told_comes_first();
+        match self {
+            TapeReader::Plain(reader) => reader.tick(),
+            TapeReader::Firm(reader) => reader.told_until(),
+            TapeReader::Joined(reader) => reader.told_until(),
+        }
+    }
+
     /// Takes intervals from the front up to the first one that brings an event, or else all of them, but
     /// none from a number on that is no interval. Gives how many these are, and what they brought.
-    pub fn read(&mut self, intervals: &[u32]) -> (usize, FirmEvents)
+    pub fn read(&mut self, intervals: &[u32]) -> (usize, ConsecutiveEvents)
         ensures within { result.0 ≤ length intervals.now }
         ensures settings { settings_of self.new ≡ settings_of self.old }
-        ensures brings { Brings self.old self.new (take result.0 intervals.now) (firm_list result.1) }
-        ensures latest { ¬ (result.1 ≡ nothing_told) → NoneButTheLatestTells self.old result.0 intervals.now }
-        ensures some { result.1 ≡ nothing_told → is_full self.new ≡ false
+        ensures brings { Brings self.old self.new (take result.0 intervals.now) (consecutive_list result.1) }
+        ensures most { length (consecutive_list result.1) ≤ most_told (settings_of self.old).witness }
+        ensures latest { ¬ (result.1 ≡ nothing_brought) → NoneButTheLatestTells self.old result.0 intervals.now }
+        ensures some { result.1 ≡ nothing_brought → is_full self.new ≡ false
             → begins_with_none (drop result.0 intervals.now) ≡ false → result.0 ≡ length intervals.now }
     {
         let mut at = 0;
@@ -73,41 +114,36 @@ impl TapeReader {
                 return (at, told);
             }
         }
-        let none = FirmEvents {
-            first: None,
-            second: None,
-            third: None,
-        };
-        (at, none)
+        (at, none())
     }
 
     /// Takes the next interval, of `x` ticks, and answers what is told with it.
     #[inline(always)]
-    fn feed(&mut self, x: u32) -> FirmEvents
+    fn feed(&mut self, x: u32) -> ConsecutiveEvents
         requires interval { is_interval x ≡ true }
         requires room { is_full self.old ≡ false }
         ensures settings { settings_of self.new ≡ settings_of self.old }
-        ensures brings { Brings self.old self.new (x ∷ []) (firm_list result) }
+        ensures brings { Brings self.old self.new (x ∷ []) (consecutive_list result) }
+        ensures most { length (consecutive_list result) ≤ most_told (settings_of self.old).witness }
     {
         match self {
             TapeReader::Plain(reader) => told(reader.feed(x)),
-            TapeReader::Firm(reader) => reader.feed(x),
+            TapeReader::Firm(reader) => with_none_held(reader.feed(x)),
+            TapeReader::Joined(reader) => reader.feed(x),
         }
     }
 
     /// What is told at the end of the tape, where no interval follows.
-    pub fn last(&self) -> FirmEvents
+    pub fn last(&self) -> ConsecutiveEvents
         ensures all { (intervals : List ℕ) (told : List FirmEvent) → StandsFor self.now intervals told
-            → AreTapeEvents (settings_of self.now) intervals (told ++ firm_list result) }
+            → AreTapeEvents (settings_of self.now) intervals (told ++ consecutive_list result) }
+        ensures most { length (consecutive_list result) ≤ most_told (settings_of self.now).witness }
     {
         a_reader_gives_the_events_of_its_list();
         match self {
-            TapeReader::Plain(_) => FirmEvents {
-                first: None,
-                second: None,
-                third: None,
-            },
-            TapeReader::Firm(reader) => reader.finish(),
+            TapeReader::Plain(_) => none(),
+            TapeReader::Firm(reader) => with_none_held(reader.finish()),
+            TapeReader::Joined(reader) => reader.finish(),
         }
     }
 }
@@ -120,24 +156,51 @@ pub fn is_interval(x: u32) -> bool
     x >= 1 && x <= MAX_INTERVAL
 }
 
+/// No event.
+#[inline(always)]
+fn none() -> ConsecutiveEvents
+    ensures { result ≡ nothing_brought }
+{
+    with_none_held(FirmEvents {
+        first: None,
+        second: None,
+        third: None,
+    })
+}
+
+/// Events of which none was held.
+#[inline(always)]
+fn with_none_held(events: FirmEvents) -> ConsecutiveEvents
+    ensures value { result ≡ record { held = None; events = events } }
+    ensures list { consecutive_list result ≡ firm_list events }
+    ensures most { length (consecutive_list result) ≤ 3 }
+{
+    ConsecutiveEvents { held: None, events }
+}
+
 /// Tells whether there is no event.
 #[inline(always)]
-fn are_none(told: &FirmEvents) -> bool
-    ensures { IsTrue result ↔ told.now ≡ nothing_told }
+fn are_none(told: &ConsecutiveEvents) -> bool
+    ensures { IsTrue result ↔ told.now ≡ nothing_brought }
 {
-    told.first.is_none() && told.second.is_none() && told.third.is_none()
+    let events = &told.events;
+    told.held.is_none()
+        && events.first.is_none()
+        && events.second.is_none()
+        && events.third.is_none()
 }
 
 /// The events, as they are told.
 #[inline(always)]
-fn told(events: Events) -> FirmEvents
-    ensures { firm_list result ≡ map (λ (event : Event). Told event) (event_list events) }
+fn told(events: Events) -> ConsecutiveEvents
+    ensures list { consecutive_list result ≡ map (λ (event : Event). Told event) (event_list events) }
+    ensures most { length (consecutive_list result) ≤ 2 }
 {
-    FirmEvents {
+    with_none_held(FirmEvents {
         first: told_one(events.first),
         second: told_one(events.second),
         third: None,
-    }
+    })
 }
 
 /// The event, as it is told.

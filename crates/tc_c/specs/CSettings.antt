@@ -11,7 +11,8 @@ use Rattle.sound_reader.specs.declared.settings.SoundSettings.{SoundSettings}
 use Rattle.tc_address.specs.declared.system.System.{System}
 use Rattle.tc_address.specs.declared.system.System.TheVariants.{F24, F25, F30}
 use Rattle.tape_reader.specs.declared.settings.TapeSettings.{TapeSettings}
-use Rattle.tc_c.specs.CEvent.{bit}
+use Rattle.tape_reader.specs.declared.settings.Witness.{Witness}
+use Rattle.tape_reader.specs.declared.settings.Witness.TheVariants.{NotAsked, Asked, Consecutive}
 use Rattle.tc_c.specs.declared.settings.TcSettings.{TcSettings}
 use Rattle.tc_c.specs.declared.tape_settings.TcTapeSettings.{TcTapeSettings}
 
@@ -38,6 +39,12 @@ abbrev pub pace_number : Pace → ℕ
 pace_number Ended = 0
 pace_number (Passing length) = length
 
+-- what a word is asked for, so that it is told
+abbrev pub witness_number : Witness → ℕ
+witness_number NotAsked = 0
+witness_number Asked = 1
+witness_number Consecutive = 2
+
 -- the numbers mean these settings
 pub record Means (numbers : TcSettings) (s : SoundSettings) : Type 0 where
   pub system : system_number s.system ≡ numbers.system
@@ -52,4 +59,4 @@ pub record Means (numbers : TcSettings) (s : SoundSettings) : Type 0 where
 pub record MeansTape (numbers : TcTapeSettings) (s : TapeSettings) : Type 0 where
   pub system : system_number s.system ≡ numbers.system
   pub tolerance : tolerance_number s.profile ≡ numbers.tolerance
-  pub firm : bit s.firm ≡ numbers.firm
+  pub firm : witness_number s.witness ≡ numbers.firm

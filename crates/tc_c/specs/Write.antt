@@ -14,6 +14,8 @@ use Rattle.sound_reader.specs.Sound as sound
 use Rattle.sound_reader.specs.Sound.{SoundState}
 use Rattle.tape_reader.specs.Tape as tape
 use Rattle.tape_reader.specs.declared.reader.TapeReader.{TapeReader}
+use Rattle.tape_reader.specs.declared.settings.Witness.{Witness}
+use Rattle.tape_reader.specs.declared.settings.Witness.TheVariants.{NotAsked, Asked, Consecutive}
 use Rattle.tc_c.specs.CEvent.{c_event, c_told}
 use Rattle.tc_c.specs.CFrame.{c_frame}
 use Rattle.tc_c.specs.CMtc.{c_mtc_event, HasTold}
@@ -36,6 +38,16 @@ Goes old new samples written = GoesBy sound.StandsFor c_event old new samples wr
 -- events that it told more, in numbers
 abbrev pub TapeGoes : TapeReader → TapeReader → List ℕ → List TcEvent → Type 0
 TapeGoes old new intervals written = GoesBy tape.StandsFor c_told old new intervals written
+
+-- the room that a call for a tape asks for, in events: for three, or four of consecutive words
+abbrev pub room_for : Witness → ℕ
+room_for NotAsked = 3
+room_for Asked = 3
+room_for Consecutive = 4
+
+-- that of a reader of a tape
+abbrev pub room_of : TapeReader → ℕ
+room_of t = room_for (tape.settings_of t).witness
 
 -- from one state of a flywheel to a later one: it heard these words more, and what was written are the frames that it
 -- gave more, in numbers. Where it is `done` these are all frames of its words up to its tick

@@ -1,10 +1,11 @@
 //! The functions of a reader that C calls. Read next: `label`.
-ghost use Rattle.std.specs.Prelude.{◌≡◌, ◌+◌, ◌≤◌, ◌<◌, [], length, take, drop, true, false};
+ghost use Rattle.std.specs.Prelude.{◌≡◌, ◌+◌, ◌≤◌, ◌<◌, ℤ, List, [], length, take, drop, true, false, sum};
 ghost use Rattle.std.specs.Align.{type_align};
 ghost use Rattle.std.specs.Mem.{type_size};
+ghost use Rattle.direction_reader.specs.declared.event.Event.{Event};
 ghost use Rattle.sound_reader.specs.declared.settings.SoundSettings.{SoundSettings};
 ghost use Rattle.sound_reader.specs.Settings.{AreInRange};
-ghost use Rattle.sound_reader.specs.Sound.{is_full, IsSettled, StandsFor};
+ghost use Rattle.sound_reader.specs.Sound.{intervals_of, is_full, AllElseIsLater, IsSettled, StandsFor};
 ghost use Rattle.tc_c.specs.contracts.kept.KeptReader.{the_row};
 ghost use Rattle.tc_c.specs.CSettings.{Means};
 ghost use Rattle.tc_c.specs.Write.{Goes};
@@ -83,4 +84,17 @@ pub extern "C" fn tc_reader_write_s16_(
     ensures place { handle.new.at ≡ handle.old.at }
 {
     write(&mut handle.reader().reader, samples, events)
+}
+
+/// Up to which tick all words are told: one that is told later ends there or behind it, whatever samples follow, and
+/// so does all else that is told later.
+#[unsafe(no_mangle)]
+pub extern "C" fn tc_reader_told_(handle: &mut TcReader) -> u64
+    ensures value { result ≡ handle.old.value.reader.tick }
+    ensures later { AllElseIsLater handle.old.value result }
+    ensures settled { (samples : List ℤ) (told : List Event) → StandsFor handle.old.value samples told
+        → IsSettled handle.old.value → result ≡ sum (intervals_of handle.old.value.settings samples) }
+    ensures same { handle.new ≡ handle.old }
+{
+    handle.reader().reader.told_until()
 }

@@ -10,9 +10,11 @@
 //!   those of all samples so far, each once and in order, in whatever pieces the samples come
 //!   (`specs/Write.antt`, `Goes`). Behind the events that it writes it changes none, and where it leaves
 //!   room for two it has taken all samples, unless the reader is full.
-//! - `tc_tape_write_` does so with intervals, where room for three is left (`TapeGoes`). It takes no number
-//!   that is no interval, and says where one comes. With what `tc_tape_last_` writes, the events are those of
-//!   the tape.
+//! - `tc_tape_write_` does so with intervals, where room for three is left, or for four of consecutive words
+//!   (`TapeGoes`, `room_of`). It takes no number that is no interval, and says where one comes. With what
+//!   `tc_tape_last_` writes, the events are those of the tape.
+//! - `tc_reader_told_` and `tc_tape_told_` give the tick up to which all words are told: one that is told later
+//!   ends there or behind it, whatever follows.
 //! - `tc_wheel_hear_` and `tc_wheel_pass_` write the frames of all words so far, up to the latest tick
 //!   (`WheelGoes`). A tick that falls is refused.
 //! - `tc_mtc_writer_write_` writes what the MIDI Time Code of the frames so far grows by (`MtcWrites`), and
@@ -25,7 +27,7 @@
 //!   `tc_sound_at` make an object in the room that they are given (`specs/Opening.antt`).
 //! - The numbers of an event are those of `specs/CEvent.antt`, `c_event` and `c_told`, and those of a frame
 //!   `c_frame` of `specs/CFrame.antt`; numbers mean one settings, one label, one word and one frame at most
-//!   (`laws`).
+//!   (`laws`). `number_laws` writes them out.
 //! - `tc_word_bits` gives the bits that spell the word which the numbers mean (`specs/CWord.antt`,
 //!   `MeansWord`), and `tc_bits_word` the word that bits spell, or the number of their first fault.
 //! - `tc_line_read` gives what a line of vertical interval time code says, of its runs: its word, or its first fault
@@ -73,6 +75,7 @@ mod mtc_writer_exports;
 mod mtc_writer_handle;
 mod mtc_writer_kept;
 mod mtc_writer_opening;
+pub mod number_laws;
 mod opening;
 mod settings;
 mod sound_exports;

@@ -1,20 +1,21 @@
 //! The functions of a reader of a tape that C calls. Read next: `label`.
-ghost use Rattle.std.specs.Prelude.{◌≡◌, ◌+◌, ◌≤◌, ◌<◌, ◌++◌, ℕ, List, [], length, map, take, drop, true, false};
+ghost use Rattle.std.specs.Prelude.{◌≡◌, ◌+◌, ◌≤◌, ◌<◌, ◌++◌, ℕ, List, [], length, map, take, drop, true, false, sum};
 ghost use Rattle.std.specs.Align.{type_align};
 ghost use Rattle.std.specs.Mem.{type_size};
 ghost use Rattle.direction_reader.specs.declared.firm_event.FirmEvent.{FirmEvent};
 ghost use Rattle.tape_reader.specs.declared.settings.TapeSettings.{TapeSettings};
-ghost use Rattle.tape_reader.specs.Tape.{begins_with_none, is_full, settings_of, AreTapeEvents, StandsFor};
+ghost use Rattle.direction_reader.specs.FirmTold.{ComesFirst};
+ghost use Rattle.tape_reader.specs.Tape.{begins_with_none, is_full, settings_of, told_until, AreTapeEvents, StandsFor};
 ghost use Rattle.tc_c.specs.contracts.tape_kept.KeptTape.{the_row};
 ghost use Rattle.tc_c.specs.CEvent.{c_told};
 ghost use Rattle.tc_c.specs.CSettings.{MeansTape};
-ghost use Rattle.tc_c.specs.Write.{TapeGoes};
+ghost use Rattle.tc_c.specs.Write.{room_of, TapeGoes};
 
 use crate::event::TcEvent;
 use crate::tape_handle::TcTape;
 use crate::tape_kept::KeptTape;
 use crate::tape_settings::TcTapeSettings;
-use crate::tape_write::{TcTapeTaken, put_all, write_tape};
+use crate::tape_write::{TcTapeTaken, put_all, room_for, write_tape};
 use tape_reader::TapeReader;
 
 /// How many bytes a reader of a tape takes.
@@ -52,7 +53,8 @@ pub extern "C" fn tc_tape_start_(handle: &mut TcTape, settings: &TcTapeSettings)
     }
 }
 
-/// Takes intervals from the front, and writes the events that they bring, as long as there is room for three.
+/// Takes intervals from the front, and writes the events that they bring, as long as there is room for three, or
+/// four of consecutive words.
 #[unsafe(no_mangle)]
 pub extern "C" fn tc_tape_write_(
     handle: &mut TcTape,
@@ -65,9 +67,9 @@ pub extern "C" fn tc_tape_write_(
     ensures goes { TapeGoes handle.old.value handle.new.value (take result.used intervals.now)
         (take result.made events.new) }
     ensures rest { drop result.made events.new ≡ drop result.made events.old }
-    ensures all { result.made + 3 ≤ length events.old → result.full ≡ false → result.refused ≡ false
+    ensures all { result.made + room_of handle.old.value ≤ length events.old → result.full ≡ false → result.refused ≡ false
         → result.used ≡ length intervals.now }
-    ensures few { length events.old < 3 → (result.used ≡ 0) × (result.made ≡ 0)
+    ensures few { length events.old < room_of handle.old.value → (result.used ≡ 0) × (result.made ≡ 0)
         × (handle.new.value ≡ handle.old.value) }
     ensures full { result.full ≡ is_full handle.new.value }
     ensures refused { result.refused ≡ begins_with_none (drop result.used intervals.now) }
@@ -77,20 +79,36 @@ pub extern "C" fn tc_tape_write_(
 }
 
 /// Writes what is told at the end of the tape, where no interval follows, and gives how many events these are.
-/// Nothing changes in the reader, which may go on. Room for fewer than three events takes none.
+/// Nothing changes in the reader, which may go on. Room for fewer than three events, or four of consecutive
+/// words, takes none.
 #[unsafe(no_mangle)]
 pub extern "C" fn tc_tape_last_(handle: &mut TcTape, events: &mut [TcEvent]) -> usize
     ensures made { result ≤ length events.old }
-    ensures all { 3 ≤ length events.old → (own : List FirmEvent)
+    ensures all { room_of handle.old.value ≤ length events.old → (own : List FirmEvent)
         × (take result events.new ≡ map c_told own)
         × ((intervals : List ℕ) (told : List FirmEvent) → StandsFor handle.old.value intervals told
         → AreTapeEvents (settings_of handle.old.value) intervals (told ++ own)) }
-    ensures none { length events.old < 3 → result ≡ 0 }
+    ensures none { length events.old < room_of handle.old.value → result ≡ 0 }
     ensures rest { drop result events.new ≡ drop result events.old }
     ensures same { handle.new ≡ handle.old }
 {
-    if events.len() < 3 {
+    let tape = &handle.reader().tape;
+    if events.len() < room_for(tape.witness()) {
         return 0;
     }
-    put_all(&handle.reader().tape.last(), events, 0)
+    put_all(&tape.last(), events, 0)
+}
+
+/// Up to which tick all words are told: one that is told later ends there or behind it, and so does all else that
+/// is told later.
+#[unsafe(no_mangle)]
+pub extern "C" fn tc_tape_told_(handle: &mut TcTape) -> u64
+    ensures value { result ≡ told_until handle.old.value }
+    ensures later { (intervals more : List ℕ) (told events : List FirmEvent)
+        → StandsFor handle.old.value intervals told
+        → AreTapeEvents (settings_of handle.old.value) (intervals ++ more) events
+        → ComesFirst told result events (sum (intervals ++ more)) }
+    ensures same { handle.new ≡ handle.old }
+{
+    handle.reader().tape.told_until()
 }

@@ -7,7 +7,7 @@ ghost use Rattle.tc_c.specs.Opening.{HasTape, HasTapeRoom};
 use crate::tape_handle::TcTape;
 use crate::tape_kept::KeptTape;
 use biphase::Profile;
-use tape_reader::{TapeReader, TapeSettings};
+use tape_reader::{TapeReader, TapeSettings, Witness};
 use tc_address::System;
 
 /// Makes a reader in room of the caller's, with settings that it has until `tc_tape_start_` gives others.
@@ -31,7 +31,7 @@ fn blank() -> KeptTape
         tape: TapeReader::new(TapeSettings {
             system: System::F25,
             profile: Profile::Normal,
-            firm: false,
+            witness: Witness::NotAsked,
         }),
     }
 }

@@ -1,11 +1,12 @@
 //! How a tape is read, in numbers. Read next: `tape_kept`.
 ghost use Rattle.std.specs.Prelude.{◌≡◌, Bool, Some, IfSome};
 ghost use Rattle.tape_reader.specs.declared.settings.TapeSettings.{TapeSettings};
+ghost use Rattle.tape_reader.specs.declared.settings.Witness.{Witness};
 ghost use Rattle.tc_c.specs.CEvent.{bit};
-ghost use Rattle.tc_c.specs.CSettings.{MeansTape};
+ghost use Rattle.tc_c.specs.CSettings.{witness_number, MeansTape};
 
 use crate::settings::{profile_of, system_of};
-use tape_reader::TapeSettings;
+use tape_reader::{TapeSettings, Witness};
 
 /// How a tape is read, in numbers. Others than these mean nothing.
 #[repr(C)]
@@ -15,7 +16,7 @@ pub struct TcTapeSettings {
     pub system: u32,
     /// 0 normal, 1 worn, 2 rough.
     pub tolerance: u32,
-    /// Whether each word is asked for a witness beside it: 0 not, 1 it is.
+    /// What each word is asked for: 0 nothing, 1 a witness beside it, 2 a witness or the word that follows it.
     pub firm: u32,
 }
 
@@ -28,8 +29,21 @@ impl TcTapeSettings {
         Some(TapeSettings {
             system: system_of(self.system)?,
             profile: profile_of(self.tolerance)?,
-            firm: flag_of(self.firm)?,
+            witness: witness_of(self.firm)?,
         })
+    }
+}
+
+/// What words are asked for, where the number says it.
+fn witness_of(number: u32) -> Option<Witness>
+    ensures means { IfSome result (λ w. witness_number w ≡ number) }
+    ensures only { (w : Witness) → witness_number w ≡ number → result ≡ Some w }
+{
+    match number {
+        0 => Some(Witness::NotAsked),
+        1 => Some(Witness::Asked),
+        2 => Some(Witness::Consecutive),
+        _ => None,
     }
 }
 

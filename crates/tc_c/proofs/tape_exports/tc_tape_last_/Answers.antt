@@ -6,3 +6,8 @@ use Rattle.tc_c.proofs.tape_exports.tc_tape_last_.Goals as goal
 -- the reader was only read
 pub returns-clause-same : goal.returns-clause-same
 returns-clause-same c = ap (λ (tape : TapeReader). with_tape c.args.handle.now tape) c.reader.ensures.value
+
+-- and only asked
+pub returns-then-events-room_for-clause-same : goal.returns-then-events-room_for-clause-same
+returns-then-events-room_for-clause-same c =
+    ap (λ (tape : TapeReader). with_tape c.args.handle.now tape) c.reader.ensures.value
