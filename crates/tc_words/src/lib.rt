@@ -21,20 +21,7 @@
 //! - its rows of the conformance cases (`words/`).
 #![tactic(auto)]
 
-mod flight;
-mod help;
-mod label_run;
 pub mod laws;
-mod live;
-mod ltc_chase;
-mod ltc_make;
-mod luma_vitc;
-mod pcm_ltc;
-mod pcm_path;
-mod values;
-mod vitc_make;
-mod wav_ltc;
-mod wav_path;
 mod words;
 
 pub use words::read_words;
