@@ -23,6 +23,7 @@ pub mod choices;
 mod command;
 mod form;
 mod held;
+pub mod laws;
 mod made;
 mod made_labels;
 mod made_sound;

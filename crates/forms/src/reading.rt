@@ -7,7 +7,7 @@ use crate::value::{Said, Value};
 use arrayvec::ArrayVec;
 
 /// At most so many words stand behind a command.
-pub const MAX_VALUES: usize = 9;
+pub const MAX_VALUES: usize = 8;
 
 /// The values of words.
 pub type Values = ArrayVec<Value, MAX_VALUES>;
