@@ -379,7 +379,7 @@ fn answered(words: &[String], input: &[u8]) -> Read<Run> {
         "number" | "label" | "seconds" => values == 0,
         "plus" | "minus" | "since" => values == 1,
         "to" => values == 1 || values == 2,
-        _ => true,
+        _ => values <= 2,
     };
     if !is_so_long {
         return Err("count of words".into());

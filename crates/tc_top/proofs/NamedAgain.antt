@@ -6,8 +6,11 @@ use Rattle.tc_address.specs.declared.count.Count.TheVariants.{C24, C25, C30, Dro
 use Rattle.tc_address.specs.Label.{Address, IsLabel, labels}
 use Rattle.tc_address.specs.Numbering.{day_length, number_of}
 use Rattle.tc_words.specs.NumberLemmas.{number_written}
-use Rattle.tc_words.specs.Values.{numbered}
-use Rattle.tc_words.specs.Words.{label_of, number}
+use Rattle.forms.specs.Form.{form_of, forms}
+use Rattle.forms.specs.Made.{task_in}
+use Rattle.forms.specs.Named.{task_of}
+use Rattle.forms.specs.Reading.{read_on}
+use Rattle.forms.specs.Slot.{label_read, numbered}
 use Rattle.tc_top.specs.LabelsAgain.{IsNamedAgain, IsNumberedAgain}
 
 -- what the laws of labels say
@@ -37,10 +40,10 @@ unfolding numbered
 numbered_again laws label n at = rw (number_written n (small laws label n at)) at
 
 pub named_again : LabelsLaws → (label : Address) (pulled written : List ℕ) → IsNamedAgain label pulled written
-unfolding label_of
+unfolding task_of form_of forms read_on task_in
 named_again laws label pulled written = λ is count counted.
     rw (counted, numbered_again laws label is.number is.place) refl
 
 pub numbered_by_text : (label : Address) (pulled written : List ℕ) → IsNumberedAgain label pulled written
-unfolding number
+unfolding task_of form_of forms read_on task_in label_read
 numbered_by_text label pulled written = λ is count counted. rw (counted, is.read) refl

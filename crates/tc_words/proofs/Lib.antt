@@ -1,14 +1,6 @@
-pub mod Examples
+pub mod AllTold
+pub mod AllUsed
 pub mod ExamplesTaken
 pub mod FirstDash
-pub mod FlightNamed
 pub mod FormsTaken
-pub mod LabelsNamed
-pub mod LumaNamed
-pub mod MakeNamed
-pub mod Numbers
-pub mod PagesNamed
-pub mod SamplesNamed
-pub mod SlipsNamed
-pub mod Taken
-pub mod WordsBehind
+pub mod SlotsTold

@@ -7,8 +7,8 @@ use Rattle.std.specs.List.{flat_map, list_any, AllByRecursion}
 use Rattle.std.specs.Result.{is_ok}
 use Rattle.std.specs.Str.{bytes_eq}
 use Rattle.tc_job.specs.declared.usages.TheConstants.{USAGES}
-use Rattle.tc_words.specs.Values.{Word, value_in}
-use Rattle.tc_words.specs.Words.{task_of}
+use Rattle.forms.specs.Number.{Word}
+use Rattle.forms.specs.Named.{task_of}
 
 -- ---- the values
 
@@ -25,6 +25,11 @@ samples =
     ∷ (codes "THRESHOLD", codes "1000") ∷ (codes "TICK-RATE", codes "1920000") ∷ (codes "TO-CELL", codes "500")
     ∷ (codes "TRACK", codes "1") ∷ (codes "VERSION", codes "2") ∷ (codes "WAY", codes "number")
     ∷ (codes "WIDTH", codes "720") ∷ (codes "WORDS", codes "100") ∷ []
+
+-- the value of a word by a table of words
+abbrev pub value_in : {X : Type 0} → List (Word × X) → Word → Option X
+value_in [] word = None
+value_in (row ∷ rows) word = if bytes_eq word row.0 then Some row.1 else value_in rows word
 
 -- a word of a form that is not in capitals stands for itself
 abbrev pub or_itself : Word → Option Word → Word

@@ -1,17 +1,5 @@
-pub mod Flight
 pub mod Forms
-pub mod Help
-pub mod LabelRun
-pub mod Live
-pub mod LtcChase
-pub mod LtcMake
-pub mod LumaVitc
 pub mod NumberLemmas
 pub mod Pages
-pub mod PcmLtc
-pub mod PcmPath
 pub mod Usages
-pub mod Values
-pub mod WavLtc
-pub mod WavPath
 pub mod Words

@@ -16,8 +16,8 @@ use Rattle.tc_job.specs.declared.job.Task.{Task}
 use Rattle.tc_job.specs.declared.pages.TheConstants.{EXAMPLES, VALUES_OF_LABELS, VALUES_OF_RECORDINGS}
 use Rattle.tc_job.specs.declared.pages.TheConstants.{VALUES_OF_SIGNALS}
 use Rattle.tc_words.specs.Forms.{between_bars, in_front, rows}
-use Rattle.tc_words.specs.Values.{Word, between, number_spelled}
-use Rattle.tc_words.specs.Words.{task_of}
+use Rattle.forms.specs.Number.{Word, between, number_spelled}
+use Rattle.forms.specs.Named.{task_of}
 
 -- ---- the values that a text names
 

@@ -6,8 +6,8 @@ use Rattle.tc_job.specs.declared.fault.WordsFault.{WordsFault}
 use Rattle.tc_job.specs.declared.job.Task.{Task}
 use Rattle.tc_job.specs.declared.fault.WordsFault.TheVariants.{Command}
 use Rattle.tc_job.specs.declared.usages.TheConstants.{USAGES}
-use Rattle.tc_words.specs.Words.{task_of}
-use Rattle.tc_words.specs.Values.{Word}
+use Rattle.forms.specs.Named.{task_of}
+use Rattle.forms.specs.Number.{Word}
 
 -- the answer is another than that the word names no command
 abbrev pub is_known : Result Task WordsFault → Bool

@@ -1,13 +1,16 @@
 use Rattle.std.proofs.Common.{rules}
-use Rattle.tc_words.specs.Flight.{flight_in}
-use Rattle.tc_words.specs.Help.{help, topic_in}
-use Rattle.tc_words.specs.LabelRun.{labels}
-use Rattle.tc_words.specs.Words.{ltc_rough, ltc_jam, ltc_chase, ltc_make, ltc_load, ltc_convert}
-use Rattle.tc_words.specs.Words.{luma_vitc, pcm_ltc, wav_ltc, ltc_pcm, vitc_make, number, label_of, chase}
+use Rattle.forms.specs.Form.{form_of, forms}
+use Rattle.forms.specs.Named.{task_of}
+use Rattle.forms.specs.Choice.{choices, said_by}
+use Rattle.forms.specs.Made.{task_in}
+use Rattle.forms.specs.Reading.{read_on}
+use Rattle.tc_words.proofs.AllUsed.{each_is_used}
 use Rattle.tc_words.proofs.laws.each_command_has_its_usage.Goals as goal
+
+pub returns-clause-each : goal.returns-clause-each
+returns-clause-each c = each_is_used
 
 -- without values each command answers that it wants some, or its task
 pub returns-clause-only : goal.returns-clause-only
-unfolding flight_in ltc_rough ltc_jam ltc_chase ltc_make ltc_load ltc_convert pcm_ltc wav_ltc ltc_pcm luma_vitc
-    vitc_make number label_of labels chase help topic_in
+unfolding task_of form_of forms choices said_by read_on task_in
 returns-clause-only c = search rules

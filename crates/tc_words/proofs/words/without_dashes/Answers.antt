@@ -1,5 +1,6 @@
 use Rattle.std.proofs.Common.{◌∙◌, ap, ap₂, inl}
-use Rattle.tc_words.specs.Words.{task_of, without_dashes}
+use Rattle.forms.specs.Named.{task_of}
+use Rattle.tc_words.specs.Words.{without_dashes}
 use Rattle.tc_words.proofs.words.without_dashes.Goals as goal
 
 -- the words are the command and the values that were read

@@ -1,0 +1,4 @@
+pub mod InSlots
+pub mod JobsInRange
+pub mod Numbers
+pub mod SoundInRange

@@ -1,0 +1,10 @@
+pub mod Choice
+pub mod Form
+pub mod Held
+pub mod Lines
+pub mod Made
+pub mod Named
+pub mod Needs
+pub mod Number
+pub mod Reading
+pub mod Slot
