@@ -16,7 +16,7 @@ use Rattle.chase_command.specs.Chase.{IsChaseAnswer, IsScript, IsWhole, chase_ou
 use Rattle.chase_command.specs.KeptScript.{IsChaseOutput, IsChaseStop, IsTraced}
 use Rattle.tc_command.specs.Exchange.{Exchange, WritesAFront}
 use Rattle.tc_command.specs.FirstLemmas.{whole_input}
-use Rattle.tc_command.specs.KeptWorks.{all_at_end}
+use Rattle.tc_command.specs.PulledLemmas.{all_at_end}
 use Rattle.chase_command.specs.Stop.{note_of}
 use Rattle.chase_command.specs.Stop.{status_of}
 use Rattle.chase_command.proofs.ChaseStatus.{ends_by}

@@ -29,7 +29,7 @@ use interval_file::{
     next_interval,
 };
 use limits::{MAX_INTERVAL, MAX_INTERVALS};
-use tc_command::{Halt, InputFault, Machine, Output, Stop, run};
+use tc_command::{Halt, InputFault, Engine, Output, Stop, run};
 use tc_io::{Sink, Source};
 
 /// The work of one command behind the header of an interval file.
@@ -303,7 +303,7 @@ impl<B: Behind> Along<B> {
     }
 }
 
-impl<B: Behind> Machine for Along<B> {
+impl<B: Behind> Engine for Along<B> {
     ghost use Rattle.interval_file.specs.Decoding.{too_many_bytes};
     ghost use Rattle.interval_engine.specs.Along.{along_intervals};
     ghost use Rattle.interval_engine.specs.KeptAlong.{IsGoing, StandsWithin, stands_well};

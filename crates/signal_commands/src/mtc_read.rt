@@ -18,7 +18,7 @@ use mtc_reader::laws::{
     messages_carry_the_events, real_time_bytes_change_places_only,
 };
 use mtc_reader::{MtcEvent, MtcReader, mtc_end_text, push_mtc_text};
-use tc_command::{Halt, InputFault, Machine, Output, Stop, run};
+use tc_command::{Halt, InputFault, Engine, Output, Stop, run};
 use tc_io::{Sink, Source};
 
 /// How many bytes are read, at most.
@@ -113,7 +113,7 @@ impl MtcReport {
     }
 }
 
-impl Machine for MtcReport {
+impl Engine for MtcReport {
     ghost use Rattle.std.specs.Prelude.{◌-◌};
     ghost use Rattle.signal_commands.specs.KeptMtc.{FitsReport, Stands, stands_well};
     ghost use Rattle.signal_commands.specs.MtcRead.{along_midi};

@@ -1,5 +1,5 @@
 //! `pcm-ltc`: an interval file of the crossings of sound. Read next: `pcm_front/src/slicer.rt`, and then
-//! `tc_command/src/machine.rt`.
+//! `tc_command/src/engine.rt`.
 ghost use Rattle.std.specs.Prelude.{◌≡◌, ◌+◌, ◌*◌, ◌≤◌, [], length, take, OnOk, IfOk, IfErr};
 ghost use Rattle.interval_file.specs.IntervalHeader.{header_bytes};
 ghost use Rattle.pcm_front.specs.Pace.{IsPace};
@@ -13,7 +13,7 @@ use crate::spelling::spell;
 use interval_file::{FileVersion, IntervalHeader, interval_header};
 use pcm_front::laws::{bytes_are_those_of_their_samples, intervals_tell_the_crossings};
 use pcm_front::{Pace, Slicer};
-use tc_command::{Halt, InputFault, Machine, Output, Stop, run_behind};
+use tc_command::{Halt, InputFault, Engine, Output, Stop, run_behind};
 use tc_io::{Sink, Source};
 use tc_job::Slicing;
 
@@ -163,7 +163,7 @@ fn within(bytes: &[u8], samples: u64) -> &[u8]
     }
 }
 
-impl Machine for SlicedSound {
+impl Engine for SlicedSound {
     ghost use Rattle.std.specs.Prelude.{◌-◌, ◌+◌, ◌*◌, length};
     ghost use Rattle.std.specs.Option.{option_to_list};
     ghost use Rattle.signal_commands.specs.KeptSlices.{IsGoing, Stands, stands_well};

@@ -13,7 +13,7 @@ use crate::pcm_ltc::MAX_SAMPLES;
 use byteorder::{ByteOrder, LittleEndian};
 use path_front::laws::{a_sound_has_one_list_of_intervals, the_intervals_of_a_sound_last_as_long};
 use pcm_front::laws::bytes_are_those_of_their_samples;
-use tc_command::{Halt, InputFault, Machine, Output, Stop, run_behind};
+use tc_command::{Halt, InputFault, Engine, Output, Stop, run_behind};
 use tc_io::{Sink, Source};
 use tc_job::PathSlicing;
 
@@ -100,7 +100,7 @@ impl PcmSound {
     }
 }
 
-impl Machine for PcmSound {
+impl Engine for PcmSound {
     ghost use Rattle.std.specs.Prelude.{◌-◌, ◌+◌, ◌*◌, length};
     ghost use Rattle.std.specs.Option.{option_to_list};
     ghost use Rattle.signal_commands.specs.KeptPath.{IsGoing, Stands, stands_well};

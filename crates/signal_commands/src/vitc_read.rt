@@ -13,7 +13,7 @@ use line_file::laws::{
     a_decoder_tells_the_file, a_file_is_read_as_it_was_written, what_is_read_whole_is_a_file,
 };
 use line_file::{LineDecoder, Taken, field_end_text, field_text};
-use tc_command::{Halt, InputFault, Machine, Output, Stop, run};
+use tc_command::{Halt, InputFault, Engine, Output, Stop, run};
 use tc_io::{Sink, Source};
 use vitc_reader::FieldAnswer;
 use vitc_reader::laws::{an_answer_says_whose_lines_they_are, lines_have_one_answer};
@@ -91,7 +91,7 @@ impl FieldReport {
     }
 }
 
-impl Machine for FieldReport {
+impl Engine for FieldReport {
     ghost use Rattle.std.specs.Prelude.{◌-◌, ◌+◌, length};
     ghost use Rattle.signal_commands.specs.KeptFields.{most_bytes, FitsFields, Stands, stands_well};
     ghost use Rattle.signal_commands.specs.VitcRead.{along_fields};

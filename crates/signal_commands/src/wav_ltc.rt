@@ -1,5 +1,5 @@
 //! `wav-ltc`: an interval file of the crossings of a track of a sound file. Read next: `wave_file/src/decoder.rt`, then
-//! `pcm_front/src/slicer.rt`, and then `tc_command/src/machine.rt`.
+//! `pcm_front/src/slicer.rt`, and then `tc_command/src/engine.rt`.
 ghost use Rattle.std.specs.Prelude.{◌≡◌, ◌+◌, ◌*◌, ◌≤◌, ◌<◌, ◌^◌, ◌++◌, ℕ, ℤ, List, [], length, take};
 ghost use Rattle.std.specs.Prelude.{IfOk, IfErr, IfSome};
 ghost use Rattle.interval_file.specs.IntervalHeader.{header_bytes};
@@ -20,7 +20,7 @@ use crate::spelling::spell;
 use interval_file::{FileVersion, IntervalHeader, interval_header};
 use pcm_front::laws::intervals_tell_the_crossings;
 use pcm_front::{Pace, Slicer};
-use tc_command::{Halt, InputFault, Machine, Output, Stop, run};
+use tc_command::{Halt, InputFault, Engine, Output, Stop, run};
 use tc_io::{Sink, Source};
 use tc_job::WaveSlicing;
 use wave_file::laws::{a_file_is_read_as_it_was_written, samples_are_few_and_behind_a_format};
@@ -183,7 +183,7 @@ fn slice<O: Output>(slicer: &mut Slicer, pace: Pace, samples: &[i16], out: &mut 
     }
 }
 
-impl Machine for SlicedTrack {
+impl Engine for SlicedTrack {
     ghost use Rattle.std.specs.Prelude.{◌-◌};
     ghost use Rattle.wave_file.specs.declared.stage.TheConstants.{MAX_BYTES};
     ghost use Rattle.wave_file.specs.StandsFor.{bytes_taken};

@@ -10,7 +10,7 @@ use Rattle.tc_command.specs.declared.stop.Stop.{Stop}
 use Rattle.tc_command.specs.declared.stop.Stop.TheVariants as stops
 use Rattle.tc_command.specs.Command.{IsCommand}
 use Rattle.tc_command.specs.Exchange.{Exchange, WritesAFront}
-use Rattle.tc_command.specs.KeptWorks.{all_at_end}
+use Rattle.tc_command.specs.PulledLemmas.{all_at_end}
 use Rattle.tc_command.specs.Meaning.{Meaning, IsEnd, IsOutput}
 use Rattle.tc_command.specs.Stops.{StopsAlong}
 

@@ -7,12 +7,11 @@ pub mod FirstLemmas
 pub mod Halt
 pub mod InputFault
 pub mod KeptBrings
-pub mod KeptGathered
-pub mod KeptWorks
 pub mod Meaning
 pub mod Notes
 pub mod Outlet
 pub mod OutletLemmas
+pub mod PulledLemmas
 pub mod PushLemmas
 pub mod Ran
 pub mod Status

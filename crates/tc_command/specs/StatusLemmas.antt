@@ -13,7 +13,7 @@ use Rattle.tc_command.specs.declared.stop.Stop.{Stop}
 use Rattle.tc_command.specs.declared.stop.Stop.TheVariants as stops
 use Rattle.tc_command.specs.Causes.{SourceCause, OutCause}
 use Rattle.tc_command.specs.Command.{IsCommand}
-use Rattle.tc_command.specs.KeptWorks.{all_at_end, front_of_all}
+use Rattle.tc_command.specs.PulledLemmas.{all_at_end, front_of_all}
 use Rattle.tc_command.specs.Meaning.{Meaning, Shows, IsEnd, IsInput}
 use Rattle.tc_command.specs.Status.{status_of}
 use Rattle.tc_command.specs.Stops.{StopsAlong}

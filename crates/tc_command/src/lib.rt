@@ -1,8 +1,9 @@
 //! A command of the program, whatever it reads and writes: what that is, how it is worked between a
 //! source and a sink, and how it ends.
 //!
-//! A command that reads is an `Engine`: it takes what was pulled, and `work` pulls its input to the end. One
-//! that reads nothing is a `Maker`, whose output `make` pushes piece by piece. Both run in fixed memory.
+//! A command that reads is an `Engine`: it takes what was pulled, and writes to an `Output` that cannot fail. `run`
+//! pulls its input to the end and pushes what it wrote, and there alone a pull or a push may fail. A command that
+//! reads nothing is a `Maker`, whose output `make` pushes piece by piece. Both run in fixed memory.
 //!
 //! What this crate promises, for all sources and sinks:
 //! - What a command takes and writes is its `Meaning` (`specs/Meaning.antt`), and a run of it has come to
@@ -17,36 +18,28 @@
 //!   is one output of an input, and what bytes show stays. From it follow the status of a whole input
 //!   (`specs/WholeInput.antt`) and that what was written is a front of the whole output.
 //!
-//! Read `engine`, `intake`, `making`, `piece`, `gathered`, `pushing`, `input_fault`, `stop`, `status` and `notes`.
+//! Read `output`, `engine`, `running`, `outlet`, `halt`, `making`, `piece`, `input_fault`, `stop`, `status` and `notes`.
 #![tactic(auto)]
 
 mod engine;
-mod gathered;
 mod halt;
 mod input_fault;
-mod intake;
-mod machine;
 mod making;
 mod notes;
 mod outlet;
 mod output;
 mod piece;
-mod pushing;
 mod running;
 mod status;
 mod stop;
 
 pub use engine::Engine;
-pub use gathered::Gathered;
 pub use halt::Halt;
 pub use input_fault::InputFault;
-pub use intake::{PULLED, work};
-pub use machine::Machine;
 pub use making::{Maker, give_all, make};
 pub use notes::{push_note, stop_note, usage_note};
 pub use output::Output;
 pub use piece::{PIECE, Piece, put_interval};
-pub use pushing::{push_line, push_piece};
-pub use running::{run, run_behind};
+pub use running::{PULLED, run, run_behind};
 pub use status::Status;
 pub use stop::Stop;

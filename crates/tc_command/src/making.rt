@@ -1,5 +1,5 @@
 //! The way out of a command that reads nothing: its output goes out piece by piece, in fixed room.
-//! Read next: `piece`, and then `pushing`.
+//! Read next: `piece`.
 ghost use Rattle.std.specs.Prelude.{◌≡◌, ℕ, ◌<◌, ◌≤◌, List, [], ◌++◌, true, false, OnOk, OnErr, IfErr};
 ghost use Rattle.std.specs.Io.KnownBytes.{Appends};
 ghost use Rattle.tc_io.specs.Sink.{AppendsFront};
@@ -9,9 +9,8 @@ ghost use Rattle.tc_command.specs.Meaning.{writes};
 ghost use Rattle.tc_command.specs.Worked.{IsWorked};
 
 use crate::piece::Piece;
-use crate::pushing::push_piece;
 use crate::stop::Stop;
-use tc_io::{Sink, Source};
+use tc_io::{Sink, Source, push_all};
 
 /// A command that reads nothing, and has some of its output still to give.
 pub trait Maker {
@@ -53,5 +52,16 @@ pub fn give_all<M: Maker, K: Sink>(maker: &mut M, out: &mut K) -> Result<(), Sto
         push_piece(out, room.as_slice())?;
         room.clear();
     }
+    Ok(())
+}
+
+/// Pushes one piece.
+fn push_piece<K: Sink>(out: &mut K, bytes: &[u8]) -> Result<(), Stop>
+    ensures all { OnOk result (Appends (K.written out.old) (K.written out.new) bytes.now) }
+    ensures front { OnErr result (AppendsFront (K.written out.old) (K.written out.new) bytes.now) }
+    ensures why { IfErr result (λ stop. stop ≡ Stop.WriteFault) }
+    ensures cause { HasOutCause (K.faults out.old) (K.faults out.new) result }
+{
+    push_all(out, bytes)?;
     Ok(())
 }

@@ -1,6 +1,6 @@
 use Rattle.std.proofs.Common.{◌++◌, ◌∙◌}
 use Rattle.std.proofs.KnownBytes.{Appends-trans}
-use Rattle.tc_command.specs.KeptWorks.{at_err}
+use Rattle.tc_command.specs.PulledLemmas.{at_err}
 use Rattle.tc_command.specs.PushLemmas.{front_of_piece, piece_pushed}
 use Rattle.tc_command.proofs.making.give_all.Goals as goal
 

@@ -1,6 +1,6 @@
 use Rattle.std.proofs.Common.{◌++◌, ◌∙◌, take, arith, refl}
 use Rattle.std.proofs.KnownBytes.{Appends-trans, Consumes-trans}
-use Rattle.tc_command.specs.KeptWorks.{ended_at, if_err, along_at_end, still_consumed}
+use Rattle.tc_command.specs.PulledLemmas.{ended_at, if_err, along_at_end, still_consumed}
 use Rattle.tc_command.specs.OutletLemmas.{all_pushed, cut_off, flushed, more_given}
 use Rattle.lemmas.specs.Results.{through}
 use Rattle.tc_command.proofs.BytesPulled.{are_more}
@@ -16,7 +16,7 @@ returns-in_err-flush-clause-stops g c =
     let f = c.in_err-flush.ensures in
     let cut = cut_off _ _ _ _ _ _ _ _ w.1 c.requires.empty c.requires.pushes f.failed
     (flushed _ _ _ _ _ _ _ _ _ _ _ _ w.1 w.3 f.given) in
-    let well = g.M.Machine.stands_well c.pulls.machine w.0 w.1 w.4 in
+    let well = g.E.Engine.stands_well c.pulls.engine w.0 w.1 w.4 in
     through c.from_residual.result c.from_residual.ensures.1 (λ stop same. rw (same, ← i.choice)
     (push_failed _ _ _ _ _ w.0 w.0 w.1 w.2 (own_front w.0) well.1 cut.1))
 
@@ -28,7 +28,7 @@ returns-in_default-clause-stops g c =
     let f = c.in_ok-flush.ensures in
     let pushed = all_pushed _ _ _ _ _ _ _ _ w.1 c.requires.empty c.requires.pushes f.empty f.going
     (flushed _ _ _ _ _ _ _ _ _ _ _ _ w.1 w.3 f.given) in
-    let well = g.M.Machine.stands_well c.pulls.machine w.0 w.1 w.4 in (
+    let well = g.E.Engine.stands_well c.pulls.engine w.0 w.1 w.4 in (
       w.0,
       w.1,
       still_consumed _ _ _ w.0 w.2 c.in_default.ensures.bytes,

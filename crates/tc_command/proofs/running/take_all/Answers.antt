@@ -19,10 +19,10 @@ bytes-preserved g c =
       budget = omega (arith, e.budget, i.budget);
       falls = λ some. omega (arith, e.budget, i.budget);
       choice = e.choice ∙ i.choice;
-      works = subst (λ bs. Brings g.O.Output.given (g.M.Machine.stands c.args.machine.now)
-          (g.M.Machine.stands c.take.new.self) c.args.out.now c.take.new.out bs) (cut_more c.bytes.at n bytes)
-          (brings_more g.O.Output.given (g.M.Machine.stands c.args.machine.now) (g.M.Machine.stands c.bytes.machine)
-          (g.M.Machine.stands c.take.new.self) c.args.out.now c.bytes.out c.take.new.out (take c.bytes.at bytes)
+      works = subst (λ bs. Brings g.O.Output.given (g.E.Engine.stands c.args.engine.now)
+          (g.E.Engine.stands c.take.new.self) c.args.out.now c.take.new.out bs) (cut_more c.bytes.at n bytes)
+          (brings_more g.O.Output.given (g.E.Engine.stands c.args.engine.now) (g.E.Engine.stands c.bytes.engine)
+          (g.E.Engine.stands c.take.new.self) c.args.out.now c.bytes.out c.take.new.out (take c.bytes.at bytes)
           (take n (take (length bytes - c.bytes.at) (drop c.bytes.at bytes))) (g.O.Output.given_more _ _ _) i.works
           e.works);
     }
@@ -32,11 +32,11 @@ pub returns-in_err-at-clause-halts : goal.returns-in_err-at-clause-halts
 returns-in_err-at-clause-halts g c =
     let i = c.bytes.invariant in
     let bytes = c.args.bytes.now in
-    let halts = IsHalt (g.M.Machine.meaning (g.M.Machine.choice c.bytes.machine)) c.in_err-at.field-0.0 in
+    let halts = IsHalt (g.E.Engine.meaning (g.E.Engine.choice c.bytes.engine)) c.in_err-at.field-0.0 in
     through c.from_residual.result c.from_residual.ensures.1 (λ halt same. rw (same, ← i.choice)
-    (subst (λ bs. Brings g.O.Output.given (g.M.Machine.stands c.args.machine.now) halts c.args.out.now c.take.new.out bs)
+    (subst (λ bs. Brings g.O.Output.given (g.E.Engine.stands c.args.engine.now) halts c.args.out.now c.take.new.out bs)
     (cut_at c.bytes.at bytes i.within)
-    (brings_more g.O.Output.given (g.M.Machine.stands c.args.machine.now) (g.M.Machine.stands c.bytes.machine) halts
+    (brings_more g.O.Output.given (g.E.Engine.stands c.args.engine.now) (g.E.Engine.stands c.bytes.engine) halts
     c.args.out.now c.bytes.out c.take.new.out (take c.bytes.at bytes)
     (take (length bytes - c.bytes.at) (drop c.bytes.at bytes)) (g.O.Output.given_more _ _ _) i.works
     c.in_err-at.ensures.halts)))

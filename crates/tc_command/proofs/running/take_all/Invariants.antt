@@ -5,11 +5,11 @@ use Rattle.tc_command.proofs.running.take_all.Given as goal
 abbrev pub invariant-bytes : goal.invariant-bytes
 invariant-bytes g l = record {
   within : l.at ≤ length l.bytes;
-  going : g.M.Machine.is_going l.machine;
-  budget : g.M.Machine.budget l.machine ≤ g.M.Machine.budget l.fn.machine;
-  falls : 0 < l.at → g.M.Machine.budget l.machine < g.M.Machine.budget l.fn.machine;
-  choice : g.M.Machine.choice l.machine ≡ g.M.Machine.choice l.fn.machine;
-  works : Brings g.O.Output.given (g.M.Machine.stands l.fn.machine) (g.M.Machine.stands l.machine) l.fn.out l.out
+  going : g.E.Engine.is_going l.engine;
+  budget : g.E.Engine.budget l.engine ≤ g.E.Engine.budget l.fn.engine;
+  falls : 0 < l.at → g.E.Engine.budget l.engine < g.E.Engine.budget l.fn.engine;
+  choice : g.E.Engine.choice l.engine ≡ g.E.Engine.choice l.fn.engine;
+  works : Brings g.O.Output.given (g.E.Engine.stands l.fn.engine) (g.E.Engine.stands l.engine) l.fn.out l.out
       (take l.at l.bytes);
 }
 
