@@ -1,4 +1,4 @@
-//! The lines of a field, as a line file has them. Read next: `tc_command/src/gathered.rt`.
+//! The lines of a field, as a line file has them. Read next: `tc_command/src/output.rt`.
 ghost use Rattle.std.specs.Prelude.{◌≡◌, ◌+◌, ◌*◌, ◌≤◌, ◌++◌, length};
 ghost use Rattle.std.specs.List.{flat_map, All};
 ghost use Rattle.arrayvec.specs.ArrayVec.{array_vec_len};

@@ -1,4 +1,4 @@
-//! The room in which output is gathered before it is pushed. Read next: `pushing`.
+//! The room in which output is gathered before it is pushed. Read next: `outlet`.
 ghost use Rattle.std.specs.Prelude.{◌≡◌, ◌+◌, ◌≤◌, ◌++◌};
 ghost use Rattle.arrayvec.specs.ArrayVec.{array_vec_len};
 ghost use Rattle.interval_file.specs.declared.header.FileVersion.TheVariants.{One};

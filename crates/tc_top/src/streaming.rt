@@ -1,4 +1,4 @@
-//! A job along its input. Read next: `tc_command/src/intake.rt`, and after it the crate of the command.
+//! A job along its input. Read next: `tc_command/src/running.rt`, and after it the crate of the command.
 ghost use Rattle.std.specs.Prelude.{◌≡◌, ◌⊎◌, ℕ, List, Some, false};
 ghost use Rattle.std.specs.Io.KnownBytes.{Appends};
 ghost use Rattle.tc_io.specs.Source.{Rose};
