@@ -262,8 +262,8 @@ topic_tells command place word v names is = go (said_by STATUSES word) refl is
     go None at is =
         let (page, found) = mapped _ (position (λ usage. bytes_eq word usage.0.now) USAGES) v is in
         let (usage, same, told) = located (λ usage. bytes_eq word usage.0.now)
-            (λ usage. is_told command place usage.0.now) USAGES page found
-            (and_parts (names_choice command place STATUSES) _ names).1 in
+        (λ usage. is_told command place usage.0.now) USAGES page found
+        (and_parts (names_choice command place STATUSES) _ names).1 in
         rw ((bytes_eq-Decides word usage.0.now).0 same) told
 
 range_told : (command : Word) (place least most : ℕ) (word : Word) (n : ℕ)
