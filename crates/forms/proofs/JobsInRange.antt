@@ -1,7 +1,7 @@
 -- The values that the slots of a command take are in the ranges of its job: recordings, labels and pictures.
-use Rattle.std.proofs.Common.{◌≡◌, ◌≤◌, ◌-◌, ◌/◌, ℕ, Bool, true, false, List, Some, refl, sym, ◌∙◌, ap, arith}
+use Rattle.std.proofs.Common.{◌≡◌, ◌≤◌, ◌-◌, ◌/◌, Bool, true, false, List, Some, refl, sym, ◌∙◌, ap, arith}
 use Rattle.std.proofs.Common.{min, take, inl, inr}
-use Rattle.std.specs.Prelude.{slice_get, IsSome}
+use Rattle.std.specs.Prelude.{IsSome}
 use Rattle.biphase.specs.declared.shaper.TheConstants.{MIN_SHAPED, MAX_SHAPED}
 use Rattle.label_lines.specs.Timebase.{count_of as counted}
 use Rattle.limits.specs.declared.recording.TheConstants.{MAX_TICK_RATE}
@@ -24,11 +24,9 @@ use Rattle.tc_job.specs.declared.stripe.TheConstants.{MAX_FRAMES}
 use Rattle.vitc_line.specs.Places.{HasLines}
 use Rattle.vitc_reader.specs.declared.line_length.TheConstants.{MAX_LINE_LENGTH, MIN_LINE_LENGTH}
 use Rattle.forms.specs.Choice.{IsSaidIn, choices}
-use Rattle.forms.specs.Form.{SlotRow}
 use Rattle.forms.specs.Held.{count_at, count_of, label_at, label_in, number_of, number_or, system_at, system_of}
 use Rattle.forms.specs.Made.{base_at, chase_in, jam_in, line_stripe_in, load_in, stripe_in, timebase_of}
 use Rattle.forms.specs.Reading.{AreRead}
-use Rattle.forms.specs.Slot.{IsLabelOf}
 use Rattle.forms.specs.declared.choices.TheConstants.{COUNT_WITH_LINES, SYSTEM_WITH_LINES}
 use Rattle.forms.specs.declared.slot.Bound.TheVariants.{Below, Eighth, Rest}
 use Rattle.forms.specs.declared.slot.Need.TheVariants.{Needed, Optional}

@@ -1,7 +1,7 @@
 -- What lines of words name, worked out by hand. The numbers of a line differ, so that no two of them can change places,
 -- and each range has both of its ends among the lines that are taken, and what is next to them among those that are
 -- refused.
-use Rattle.std.specs.Prelude.{◌≡◌, ℕ, ◌==◌, Bool, true, false, List, [], ◌∷◌, codes, Result, Ok, Err, if◌then◌else◌}
+use Rattle.std.specs.Prelude.{◌≡◌, ℕ, ◌==◌, true, false, List, [], ◌∷◌, codes, Result, Ok, Err, if◌then◌else◌}
 use Rattle.std.specs.List.{AllByRecursion}
 use Rattle.std.specs.Result.{is_ok}
 use Rattle.biphase.specs.Shape.{shape_with}

@@ -1,5 +1,5 @@
 -- A word that a slot takes is named by the page, if the page names what the slot takes: this is a test that is computed.
-use Rattle.std.proofs.Common.{◌≡◌, ◌≤◌, ◌∙◌, ℕ, Bool, true, false, not, ◌&&◌, List, [], ◌∷◌, length, Some, None, refl}
+use Rattle.std.proofs.Common.{◌≡◌, ◌≤◌, ℕ, Bool, true, false, not, ◌&&◌, List, [], ◌∷◌, length, Some, None, refl}
 use Rattle.std.proofs.Common.{◌||◌, ◌<◌, ◌+◌, ◌^◌, arith, inl, inr, zero, suc, get_or, cond, min, nat_lt, le-leb, rules}
 use Rattle.std.specs.Prelude.{codes, nat_le, option_map, option_and_then, slice_get, position}
 use Rattle.std.specs.declared.option.Option.{Option}
@@ -15,7 +15,7 @@ use Rattle.tc_address.specs.declared.count.Count.{Count}
 use Rattle.tc_address.specs.declared.count.Count.TheVariants.{C24, C25, C30, Drop30}
 use Rattle.tc_address.specs.Spelling.{label_in}
 use Rattle.tc_job.specs.declared.usages.TheConstants.{USAGES}
-use Rattle.forms.specs.Choice.{choices, said_at, said_by, said_in}
+use Rattle.forms.specs.Choice.{choices, said_by, said_in}
 use Rattle.forms.specs.Form.{SlotRow}
 use Rattle.forms.specs.Number.{Word, between, is_number, number_spelled}
 use Rattle.forms.specs.Held.{count_at}

@@ -1,7 +1,5 @@
 use Rattle.std.proofs.Common.{◌≡◌, ◌∙◌, Some, sym, ap, ap₂, rules}
 use Rattle.tc_job.specs.PathGrid.{grid_for, step_ticks}
-use Rattle.step_grid.specs.Grid.{IsGrid}
-use Rattle.std.specs.Prelude.{IfSome}
 use Rattle.forms.specs.Held.{number_or, system_at}
 use Rattle.forms.proofs.SoundInRange.{path_valid}
 use Rattle.forms.proofs.made_sound.path_slicing_of.Goals as goal
