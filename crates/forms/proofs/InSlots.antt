@@ -12,7 +12,7 @@ use Rattle.tc_address.specs.declared.count.Count.{Count}
 use Rattle.forms.specs.Choice.{IsSaidIn}
 use Rattle.forms.specs.Form.{SlotRow, takes}
 use Rattle.forms.specs.Held.{label_at, label_in, label_of, number_of, number_or, or_midnight, seed_at, seed_of}
-use Rattle.forms.specs.Reading.{AreFit, AreFitAfter, AreRead}
+use Rattle.forms.specs.Reading.{AreFitAfter, AreRead}
 use Rattle.forms.specs.Slot.{Fits, FitsIn, IsLabelOf, IsNumberIn, IsSaidBy, IsSeed, may_be_left_out}
 use Rattle.forms.specs.declared.slot.Need.{Need}
 use Rattle.forms.specs.declared.slot.Need.TheVariants.{Needed, Optional, OrLive}

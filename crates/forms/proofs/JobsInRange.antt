@@ -1,7 +1,7 @@
 -- The values that the slots of a command take are in the ranges of its job: recordings, labels and pictures.
-use Rattle.std.proofs.Common.{◌≡◌, ◌≤◌, ◌-◌, ◌/◌, ℕ, Bool, true, false, List, Some, refl, sym, ◌∙◌, ap, arith}
+use Rattle.std.proofs.Common.{◌≡◌, ◌≤◌, ◌-◌, ◌/◌, Bool, true, false, List, Some, refl, sym, ◌∙◌, ap, arith}
 use Rattle.std.proofs.Common.{min, take, inl, inr}
-use Rattle.std.specs.Prelude.{slice_get, IsSome}
+use Rattle.std.specs.Prelude.{IsSome}
 use Rattle.biphase.specs.declared.shaper.TheConstants.{MIN_SHAPED, MAX_SHAPED}
 use Rattle.label_lines.specs.Timebase.{count_of as counted}
 use Rattle.limits.specs.declared.recording.TheConstants.{MAX_TICK_RATE}
@@ -24,11 +24,9 @@ use Rattle.tc_job.specs.declared.stripe.TheConstants.{MAX_FRAMES}
 use Rattle.vitc_line.specs.Places.{HasLines}
 use Rattle.vitc_reader.specs.declared.line_length.TheConstants.{MAX_LINE_LENGTH, MIN_LINE_LENGTH}
 use Rattle.forms.specs.Choice.{IsSaidIn, choices}
-use Rattle.forms.specs.Form.{SlotRow}
 use Rattle.forms.specs.Held.{count_at, count_of, label_at, label_in, number_of, number_or, system_at, system_of}
 use Rattle.forms.specs.Made.{base_at, chase_in, jam_in, line_stripe_in, load_in, stripe_in, timebase_of}
 use Rattle.forms.specs.Reading.{AreRead}
-use Rattle.forms.specs.Slot.{IsLabelOf}
 use Rattle.forms.specs.declared.choices.TheConstants.{COUNT_WITH_LINES, SYSTEM_WITH_LINES}
 use Rattle.forms.specs.declared.slot.Bound.TheVariants.{Below, Eighth, Rest}
 use Rattle.forms.specs.declared.slot.Need.TheVariants.{Needed, Optional}
@@ -136,8 +134,8 @@ stripe_step all read =
     let to : number_or (take 7 all) 6 0 ≡ number_or all 6 0 = ap (number_of 0) (seen_before all 7 6 (omega arith)) in
     let more = not_less all 6 (number_or all 4 0) in
     let step = number_given MAKE.now all 7 0
-        (min MAX_SHAPED (min (number_or (take 7 all) 4 0) (number_or (take 7 all) 6 0) / 8)) 0 Needed
-        (kinds.Bounded 0 MAX_SHAPED (Eighth 4 6)) read refl (λ v fits. fits) (omega arith) (omega arith) in
+    (min MAX_SHAPED (min (number_or (take 7 all) 4 0) (number_or (take 7 all) 6 0) / 8)) 0 Needed
+    (kinds.Bounded 0 MAX_SHAPED (Eighth 4 6)) read refl (λ v fits. fits) (omega arith) (omega arith) in
     omega (arith, step.1, cell, to, more)
 
 pub stripe_valid : (all : List Value) → AreRead MAKE.now all → IsStripe (stripe_in all)
@@ -207,10 +205,10 @@ pub luma_raster : (all : List Value) → AreRead LUMA.now all
 luma_raster all read =
     let height = ranged LUMA.now all 2 1 MAX_HEIGHT read refl refl in
     let first = number_needed LUMA.now all 3 0 (min MAX_HEIGHT (number_or (take 3 all) 2 0 - 1))
-        (kinds.Bounded 0 MAX_HEIGHT (Below 2)) read refl refl (λ v fits. fits) in
+    (kinds.Bounded 0 MAX_HEIGHT (Below 2)) read refl refl (λ v fits. fits) in
     let rows = number_needed LUMA.now all 4 1
-        (min MAX_ROWS (number_or (take 4 all) 2 0 - number_or (take 4 all) 3 0))
-        (kinds.Bounded 1 MAX_ROWS (Rest 2 3)) read refl refl (λ v fits. fits) in
+    (min MAX_ROWS (number_or (take 4 all) 2 0 - number_or (take 4 all) 3 0))
+    (kinds.Bounded 1 MAX_ROWS (Rest 2 3)) read refl refl (λ v fits. fits) in
     let of_height : number_or (take 4 all) 2 0 ≡ number_or all 2 0 = ap (number_of 0) (seen_before all 4 2 (omega arith)) in
     let of_first : number_or (take 4 all) 3 0 ≡ number_or all 3 0 = ap (number_of 0) (seen_before all 4 3 (omega arith)) in
     record {

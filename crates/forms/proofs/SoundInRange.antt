@@ -1,5 +1,5 @@
 -- The values that the slots of a command take are in the ranges of its job: sound.
-use Rattle.std.proofs.Common.{◌≡◌, ◌≤◌, ◌<◌, ◌*◌, ◌/◌, ◌^◌, ℕ, min, max, true, false, List, Some, None, refl, ap, arith}
+use Rattle.std.proofs.Common.{◌≡◌, ◌≤◌, ◌*◌, ◌/◌, ◌^◌, ℕ, min, max, true, List, Some, refl, ap, arith}
 use Rattle.std.proofs.Common.{take}
 use Rattle.std.specs.Prelude.{slice_get}
 use Rattle.std.specs.Option.{is_some}
@@ -109,12 +109,15 @@ pcm_fineness all read =
     let rate = ranged PCM.now all 1 1 MAX_TICK_RATE read refl refl in
     let seen : number_or (take 3 all) 1 0 ≡ number_or all 1 0 = ap (number_of 0) (seen_before all 3 1 (omega arith)) in
     let one : 1 ≤ MAX_TICK_RATE / max (number_or (take 3 all) 1 0) 1 =
-        le-div 1 MAX_TICK_RATE (max (number_or (take 3 all) 1 0) 1) (omega arith) (omega (arith, rate.1, seen)) in
+    le-div 1 MAX_TICK_RATE (max (number_or (take 3 all) 1 0) 1) (omega arith) (omega (arith, rate.1, seen)) in
     let fits = number_given PCM.now all 3 1 (min MAX_FINENESS (MAX_TICK_RATE / max (number_or (take 3 all) 1 0) 1)) 1 OrLive
-        (kinds.Bounded 1 MAX_FINENESS (Product 1 MAX_TICK_RATE)) read refl (λ v fits. fits) (omega arith)
-        (omega (arith, one)) in
-    (fits.0, omega (arith, fits.1), in_quotient (number_or all 1 0) (number_or all 3 1) rate.0
-    (rw (← seen) (at_most_other MAX_FINENESS _ _ fits.1)))
+    (kinds.Bounded 1 MAX_FINENESS (Product 1 MAX_TICK_RATE)) read refl (λ v fits. fits) (omega arith)
+    (omega (arith, one)) in (
+      fits.0,
+      omega (arith, fits.1),
+      in_quotient (number_or all 1 0) (number_or all 3 1) rate.0
+          (rw (← seen) (at_most_other MAX_FINENESS _ _ fits.1)),
+    )
 
 pub pcm_valid : (all : List Value) → AreRead PCM.now all → IsSlicing (slicing_in all)
 unfolding slicing_in

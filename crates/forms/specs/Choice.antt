@@ -1,5 +1,6 @@
 -- The words of which one is given, and what each says.
-use Rattle.std.specs.Prelude.{◌≡◌, ◌⊎◌, ℕ, List, [], ◌∷◌, map, slice_get, Option, Some, None, if◌then◌else◌, option_and_then, IfSome}
+use Rattle.std.specs.Prelude.{◌≡◌, ◌⊎◌, ℕ, List, [], ◌∷◌, map, slice_get, Option, Some, None}
+use Rattle.std.specs.Prelude.{if◌then◌else◌, option_and_then, IfSome}
 use Rattle.std.specs.Str.{bytes_eq}
 use Rattle.forms.specs.declared.choices.TheConstants.{CHOICES}
 use Rattle.forms.specs.declared.value.Said.{Said}

@@ -1,6 +1,7 @@
--- What lines of words name, worked out by hand. The numbers of a line differ, so that no two of them can change places, and
--- each range has both of its ends among the lines that are taken, and what is next to them among those that are refused.
-use Rattle.std.specs.Prelude.{◌≡◌, ℕ, ◌==◌, Bool, true, false, List, [], ◌∷◌, codes, Result, Ok, Err, if◌then◌else◌}
+-- What lines of words name, worked out by hand. The numbers of a line differ, so that no two of them can change places,
+-- and each range has both of its ends among the lines that are taken, and what is next to them among those that are
+-- refused.
+use Rattle.std.specs.Prelude.{◌≡◌, ℕ, ◌==◌, true, false, List, [], ◌∷◌, codes, Result, Ok, Err, if◌then◌else◌}
 use Rattle.std.specs.List.{AllByRecursion}
 use Rattle.std.specs.Result.{is_ok}
 use Rattle.biphase.specs.Shape.{shape_with}
@@ -67,11 +68,15 @@ named_lines =
     ∷ (codes "ltc-fly 2", Stream (jobs.LtcFly (record { limit = 2; profile = Normal; witness = NotAsked })))
     ∷ (codes "ltc-fly 2 worn", Stream (jobs.LtcFly (record { limit = 2; profile = Worn; witness = NotAsked })))
     ∷ (codes "ltc-fly 2 rough firm", Stream (jobs.LtcFly (record { limit = 2; profile = Rough; witness = Asked })))
-    ∷ (codes "ltc-spans 3 rough consecutive",
-       Stream (jobs.LtcSpans (record { limit = 3; profile = Rough; witness = Consecutive })))
+    ∷ (
+      codes "ltc-spans 3 rough consecutive",
+      Stream (jobs.LtcSpans (record { limit = 3; profile = Rough; witness = Consecutive })),
+    )
     ∷ (codes "ltc-mtc 4 worn firm", Stream (jobs.LtcMtc (record { limit = 4; profile = Worn; witness = Asked })))
-    ∷ (codes "ltc-jam 2 24 48000 rough consecutive",
-       Stream (jobs.LtcJam (jamming_of (record { limit = 2; profile = Rough; witness = Consecutive }) 24 48000)))
+    ∷ (
+      codes "ltc-jam 2 24 48000 rough consecutive",
+      Stream (jobs.LtcJam (jamming_of (record { limit = 2; profile = Rough; witness = Consecutive }) 24 48000)),
+    )
     ∷ (codes "ltc-convert 1", Stream (jobs.LtcConvert versions.One))
     ∷ (codes "ltc-convert 2", Stream (jobs.LtcConvert versions.Two))
     ∷ (codes "pcm-ltc 24 48000 9", Stream (jobs.PcmLtc (slicing_of F24 48000 (Fixed 9) 1 1 false)))
@@ -87,30 +92,45 @@ named_lines =
     ∷ (codes "wav-ltc 25 2 250 3 deep live", Stream (jobs.WavLtc (wave_slicing_of F25 2 (Deep 750) 3 true)))
     ∷ (codes "wav-ltc 30 2 250 path", Stream (jobs.WavPath (track_path_of F30 2 250)))
     ∷ (codes "ltc-pcm 8192", Stream (jobs.LtcPcm 8192))
-    ∷ (codes "ltc-make 30d backward 01:02:03;04 5 400 48000",
-       Stream (jobs.LtcMake (stripe_of Backward (address Drop30 1 2 3 4) 5 (shape_with 400 400 0) 48000)))
-    ∷ (codes "ltc-make 25 forward 01:02:03:04 5 400 48000 500 50",
-       Stream (jobs.LtcMake (stripe_of Forward (address C25 1 2 3 4) 5 (shape_with 400 500 50) 48000)))
+    ∷ (
+      codes "ltc-make 30d backward 01:02:03;04 5 400 48000",
+      Stream (jobs.LtcMake (stripe_of Backward (address Drop30 1 2 3 4) 5 (shape_with 400 400 0) 48000)),
+    )
+    ∷ (
+      codes "ltc-make 25 forward 01:02:03:04 5 400 48000 500 50",
+      Stream (jobs.LtcMake (stripe_of Forward (address C25 1 2 3 4) 5 (shape_with 400 500 50) 48000)),
+    )
     ∷ (codes "ltc-load 53 100", Stream (jobs.LtcLoad (loading_of 53 100)))
     ∷ (codes "mtc-read", Stream jobs.MtcRead)
     ∷ (codes "chase 24 01:02:03:04", Chase (address C24 1 2 3 4))
-    ∷ (codes "ltc-chase 25 01:02:03:04 5 53 8", Stream (jobs.LtcChase (chasing_of (address C25 1 2 3 4)
-       (record { limit = 5; profile = Normal; witness = NotAsked }) 53 8)))
-    ∷ (codes "ltc-chase 30 01:02:03:04 5 53 8 worn firm", Stream (jobs.LtcChase (chasing_of (address C30 1 2 3 4)
-       (record { limit = 5; profile = Worn; witness = Asked }) 53 8)))
+    ∷ (
+      codes "ltc-chase 25 01:02:03:04 5 53 8",
+      Stream (jobs.LtcChase (chasing_of (address C25 1 2 3 4)
+          (record { limit = 5; profile = Normal; witness = NotAsked }) 53 8)),
+    )
+    ∷ (
+      codes "ltc-chase 30 01:02:03:04 5 53 8 worn firm",
+      Stream (jobs.LtcChase (chasing_of (address C30 1 2 3 4)
+          (record { limit = 5; profile = Worn; witness = Asked }) 53 8)),
+    )
     ∷ (codes "vitc-read", Stream jobs.VitcRead)
     ∷ (codes "luma-vitc 25 720 288 5 40", Stream (jobs.LumaVitc (luma_reading_of F25 (raster_of 720 288 5 40))))
     ∷ (codes "luma-vitc 30 720 288 5 40", Stream (jobs.LumaVitc (luma_reading_of F30 (raster_of 720 288 5 40))))
     ∷ (codes "vitc-make 25 01:02:03:04 5 1728", Stream (jobs.VitcMake (line_stripe_of (address C25 1 2 3 4) 5 1728)))
-    ∷ (codes "vitc-make 30d 01:02:03;04 5 1728", Stream (jobs.VitcMake (line_stripe_of (address Drop30 1 2 3 4) 5 1728)))
+    ∷ (
+      codes "vitc-make 30d 01:02:03;04 5 1728",
+      Stream (jobs.VitcMake (line_stripe_of (address Drop30 1 2 3 4) 5 1728)),
+    )
     ∷ (codes "number 25 01:02:03:04", Stream (jobs.Number (address C25 1 2 3 4)))
     ∷ (codes "labels 24 number", Stream (jobs.Labels (label_run_of bases.F24 ways.Number)))
     ∷ (codes "labels 25 label", Stream (jobs.Labels (label_run_of bases.F25 ways.Label)))
     ∷ (codes "labels 30 seconds", Stream (jobs.Labels (label_run_of bases.F30 ways.Seconds)))
     ∷ (codes "labels 30d plus 7", Stream (jobs.Labels (label_run_of bases.Drop30 (ways.Plus 7))))
     ∷ (codes "labels 25 minus 8", Stream (jobs.Labels (label_run_of bases.F25 (ways.Minus 8))))
-    ∷ (codes "labels 25 since 01:02:03:04",
-       Stream (jobs.Labels (label_run_of bases.F25 (ways.Since (address C25 1 2 3 4)))))
+    ∷ (
+      codes "labels 25 since 01:02:03:04",
+      Stream (jobs.Labels (label_run_of bases.F25 (ways.Since (address C25 1 2 3 4)))),
+    )
     ∷ (codes "labels 30 to 24", Stream (jobs.Labels (label_run_of bases.F30 (ways.To bases.F24))))
     ∷ (codes "labels 25 to 30 ntsc", Stream (jobs.Labels (label_run_of bases.F25 (ways.To bases.PulledDown30))))
     ∷ (codes "labels 24 ntsc number", Stream (jobs.Labels (label_run_of bases.PulledDown24 ways.Number)))
@@ -118,11 +138,15 @@ named_lines =
     ∷ (codes "labels 30 ntsc seconds", Stream (jobs.Labels (label_run_of bases.PulledDown30 ways.Seconds)))
     ∷ (codes "labels 24 ntsc plus 7", Stream (jobs.Labels (label_run_of bases.PulledDown24 (ways.Plus 7))))
     ∷ (codes "labels 24 ntsc minus 8", Stream (jobs.Labels (label_run_of bases.PulledDown24 (ways.Minus 8))))
-    ∷ (codes "labels 24 ntsc since 01:02:03:04",
-       Stream (jobs.Labels (label_run_of bases.PulledDown24 (ways.Since (address C24 1 2 3 4)))))
+    ∷ (
+      codes "labels 24 ntsc since 01:02:03:04",
+      Stream (jobs.Labels (label_run_of bases.PulledDown24 (ways.Since (address C24 1 2 3 4)))),
+    )
     ∷ (codes "labels 24 ntsc to 25", Stream (jobs.Labels (label_run_of bases.PulledDown24 (ways.To bases.F25))))
-    ∷ (codes "labels 30 ntsc to 24 ntsc",
-       Stream (jobs.Labels (label_run_of bases.PulledDown30 (ways.To bases.PulledDown24))))
+    ∷ (
+      codes "labels 30 ntsc to 24 ntsc",
+      Stream (jobs.Labels (label_run_of bases.PulledDown30 (ways.To bases.PulledDown24))),
+    )
     ∷ (codes "help", Stream jobs.Help)
     ∷ (codes "help ltc-read", Stream (jobs.HelpOf 0))
     ∷ (codes "help version", Stream (jobs.HelpOf 23))
@@ -159,7 +183,8 @@ AreTaken lines = AllByRecursion (λ line. is_ok (task_of_line line) ≡ true) li
 abbrev pub refused_lines : List (List ℕ × WordsFault)
 refused_lines =
     (codes "ltc-red", Command) ∷ (codes "", Command) ∷ (codes "ltc-read x", CountOfWords)
-    ∷ (codes "ltc-rough worn", Value 1) ∷ (codes "ltc-fly", CountOfWords) ∷ (codes "ltc-fly x worn firm 1", CountOfWords)
+    ∷ (codes "ltc-rough worn", Value 1) ∷ (codes "ltc-fly", CountOfWords)
+    ∷ (codes "ltc-fly x worn firm 1", CountOfWords)
     ∷ (codes "ltc-fly 256 x", Value 1) ∷ (codes "ltc-fly 1 firm x", Value 2) ∷ (codes "ltc-fly 1 worn worn", Value 3)
     ∷ (codes "ltc-jam 256 15 0", Value 1) ∷ (codes "ltc-jam 1 15 0", Value 2) ∷ (codes "ltc-jam 1 8388608 1", Value 2)
     ∷ (codes "ltc-jam 1 16 0", Value 3) ∷ (codes "ltc-jam 1 16 100000001 x", Value 3)
@@ -179,7 +204,8 @@ refused_lines =
     ∷ (codes "wav-ltc 25 1 1 1 deep deep", Value 6) ∷ (codes "wav-ltc 25 1 1 path live", Value 5)
     ∷ (codes "wav-ltc 25 1 1 2 path", Value 5) ∷ (codes "ltc-pcm 0", Value 1) ∷ (codes "ltc-pcm 32768", Value 1)
     ∷ (codes "ltc-make 29 up 1 0 0 0", Value 1) ∷ (codes "ltc-make 25 up 1 0 0 0", Value 2)
-    ∷ (codes "ltc-make 25 forward 01:02:03:25 0 0 0", Value 3) ∷ (codes "ltc-make 25 forward 01:02:03:24 0 0 0", Value 4)
+    ∷ (codes "ltc-make 25 forward 01:02:03:25 0 0 0", Value 3)
+    ∷ (codes "ltc-make 25 forward 01:02:03:24 0 0 0", Value 4)
     ∷ (codes "ltc-make 25 forward 01:02:03:24 1000001 0 0", Value 4)
     ∷ (codes "ltc-make 25 forward 01:02:03:24 1 15 0", Value 5)
     ∷ (codes "ltc-make 25 forward 01:02:03:24 1 8388608 0", Value 5)
@@ -202,7 +228,8 @@ refused_lines =
     ∷ (codes "luma-vitc 25 360 288 0 41", Value 5)
     ∷ (codes "vitc-make 24 01:02:03:04 1 460", Value 1) ∷ (codes "vitc-make 25 01:02:03:04 0 459", Value 3)
     ∷ (codes "vitc-make 25 01:02:03:04 1000001 459", Value 3) ∷ (codes "vitc-make 25 01:02:03:04 1 459", Value 4)
-    ∷ (codes "vitc-make 25 01:02:03:04 1 65536", Value 4) ∷ (codes "number 25 1", Value 2) ∷ (codes "label 25 x", Value 2)
+    ∷ (codes "vitc-make 25 01:02:03:04 1 65536", Value 4) ∷ (codes "number 25 1", Value 2)
+    ∷ (codes "label 25 x", Value 2)
     ∷ (codes "labels 25", CountOfWords) ∷ (codes "labels 24 ntsc", CountOfWords) ∷ (codes "labels 29 x 1", Value 1)
     ∷ (codes "labels 25 ntsc number", Value 2) ∷ (codes "labels 30d ntsc number", Value 2)
     ∷ (codes "labels 25 x", Value 2) ∷ (codes "labels 25 x 1 2", Value 2) ∷ (codes "labels 25 x 1 2 3", CountOfWords)
@@ -210,7 +237,8 @@ refused_lines =
     ∷ (codes "labels 25 number 1", CountOfWords) ∷ (codes "labels 25 plus", CountOfWords)
     ∷ (codes "labels 25 plus 4294967296", Value 3) ∷ (codes "labels 24 ntsc minus x", Value 4)
     ∷ (codes "labels 25 since 01:02:03:25", Value 3) ∷ (codes "labels 24 ntsc since 01:02:03:24", Value 4)
-    ∷ (codes "labels 25 to 29", Value 3) ∷ (codes "labels 25 to 24 x", Value 4) ∷ (codes "labels 25 to 25 ntsc", Value 4)
+    ∷ (codes "labels 25 to 29", Value 3) ∷ (codes "labels 25 to 24 x", Value 4)
+    ∷ (codes "labels 25 to 25 ntsc", Value 4)
     ∷ (codes "labels 24 ntsc to 30d ntsc", Value 5) ∷ (codes "help x", Value 1) ∷ (codes "help help help", CountOfWords)
     ∷ []
 

@@ -1,6 +1,5 @@
 -- By which slots the values of a command are read, where its job asks for what they say.
-use Rattle.std.specs.Prelude.{◌≡◌, ℕ, nat_le, true, List, [], ◌∷◌, length, Option, Some, None, IfSome}
-use Rattle.std.specs.List.{AllByRecursion}
+use Rattle.std.specs.Prelude.{◌≡◌, nat_le, true, List, [], ◌∷◌, length, Option, Some, None, IfSome}
 use Rattle.forms.specs.Form.{SlotRow}
 use Rattle.forms.specs.Reading.{AreRead}
 use Rattle.forms.specs.declared.command.Command.{Command}

@@ -1,6 +1,6 @@
 -- The words behind a command as values, by the slots of a form.
 use Rattle.std.specs.Prelude.{◌≡◌, ℕ, ◌+◌, true, nat_eq, List, [], ◌∷◌, ◌++◌, length}
-use Rattle.std.specs.Prelude.{Option, Some, None, Result, Ok, Err}
+use Rattle.std.specs.Prelude.{Some, None, Result, Ok, Err}
 use Rattle.forms.specs.Form.{SlotRow, takes}
 use Rattle.forms.specs.Number.{Word}
 use Rattle.forms.specs.Slot.{FitsIn, value_in}

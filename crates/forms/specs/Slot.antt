@@ -1,6 +1,8 @@
 -- What a word is read as, after the values before it.
-use Rattle.std.specs.Prelude.{◌≡◌, ◌⊎◌, ℕ, ◌*◌, ◌/◌, ◌-◌, ◌^◌, ◌<◌, ◌≤◌, min, max, nat_le, Bool, true, false, ◌&&◌, List, []}
-use Rattle.std.specs.Prelude.{Option, Some, None, codes, if◌then◌else◌, position, slice_get, option_and_then, option_map}
+use Rattle.std.specs.Prelude.{◌≡◌, ◌⊎◌, ℕ, ◌*◌, ◌/◌, ◌-◌, ◌^◌, ◌<◌, ◌≤◌, min, max, nat_le, Bool, true, false}
+use Rattle.std.specs.Prelude.{◌&&◌, List}
+use Rattle.std.specs.Prelude.{Option, Some, None, codes, if◌then◌else◌, position, slice_get}
+use Rattle.std.specs.Prelude.{option_and_then, option_map}
 use Rattle.std.specs.Option.{is_some}
 use Rattle.std.specs.Str.{bytes_eq}
 use Rattle.limits.specs.declared.recording.TheConstants.{MAX_TICK_RATE}

@@ -6,9 +6,9 @@ use crate::choices::said_by;
 use crate::command::Command;
 use crate::slot::{Need, Slot};
 
-/// A way to type a command: its word; its marks, which are the places at which one of the words of a choice has to stand
-/// so that the words are read in this way; the slots of the words behind it; and which job they name. It is no struct,
-/// since a definition can't name a constant that has a struct with a text in it.
+/// A way to type a command: its word; its marks, which are the places at which one of the words of a choice has to
+/// stand so that the words are read in this way; the slots of the words behind it; and which job they name. It is no
+/// struct, since a definition can't name a constant that has a struct with a text in it.
 pub type Form = (
     &'static str,
     &'static [(usize, usize)],

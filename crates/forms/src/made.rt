@@ -1,5 +1,5 @@
-//! The task of a command, made of the values of its words. Read next: `made_stripe`, `made_sound` and `made_labels`, and
-//! `tc_job/src/job.rt` for what the jobs do.
+//! The task of a command, made of the values of its words. Read next: `made_stripe`, `made_sound` and `made_labels`,
+//! and `tc_job/src/job.rt` for what the jobs do.
 ghost use Rattle.std.specs.Prelude.{◌≡◌};
 ghost use Rattle.forms.specs.Held.{label_at};
 ghost use Rattle.forms.specs.Made.{help_in, task_in};
@@ -11,7 +11,9 @@ use crate::command::Command;
 use crate::held::{label_at, version_at, witness_at};
 use crate::made_labels::{labels_of, labels_since, pulled_labels_since};
 use crate::made_sound::{level_of, path_slicing_of, slicing_of, track_path_of, wave_slicing_of};
-use crate::made_stripe::{chase_of, flight_of, jam_of, line_stripe_of, load_of, luma_of, stripe_of};
+use crate::made_stripe::{
+    chase_of, flight_of, jam_of, line_stripe_of, load_of, luma_of, stripe_of,
+};
 use crate::value::Value;
 use tc_address::Label;
 use tc_job::{Job, Task};

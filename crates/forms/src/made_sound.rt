@@ -21,7 +21,14 @@ pub(crate) fn slicing_of(values: &[Value]) -> Slicing
     let threshold = threshold_of(Threshold::Fixed(least), least, values, 4);
     let fineness = number_or(values, 3, 1);
     let rate = number_or(values, 1, 0);
-    Slicing::new(system_at(values, 0), rate, threshold, fineness, smooth, has_live(values))
+    Slicing::new(
+        system_at(values, 0),
+        rate,
+        threshold,
+        fineness,
+        smooth,
+        has_live(values),
+    )
 }
 
 /// `wav-ltc`
@@ -34,7 +41,13 @@ pub(crate) fn wave_slicing_of(values: &[Value]) -> WaveSlicing
     let least = smooth * number_or(values, 2, 0);
     let threshold = threshold_of(Threshold::Follow(least), least, values, 4);
     let track = number_or(values, 1, 0);
-    WaveSlicing::new(system_at(values, 0), track, threshold, smooth, has_live(values))
+    WaveSlicing::new(
+        system_at(values, 0),
+        track,
+        threshold,
+        smooth,
+        has_live(values),
+    )
 }
 
 /// A threshold of this level by the word that says how it follows the level, and without the word another one.
@@ -72,7 +85,11 @@ pub(crate) fn track_path_of(values: &[Value]) -> TrackPath
     requires { AreRead WAV_PATH.now values.now }
     ensures { result ≡ track_path_in values.now }
 {
-    TrackPath::new(system_at(values, 0), number_or(values, 1, 0), number_or(values, 2, 0))
+    TrackPath::new(
+        system_at(values, 0),
+        number_or(values, 1, 0),
+        number_or(values, 2, 0),
+    )
 }
 
 /// `ltc-pcm`

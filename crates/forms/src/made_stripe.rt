@@ -6,7 +6,9 @@ ghost use Rattle.forms.specs.Made.{chase_in, flight_at, jam_in, line_stripe_in, 
 ghost use Rattle.forms.specs.Reading.{AreRead};
 ghost use Rattle.forms.specs.declared.table.TheConstants.{CHASE, FLIGHT, JAM, LINES, LOAD, LUMA, MAKE};
 
-use crate::held::{direction_at, label_at, number_or, seed_at, system_at, tolerance_at, witness_at};
+use crate::held::{
+    direction_at, label_at, number_or, seed_at, system_at, tolerance_at, witness_at,
+};
 use crate::value::Value;
 use biphase::Shaper;
 use luma_field::Raster;
@@ -40,7 +42,11 @@ pub(crate) fn jam_of(values: &[Value]) -> Jam
     requires { AreRead JAM.now values.now }
     ensures { result ≡ jam_in values.now }
 {
-    Jam::new(flight_at(values, 0, 3), number_or(values, 1, 0), number_or(values, 2, 0))
+    Jam::new(
+        flight_at(values, 0, 3),
+        number_or(values, 1, 0),
+        number_or(values, 2, 0),
+    )
 }
 
 /// `ltc-chase`
@@ -65,7 +71,13 @@ pub(crate) fn stripe_of(values: &[Value]) -> Stripe
     let shaper = shaper_with(cell, to_cell, number_or(values, 7, 0));
     let direction = direction_at(values, 1);
     let label = label_at(values, 2);
-    Stripe::new(direction, label, number_or(values, 3, 0), shaper, number_or(values, 5, 0))
+    Stripe::new(
+        direction,
+        label,
+        number_or(values, 3, 0),
+        shaper,
+        number_or(values, 5, 0),
+    )
 }
 
 /// The cells from one length to another by a step.
@@ -97,7 +109,11 @@ pub(crate) fn line_stripe_of(values: &[Value]) -> LineStripe
     requires { AreRead LINES.now values.now }
     ensures { result ≡ line_stripe_in values.now }
 {
-    LineStripe::new(label_at(values, 1), number_or(values, 2, 0), number_or(values, 3, 0))
+    LineStripe::new(
+        label_at(values, 1),
+        number_or(values, 2, 0),
+        number_or(values, 3, 0),
+    )
 }
 
 /// `luma-vitc`
@@ -108,6 +124,11 @@ pub(crate) fn luma_of(values: &[Value]) -> LumaRun
 {
     let width = number_or(values, 1, 0);
     let height = number_or(values, 2, 0);
-    let raster = Raster::new(width, height, number_or(values, 3, 0), number_or(values, 4, 0));
+    let raster = Raster::new(
+        width,
+        height,
+        number_or(values, 3, 0),
+        number_or(values, 4, 0),
+    );
     LumaRun::new(system_at(values, 0), raster)
 }

@@ -24,13 +24,10 @@ pub fn read(slots: &[(Need, Slot)], words: &[&str]) -> Result<Values, usize>
 
 /// The same of the slots and words that come after some values.
 #[tactic(auto, unfolding(crate::specs::Reading::read_on, crate::specs::Reading::AreFitAfter))]
-fn read_on(
-    before: Values,
-    slots: &[(Need, Slot)],
-    words: &[&str],
-) -> Result<Values, usize>
+fn read_on(before: Values, slots: &[(Need, Slot)], words: &[&str]) -> Result<Values, usize>
     requires { length before.items + length words.now ≤ MAX_VALUES }
-    ensures value { map_ok (λ values. values.items) result ≡ read_on before.items slots.now (map (λ w. w.now) words.now) }
+    ensures value { map_ok (λ values. values.items) result
+        ≡ read_on before.items slots.now (map (λ w. w.now) words.now) }
     ensures fits { IfOk result (λ values. FitOn before.items slots.now (length words.now) values.items) }
 {
     match words {

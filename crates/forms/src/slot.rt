@@ -4,7 +4,8 @@ ghost use Rattle.std.specs.Str.{bytes_eq};
 ghost use Rattle.forms.specs.Choice.{said_by};
 ghost use Rattle.forms.specs.Number.{between, number_spelled};
 ghost use Rattle.forms.specs.Slot.{Fits, FitsIn, IsLabelOf, IsNumberIn, IsPathFineness, IsPathRate, IsSaidBy, IsSeed};
-ghost use Rattle.forms.specs.Slot.{bounded_by, has_steps, is_live, label_read, may_be_left_out, numbered, path_fineness_in};
+ghost use Rattle.forms.specs.Slot.{bounded_by, has_steps, is_live, label_read, may_be_left_out, numbered};
+ghost use Rattle.forms.specs.Slot.{path_fineness_in};
 ghost use Rattle.forms.specs.Slot.{path_rate_in, pulled_in, topic_in, value_in, value_of};
 ghost use Rattle.limits.specs.declared.recording.TheConstants.{MAX_TICK_RATE};
 ghost use Rattle.tc_address.specs.Label.{IsLabel};
@@ -24,9 +25,9 @@ use tc_job::{MAX_FINENESS, grid_for, step_ticks};
 #[derive(Clone, Copy)]
 pub enum Slot {
     /// A number from the least to the most.
-    Number { least: u32, most: u32 },
+    Number(u32, u32),
     /// The same, and at most as much as the values before it allow.
-    Bounded { least: u32, most: u32, bound: Bound },
+    Bounded(u32, u32, Bound),
     /// A number below 2^64.
     Seed,
     /// One of the words of this row of `CHOICES`.
@@ -82,7 +83,13 @@ impl Need {
 }
 
 /// The value of a word in a slot, after the values before it; and whether it is the last word.
-pub(crate) fn value_in(need: Need, slot: Slot, before: &[Value], last: bool, word: &str) -> Option<Value>
+pub(crate) fn value_in(
+    need: Need,
+    slot: Slot,
+    before: &[Value],
+    last: bool,
+    word: &str,
+) -> Option<Value>
     ensures value { result ≡ value_in need slot before.now last word.now }
     ensures fits { IfSome result (FitsIn need slot before.now) }
 {
@@ -108,8 +115,8 @@ fn value_of(slot: Slot, before: &[Value], word: &str) -> Option<Value>
     ensures fits { IfSome result (Fits slot before.now) }
 {
     match slot {
-        Slot::Number { least, most } => number(least, most, word),
-        Slot::Bounded { least, most, bound } => {
+        Slot::Number(least, most) => number(least, most, word),
+        Slot::Bounded(least, most, bound) => {
             number(least, most.min(bounded_by(bound, before)), word)
         }
         Slot::Seed => seed(word),

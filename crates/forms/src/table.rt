@@ -10,11 +10,9 @@ use crate::choices;
 use crate::choices::is_word;
 use crate::command::Command;
 use crate::form::{Form, are_met};
-use crate::slot::Bound;
-use crate::slot::Need;
 use crate::slot::Need::{Needed, Optional, OrLive};
-use crate::slot::Slot;
 use crate::slot::Slot::{Bounded, Number, OneOf};
+use crate::slot::{Bound, Need, Slot};
 use biphase::{MAX_SHAPED, MIN_SHAPED};
 use limits::{MAX_TICK_RATE, MAX_TRACKS};
 use luma_field::{MAX_HEIGHT, MAX_ROWS};
@@ -25,16 +23,16 @@ use vitc_reader::{MAX_LINE_LENGTH, MIN_LINE_LENGTH};
 
 /// `LIMIT [worn|rough [firm|consecutive]]`
 pub const FLIGHT: &[(Need, Slot)] = &[
-    (Needed, Number { least: 0, most: 255 }),
+    (Needed, Number(0, 255)),
     (Optional, OneOf(choices::TOLERANCE)),
     (Optional, OneOf(choices::WITNESS)),
 ];
 
 /// `LIMIT CELL TICK-RATE [worn|rough [firm|consecutive]]`
 pub const JAM: &[(Need, Slot)] = &[
-    (Needed, Number { least: 0, most: 255 }),
-    (Needed, Number { least: MIN_SHAPED, most: MAX_SHAPED }),
-    (Needed, Number { least: 1, most: MAX_TICK_RATE }),
+    (Needed, Number(0, 255)),
+    (Needed, Number(MIN_SHAPED, MAX_SHAPED)),
+    (Needed, Number(1, MAX_TICK_RATE)),
     (Optional, OneOf(choices::TOLERANCE)),
     (Optional, OneOf(choices::WITNESS)),
 ];
@@ -43,7 +41,7 @@ pub const JAM: &[(Need, Slot)] = &[
 pub const PCM_PATH: &[(Need, Slot)] = &[
     (Needed, OneOf(choices::SYSTEM)),
     (Needed, Slot::PathRate { system: 0 }),
-    (Needed, Number { least: 1, most: MAX_LEVEL }),
+    (Needed, Number(1, MAX_LEVEL)),
     (Needed, Slot::PathFineness { system: 0, rate: 1 }),
     (Needed, OneOf(choices::PATH)),
     (Optional, OneOf(choices::NOTHING)),
@@ -53,29 +51,29 @@ pub const PCM_PATH: &[(Need, Slot)] = &[
 /// `SYSTEM RATE THRESHOLD [FINENESS [follow|deep [SMOOTH]]] [live]`
 pub const PCM: &[(Need, Slot)] = &[
     (Needed, OneOf(choices::SYSTEM)),
-    (Needed, Number { least: 1, most: MAX_TICK_RATE }),
-    (Needed, Number { least: 1, most: MAX_LEVEL }),
+    (Needed, Number(1, MAX_TICK_RATE)),
+    (Needed, Number(1, MAX_LEVEL)),
     (
         OrLive,
-        Bounded {
-            least: 1,
-            most: MAX_FINENESS,
-            bound: Bound::Product {
+        Bounded(
+            1,
+            MAX_FINENESS,
+            Bound::Product {
                 place: 1,
                 most: MAX_TICK_RATE,
             },
-        },
+        ),
     ),
     (OrLive, OneOf(choices::FOLLOWING)),
-    (OrLive, Number { least: 1, most: MAX_SMOOTH }),
+    (OrLive, Number(1, MAX_SMOOTH)),
     (Optional, OneOf(choices::LIVE)),
 ];
 
 /// `SYSTEM TRACK THRESHOLD path`, and no word more
 pub const WAV_PATH: &[(Need, Slot)] = &[
     (Needed, OneOf(choices::SYSTEM)),
-    (Needed, Number { least: 1, most: MAX_TRACKS }),
-    (Needed, Number { least: 1, most: MAX_LEVEL }),
+    (Needed, Number(1, MAX_TRACKS)),
+    (Needed, Number(1, MAX_LEVEL)),
     (Needed, OneOf(choices::PATH)),
     (Optional, OneOf(choices::NOTHING)),
     (Optional, OneOf(choices::NOTHING)),
@@ -84,40 +82,33 @@ pub const WAV_PATH: &[(Need, Slot)] = &[
 /// `SYSTEM TRACK THRESHOLD [SMOOTH [deep]] [live]`
 pub const WAV: &[(Need, Slot)] = &[
     (Needed, OneOf(choices::SYSTEM)),
-    (Needed, Number { least: 1, most: MAX_TRACKS }),
-    (Needed, Number { least: 1, most: MAX_LEVEL }),
-    (OrLive, Number { least: 1, most: MAX_SMOOTH }),
+    (Needed, Number(1, MAX_TRACKS)),
+    (Needed, Number(1, MAX_LEVEL)),
+    (OrLive, Number(1, MAX_SMOOTH)),
     (OrLive, OneOf(choices::DEEP)),
     (Optional, OneOf(choices::LIVE)),
 ];
 
 /// `LEVEL`
-pub const LEVEL: &[(Need, Slot)] = &[(Needed, Number { least: 1, most: MAX_LEVEL })];
+pub const LEVEL: &[(Need, Slot)] = &[(Needed, Number(1, MAX_LEVEL))];
 
 /// `COUNT DIRECTION LABEL FRAMES CELL TICK-RATE [TO-CELL STEP]`
 pub const MAKE: &[(Need, Slot)] = &[
     (Needed, OneOf(choices::COUNT)),
     (Needed, OneOf(choices::DIRECTION)),
     (Needed, Slot::Label { count: 0 }),
-    (Needed, Number { least: 1, most: MAX_FRAMES }),
-    (Needed, Number { least: MIN_SHAPED, most: MAX_SHAPED }),
-    (Needed, Number { least: 1, most: MAX_TICK_RATE }),
-    (Optional, Number { least: MIN_SHAPED, most: MAX_SHAPED }),
+    (Needed, Number(1, MAX_FRAMES)),
+    (Needed, Number(MIN_SHAPED, MAX_SHAPED)),
+    (Needed, Number(1, MAX_TICK_RATE)),
+    (Optional, Number(MIN_SHAPED, MAX_SHAPED)),
     (
         Needed,
-        Bounded {
-            least: 0,
-            most: MAX_SHAPED,
-            bound: Bound::Eighth { one: 4, other: 6 },
-        },
+        Bounded(0, MAX_SHAPED, Bound::Eighth { one: 4, other: 6 }),
     ),
 ];
 
 /// `SEED WORDS`
-pub const LOAD: &[(Need, Slot)] = &[
-    (Needed, Slot::Seed),
-    (Needed, Number { least: 1, most: MAX_WORDS }),
-];
+pub const LOAD: &[(Need, Slot)] = &[(Needed, Slot::Seed), (Needed, Number(1, MAX_WORDS))];
 
 /// `COUNT LABEL`
 pub const LABEL: &[(Need, Slot)] = &[
@@ -129,9 +120,9 @@ pub const LABEL: &[(Need, Slot)] = &[
 pub const CHASE: &[(Need, Slot)] = &[
     (Needed, OneOf(choices::COUNT)),
     (Needed, Slot::Label { count: 0 }),
-    (Needed, Number { least: 0, most: 255 }),
+    (Needed, Number(0, 255)),
     (Needed, Slot::Seed),
-    (Needed, Number { least: 0, most: MAX_SLIP }),
+    (Needed, Number(0, MAX_SLIP)),
     (Optional, OneOf(choices::TOLERANCE)),
     (Optional, OneOf(choices::WITNESS)),
 ];
@@ -139,29 +130,12 @@ pub const CHASE: &[(Need, Slot)] = &[
 /// `SYSTEM WIDTH HEIGHT FIRST ROWS`
 pub const LUMA: &[(Need, Slot)] = &[
     (Needed, OneOf(choices::SYSTEM_WITH_LINES)),
+    (Needed, Number(MIN_WIDTH as u32, MAX_WIDTH as u32)),
+    (Needed, Number(1, MAX_HEIGHT)),
+    (Needed, Bounded(0, MAX_HEIGHT, Bound::Below { place: 2 })),
     (
         Needed,
-        Number {
-            least: MIN_WIDTH as u32,
-            most: MAX_WIDTH as u32,
-        },
-    ),
-    (Needed, Number { least: 1, most: MAX_HEIGHT }),
-    (
-        Needed,
-        Bounded {
-            least: 0,
-            most: MAX_HEIGHT,
-            bound: Bound::Below { place: 2 },
-        },
-    ),
-    (
-        Needed,
-        Bounded {
-            least: 1,
-            most: MAX_ROWS,
-            bound: Bound::Rest { all: 2, first: 3 },
-        },
+        Bounded(1, MAX_ROWS, Bound::Rest { all: 2, first: 3 }),
     ),
 ];
 
@@ -169,14 +143,8 @@ pub const LUMA: &[(Need, Slot)] = &[
 pub const LINES: &[(Need, Slot)] = &[
     (Needed, OneOf(choices::COUNT_WITH_LINES)),
     (Needed, Slot::Label { count: 0 }),
-    (Needed, Number { least: 1, most: MAX_FRAMES }),
-    (
-        Needed,
-        Number {
-            least: MIN_LINE_LENGTH,
-            most: MAX_LINE_LENGTH,
-        },
-    ),
+    (Needed, Number(1, MAX_FRAMES)),
+    (Needed, Number(MIN_LINE_LENGTH, MAX_LINE_LENGTH)),
 ];
 
 /// `COUNT NUMBER`
@@ -252,7 +220,7 @@ pub static FORMS: [Form; 35] = [
             (Needed, OneOf(choices::COUNT)),
             (Needed, Slot::Ntsc { count: 0 }),
             (Needed, OneOf(choices::ALONG)),
-            (Needed, Number { least: 0, most: u32::MAX }),
+            (Needed, Number(0, u32::MAX)),
         ],
         Command::Labels,
     ),
@@ -301,7 +269,7 @@ pub static FORMS: [Form; 35] = [
         &[
             (Needed, OneOf(choices::COUNT)),
             (Needed, OneOf(choices::ALONG)),
-            (Needed, Number { least: 0, most: u32::MAX }),
+            (Needed, Number(0, u32::MAX)),
         ],
         Command::Labels,
     ),

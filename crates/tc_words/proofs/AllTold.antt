@@ -1,7 +1,6 @@
 -- Of all words that a command takes each is named by its page, since the page names what each slot of each form takes.
-use Rattle.std.proofs.Common.{◌≡◌, ℕ, zero, suc, Bool, true, false, ◌&&◌, List, [], ◌∷◌, ◌++◌, Some, None, Ok, Err, refl}
+use Rattle.std.proofs.Common.{◌≡◌, ℕ, Bool, true, false, ◌&&◌, List, [], ◌∷◌, ◌++◌, Some, None, Ok, Err, refl}
 use Rattle.std.proofs.Common.{length, nat_eq, cond, arith, ◌+◌}
-use Rattle.std.specs.Prelude.{codes}
 use Rattle.std.specs.declared.option.Option.{Option}
 use Rattle.std.specs.declared.result.Result.{Result}
 use Rattle.std.specs.List.{find, list_all}
@@ -10,18 +9,17 @@ use Rattle.std.specs.Str.{bytes_eq}
 use Rattle.std.proofs.lemmas.Bool.{and_parts}
 use Rattle.std.proofs.lemmas.Slice.Eq.{bytes_eq-Decides}
 use Rattle.forms.specs.Choice.{choices}
-use Rattle.forms.specs.Form.{Row, SlotRow, are_met, form_of, forms, is_form_of, takes}
+use Rattle.forms.specs.Form.{Row, SlotRow, form_of, forms, is_form_of, takes}
 use Rattle.forms.specs.Named.{task_by, task_of}
 use Rattle.forms.specs.Made.{task_in}
 use Rattle.forms.specs.Number.{Word, between, number_spelled}
-use Rattle.tc_job.specs.declared.fault.WordsFault.{WordsFault}
 use Rattle.tc_job.specs.declared.fault.WordsFault.TheVariants as faults
 use Rattle.tc_job.specs.declared.job.Task.{Task}
 use Rattle.forms.specs.Reading.{read, read_on}
 use Rattle.forms.specs.Slot.{value_in}
 use Rattle.forms.specs.declared.value.Value.{Value}
 use Rattle.tc_words.specs.Forms.{between_bars}
-use Rattle.tc_words.specs.Pages.{AreNamed, are_told, between_spaces, is_told}
+use Rattle.tc_words.specs.Pages.{AreNamed, are_told, between_spaces}
 use Rattle.tc_words.proofs.SlotsTold.{names_need, names_slot, names_slots, slot_tells}
 
 read_told : (command : Word) (place : ℕ) (before : List Value) (slots : List SlotRow) (words : List Word)

@@ -1,5 +1,5 @@
 -- Each command has a line of usage, since the word of each form has one.
-use Rattle.std.proofs.Common.{◌≡◌, true, List, Some, None, Ok, Err, refl}
+use Rattle.std.proofs.Common.{◌≡◌, true, Some, None, Err, refl}
 use Rattle.std.specs.declared.option.Option.{Option}
 use Rattle.std.specs.List.{find, list_all}
 use Rattle.std.specs.Str.{bytes_eq}
@@ -7,7 +7,6 @@ use Rattle.std.proofs.lemmas.Bool.{and_parts}
 use Rattle.std.proofs.lemmas.Slice.Eq.{bytes_eq-Decides}
 use Rattle.forms.specs.Form.{Row, form_of, forms, is_form_of}
 use Rattle.forms.specs.Named.{task_by, task_of}
-use Rattle.forms.specs.Number.{Word}
 use Rattle.tc_job.specs.declared.fault.WordsFault.TheVariants as faults
 use Rattle.tc_words.specs.Usages.{HaveUsages, has_usage, is_known}
 use Rattle.tc_words.proofs.AllTold.{found}

@@ -1,5 +1,5 @@
 -- A word that a slot takes is named by the page, if the page names what the slot takes: this is a test that is computed.
-use Rattle.std.proofs.Common.{◌≡◌, ◌≤◌, ◌∙◌, ℕ, Bool, true, false, not, ◌&&◌, List, [], ◌∷◌, length, Some, None, refl}
+use Rattle.std.proofs.Common.{◌≡◌, ◌≤◌, ℕ, Bool, true, false, not, ◌&&◌, List, [], ◌∷◌, length, Some, None, refl}
 use Rattle.std.proofs.Common.{◌||◌, ◌<◌, ◌+◌, ◌^◌, arith, inl, inr, zero, suc, get_or, cond, min, nat_lt, le-leb, rules}
 use Rattle.std.specs.Prelude.{codes, nat_le, option_map, option_and_then, slice_get, position}
 use Rattle.std.specs.declared.option.Option.{Option}
@@ -15,7 +15,7 @@ use Rattle.tc_address.specs.declared.count.Count.{Count}
 use Rattle.tc_address.specs.declared.count.Count.TheVariants.{C24, C25, C30, Drop30}
 use Rattle.tc_address.specs.Spelling.{label_in}
 use Rattle.tc_job.specs.declared.usages.TheConstants.{USAGES}
-use Rattle.forms.specs.Choice.{choices, said_at, said_by, said_in}
+use Rattle.forms.specs.Choice.{choices, said_by, said_in}
 use Rattle.forms.specs.Form.{SlotRow}
 use Rattle.forms.specs.Number.{Word, between, is_number, number_spelled}
 use Rattle.forms.specs.Held.{count_at}
@@ -262,8 +262,8 @@ topic_tells command place word v names is = go (said_by STATUSES word) refl is
     go None at is =
         let (page, found) = mapped _ (position (λ usage. bytes_eq word usage.0.now) USAGES) v is in
         let (usage, same, told) = located (λ usage. bytes_eq word usage.0.now)
-            (λ usage. is_told command place usage.0.now) USAGES page found
-            (and_parts (names_choice command place STATUSES) _ names).1 in
+        (λ usage. is_told command place usage.0.now) USAGES page found
+        (and_parts (names_choice command place STATUSES) _ names).1 in
         rw ((bytes_eq-Decides word usage.0.now).0 same) told
 
 range_told : (command : Word) (place least most : ℕ) (word : Word) (n : ℕ)

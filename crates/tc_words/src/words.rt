@@ -1,5 +1,5 @@
-//! The words of the command line as a task, or their first fault. Read next: `command_words/src/command_line.rt`, and then
-//! `forms/src/table.rt`.
+//! The words of the command line as a task, or their first fault. Read next: `command_words/src/command_line.rt`, and
+//! then `forms/src/table.rt`.
 ghost use Rattle.std.specs.Prelude.{◌≡◌, ◌⊎◌, length, map, position, string_bytes, alloc_error};
 ghost use Rattle.command_words.specs.CommandLine.{begins_with_dash};
 ghost use Rattle.tc_words.specs.Words.{answer_to, without_dashes, IsRefusedAtOnce};
