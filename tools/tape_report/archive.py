@@ -1,32 +1,22 @@
-"""The tool for folders: every tape under one is read, and the tables of all are written."""
-import argparse
-import os
-from collections.abc import Iterable, Sequence
+"""The tool for folders: a run over one, or a job of a few of its tapes."""
+from collections.abc import Sequence
 
-from . import jobs, lock, output, probing, store
-from . import options as words
-from .clips import left_out
-from .endings import FAILED, FOUND, NONE_FOUND, say
+from . import jobs, store
+from .endings import FAILED, FOUND, say
 from .faults import Fault, reason_of
-from .folder import Found, look_under
 from .names import shown
-from .output import Made
-from .programs import program
-from .remarks import named, summary
-from .row import FAILED as FAILED_ROW
-from .row import MISSING, Row, Told
-from .store import Run
-
-# Something under the folder was not looked at.
-NOT_ALL = NONE_FOUND
 
 
 def main(arguments: Sequence[str]) -> int:
     if arguments[:1] == [jobs.JOB]:
         return job(*arguments[1:])
-    options = words.archive_options(arguments)
+    # A job, of which there are many, has no need of what a run does.
+    from . import archive_run
+    from .options import archive_options
+
+    options = archive_options(arguments)
     try:
-        return work(options)
+        return archive_run.work(options)
     except BrokenPipeError:
         raise
     except (Fault, OSError) as fault:
@@ -44,90 +34,3 @@ def job(out: str, *numbers: str) -> int:
     for number in numbers:
         jobs.work_one(run, names[int(number)])
     return FOUND
-
-
-def work(options: argparse.Namespace) -> int:
-    if not os.path.isdir(options.folder):
-        raise Fault("it is no folder")
-    program()
-    run = Run(os.path.abspath(options.folder), os.path.abspath(options.out), words.archive_reading_of(options))
-    goes_on = options.resume or options.part is not None
-    output.refuse(run, goes_on, options.force)
-    os.makedirs(run.out, exist_ok=True)
-    what = "a run" if options.part is None else f"part {options.part[0]}/{options.part[1]}"
-    with lock.held(os.path.join(run.out, store.LOCK), what, is_shared=options.part is not None):
-        # Another run may have ended there meanwhile.
-        output.refuse(run, goes_on, options.force)
-        return work_in(run, options)
-
-
-def work_in(run: Run, options: argparse.Namespace) -> int:
-    """The work in an output that is this run's."""
-    made = Made(run.out)
-    made.refuse([output.TABLE, output.OBJECTS, output.INDEX], options.force)
-    store.put_run(run)
-    found = look_under(run.folder, run.out)
-    if options.all:
-        probing.look_into_all(found, run.folder)
-    if options.part:
-        return work_part(run, options, found)
-    output.take_away_removed(run, found.tapes, found.closed)
-    jobs.put_list(run, found.tapes)
-    numbers = [number for number, name in enumerate(found.tapes) if not (options.resume and store.is_done(run, name))]
-    jobs.work_all(run, numbers, options.jobs, options.hosts)
-    # A job, of which there are many, has no need of the tables.
-    from . import table
-
-    asked = table.Asked(
-        options.edl or made.has(output.EDL), options.ale or made.has(output.ALE), options.force, options.all
-    )
-    tapes = table.collect(run, found, made, asked)
-    return tell(tapes, found, options, without_list(tapes) if asked.edl or asked.ale else [])
-
-
-def work_part(run: Run, options: argparse.Namespace, found: Found) -> int:
-    """Each N-th tape, and no table."""
-    from . import table
-
-    at, of = options.part
-    names = found.tapes[at::of]
-    for name in names:
-        if not (options.resume and store.is_done(run, name)):
-            jobs.work_one(run, name)
-    return tell(table.told_of_all(run, names), found, options)
-
-
-def without_list(tapes: list[Told]) -> list[str]:
-    """What the lists of spans leave out."""
-    names = left_out(tapes)
-    have = "1 tape has" if len(names) == 1 else f"{len(names)} tapes have"
-    return [f"{have} spans in no list, since their rate is undecided: {named(names)}"] if names else []
-
-
-def tell(tapes: list[Told], found: Found, options: argparse.Namespace, more: Iterable[str] = ()) -> int:
-    """The summary, with each tape that was not read; or an object a tape."""
-    from .table import counts
-
-    rows = [told.row for told in tapes]
-    remarks = [*summary(found, options.all), *more]
-    if options.json:
-        print("".join(told.as_json() + "\n" for told in tapes), end="")
-        for remark in remarks:
-            say(remark)
-    else:
-        part = f"part {options.part[0]}/{options.part[1]}: " if options.part else ""
-        print("\n".join([part + counts(rows), *missed(rows), *remarks]))
-    return status_of(rows, found, options)
-
-
-def missed(rows: Iterable[Row]) -> list[str]:
-    fell_out = (row for row in rows if row.status in (FAILED_ROW, MISSING))
-    return [f"{row.status}: {row.file}: {row.note or 'not read'}" for row in fell_out]
-
-
-def status_of(rows: Iterable[Row], found: Found, options: argparse.Namespace) -> int:
-    """Whether the work was done, and whether all under the folder was looked at."""
-    if any(row.status == MISSING and not row.note for row in rows):
-        return FAILED
-    is_unknown = bool(found.unknown) and not options.all
-    return NOT_ALL if found.closed or is_unknown or any(row.status == MISSING for row in rows) else FOUND

@@ -6,8 +6,7 @@ import re
 import subprocess
 import tempfile
 from collections.abc import Sequence
-from dataclasses import dataclass
-from typing import IO, Any
+from typing import IO, Any, NamedTuple
 
 from .faults import NoSound
 from .names import plain
@@ -87,8 +86,7 @@ class Decoder:
         return first_line(self.notes.read(65_536))
 
 
-@dataclass(frozen=True)
-class Kept:
+class Kept(NamedTuple):
     """A stream that was decoded into a file without a name, and how that went."""
 
     file: IO[bytes]

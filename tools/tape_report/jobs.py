@@ -8,7 +8,7 @@ import sys
 from . import store
 from .faults import Fault, NoProgram, NoSound, NotThere, reason_of
 from .names import shown
-from .options import wanted_of
+from .reading import wanted_of
 from .row import FAILED, MISSING, Row, Told
 from .source import opened
 from .store import Run

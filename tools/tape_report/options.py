@@ -3,15 +3,11 @@ import argparse
 import os
 import sys
 from collections.abc import Callable, Sequence
-from fractions import Fraction
 from typing import Any
 
-from . import front_ends
-from .choice import SYSTEMS, Wanted
-from .front_ends import FrontEnd
+from .choice import SYSTEMS
 from .labels import RATES, system_of
 from .programs import version
-from .rates import rate_given
 
 
 def number_from(least: int, most: int) -> Callable[[str], int]:
@@ -129,20 +125,3 @@ def reading_of(options: argparse.Namespace) -> dict[str, Any]:
 def archive_reading_of(options: argparse.Namespace) -> dict[str, Any]:
     """The same of an archive, with the word for margins if it is said."""
     return reading_of(options) | ({"margin": True} if options.margin else {})
-
-
-def wanted_of(reading: dict[str, Any]) -> tuple[Wanted, Fraction | None]:
-    """What is to be read of a tape, and the frames a second that were given."""
-    given = rate_given(reading["rate"])
-    system = reading["system"] if given is None else system_of(given)
-    return Wanted(reading["track"], system, reading["limit"], front_end(reading), reading["all_words"]), given
-
-
-def front_end(reading: dict[str, Any]) -> FrontEnd | None:
-    """The front end that is given, if one is."""
-    threshold, smooth, is_deep = reading["threshold"], reading["smooth"], reading["deep"]
-    if reading["path"]:
-        return FrontEnd("best path", threshold or front_ends.THRESHOLD, is_path=True)
-    if threshold is None and smooth is None and not is_deep:
-        return None
-    return FrontEnd("given", threshold or front_ends.THRESHOLD, smooth or 1, is_deep)

@@ -147,6 +147,13 @@ def decoded_sound(source: Source, form: Wave | None) -> Sound:
     if not programs.has_ffmpeg():
         what = "its samples are of a form that tc does not take" if form else "it is no WAV file"
         raise NoSound(f"{what}, and ffmpeg, which reads others, is not installed")
+    # Most tapes of a job need no module for it.
+    from . import flac
+
+    if (header := flac.header_of(source.path)) is not None:
+        seconds = header.samples / header.rate
+        stream = Stream(header.tracks, header.rate, seconds=seconds)
+        return Sound(source, "flac", [stream], seconds, form, is_decoded=True)
     sounds, whole = streams_of(source.path)
     kind, coded = str(whole.get("format_name", "sound")).split(",")[0], str(sounds[0].get("codec_name", "unknown"))
     streams = [stream_of(it, number, kind not in ESTIMATED) for number, it in enumerate(sounds)]

@@ -13,6 +13,7 @@ from .front_ends import FINENESS
 from .kinds import TAPE, kind_of
 from .names import shown
 from .plot import draw_part
+from .reading import wanted_of
 from .source import opened
 from .speed_plot import speed_of_report
 from .spans import Reading
@@ -33,7 +34,7 @@ def tell(options: argparse.Namespace, name: str, is_first: bool) -> int:
             targets.refuse_all(asked, options.force, [source.tape])
             for path in (options.page, options.picture):
                 refuse_tape(path)
-            wanted, rate = words.wanted_of(words.reading_of(options))
+            wanted, rate = wanted_of(words.reading_of(options))
             try:
                 with tape_read(source, name, wanted, rate, is_shown=True, has_vitc=options.vitc) as tape:
                     return tell_tape(options, tape, is_first)

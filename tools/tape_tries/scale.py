@@ -138,7 +138,7 @@ def try_slurm(room):
 
 
 def try_short_streams(room):
-    """A stream that is short is decoded once, whatever is asked of it."""
+    """A FLAC that is short is read by one run of ffmpeg and none of ffprobe, whatever is asked of it."""
     want("ffmpeg", "ffprobe", "flac")
     path = os.path.join(room, "tape.flac")
     made = packed([code(48_000, intervals("25", "10:00:00:00", 250))] * 2, 16)
@@ -146,13 +146,14 @@ def try_short_streams(room):
     subprocess.run([*words, "--force-raw-format", "-o", path, "-"], input=made, check=True)
     bin_folder, log = os.path.join(room, "bin"), os.path.join(room, "log")
     os.mkdir(bin_folder)
-    script = os.path.join(bin_folder, "ffmpeg")
-    with open(script, "w", encoding="ascii") as file:
-        file.write(f"#!/bin/sh\necho run >> '{log}'\nexec '{shutil.which('ffmpeg')}' \"$@\"\n")
-    os.chmod(script, 0o755)
+    for name in ("ffmpeg", "ffprobe"):
+        script = os.path.join(bin_folder, name)
+        with open(script, "w", encoding="ascii") as file:
+            file.write(f"#!/bin/sh\necho run >> '{log}'\nexec '{shutil.which(name)}' \"$@\"\n")
+        os.chmod(script, 0o755)
     there = {**os.environ, "PATH": f"{bin_folder}:{os.environ['PATH']}"}
     ended, out, notes = run(TAPE, path, env=there)
     assert ended == 0, notes
     has(out, "2 tracks", "heard         250 frames", "peak")
     with open(log, encoding="ascii") as file:
-        assert len(file.readlines()) == 1, "it was decoded more than once"
+        assert len(file.readlines()) == 1, "more runs than one"
