@@ -29,7 +29,7 @@ use interval_file::{
     next_interval,
 };
 use limits::{MAX_INTERVAL, MAX_INTERVALS};
-use tc_command::{Halt, InputFault, Engine, Output, Stop, run};
+use tc_command::{Engine, Halt, InputFault, Output, Stop, run};
 use tc_io::{Sink, Source};
 
 /// The work of one command behind the header of an interval file.

@@ -14,7 +14,7 @@ use label_text::{LabelReader, LineRead};
 use line_text::Text;
 use tc_address::Label;
 use tc_address::laws::{a_text_is_read_as_its_label, number_and_label_are_inverse};
-use tc_command::{Halt, InputFault, Engine, Output, Stop, run as run_along};
+use tc_command::{Engine, Halt, InputFault, Output, Stop, run as run_along};
 use tc_io::{Sink, Source};
 use tc_job::LabelRun;
 

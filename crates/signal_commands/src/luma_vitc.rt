@@ -13,7 +13,7 @@ use line_file::laws::{a_file_is_read_as_it_was_written, runs_of_a_line_fit_the_f
 use line_file::{HEADER_LENGTH, LineHeader, MAX_FIELDS, line_header};
 use luma_field::PixelReader;
 use luma_field::laws::{a_field_says_its_lines, joined_parts_are_taken_apart};
-use tc_command::{Halt, InputFault, Engine, Output, Stop, run_behind};
+use tc_command::{Engine, Halt, InputFault, Output, Stop, run_behind};
 use tc_io::{Sink, Source};
 use tc_job::LumaRun;
 use vitc_reader::laws::each_line_has_its_runs;

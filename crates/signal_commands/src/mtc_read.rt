@@ -18,7 +18,7 @@ use mtc_reader::laws::{
     messages_carry_the_events, real_time_bytes_change_places_only,
 };
 use mtc_reader::{MtcEvent, MtcReader, mtc_end_text, push_mtc_text};
-use tc_command::{Halt, InputFault, Engine, Output, Stop, run};
+use tc_command::{Engine, Halt, InputFault, Output, Stop, run};
 use tc_io::{Sink, Source};
 
 /// How many bytes are read, at most.
@@ -146,12 +146,7 @@ impl Engine for MtcReport {
 
     fn finish<O: Output>(&mut self, out: &mut O) -> Result<(), InputFault> {
         let bytes = self.reader.bytes();
-        out.write(&mtc_end_text(
-            bytes,
-            self.full,
-            self.quarter,
-            self.refused,
-        ));
+        out.write(&mtc_end_text(bytes, self.full, self.quarter, self.refused));
         Ok(())
     }
 }

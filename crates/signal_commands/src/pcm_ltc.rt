@@ -13,7 +13,7 @@ use crate::spelling::spell;
 use interval_file::{FileVersion, IntervalHeader, interval_header};
 use pcm_front::laws::{bytes_are_those_of_their_samples, intervals_tell_the_crossings};
 use pcm_front::{Pace, Slicer};
-use tc_command::{Halt, InputFault, Engine, Output, Stop, run_behind};
+use tc_command::{Engine, Halt, InputFault, Output, Stop, run_behind};
 use tc_io::{Sink, Source};
 use tc_job::Slicing;
 

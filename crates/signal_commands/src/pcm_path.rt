@@ -13,7 +13,7 @@ use crate::pcm_ltc::MAX_SAMPLES;
 use byteorder::{ByteOrder, LittleEndian};
 use path_front::laws::{a_sound_has_one_list_of_intervals, the_intervals_of_a_sound_last_as_long};
 use pcm_front::laws::bytes_are_those_of_their_samples;
-use tc_command::{Halt, InputFault, Engine, Output, Stop, run_behind};
+use tc_command::{Engine, Halt, InputFault, Output, Stop, run_behind};
 use tc_io::{Sink, Source};
 use tc_job::PathSlicing;
 

@@ -13,7 +13,7 @@ use line_file::laws::{
     a_decoder_tells_the_file, a_file_is_read_as_it_was_written, what_is_read_whole_is_a_file,
 };
 use line_file::{LineDecoder, Taken, field_end_text, field_text};
-use tc_command::{Halt, InputFault, Engine, Output, Stop, run};
+use tc_command::{Engine, Halt, InputFault, Output, Stop, run};
 use tc_io::{Sink, Source};
 use vitc_reader::FieldAnswer;
 use vitc_reader::laws::{an_answer_says_whose_lines_they_are, lines_have_one_answer};
@@ -126,12 +126,7 @@ impl Engine for FieldReport {
     fn finish<O: Output>(&mut self, out: &mut O) -> Result<(), InputFault> {
         match self.decoder.finish() {
             Ok(()) => {
-                out.write(&field_end_text(
-                    self.fields,
-                    self.agreed,
-                    self.conflict,
-                    self.nothing,
-                ));
+                out.write(&field_end_text(self.fields, self.agreed, self.conflict, self.nothing));
                 Ok(())
             }
             Err(fault) => Err(InputFault::Lines(fault)),

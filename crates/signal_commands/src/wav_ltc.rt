@@ -20,7 +20,7 @@ use crate::spelling::spell;
 use interval_file::{FileVersion, IntervalHeader, interval_header};
 use pcm_front::laws::intervals_tell_the_crossings;
 use pcm_front::{Pace, Slicer};
-use tc_command::{Halt, InputFault, Engine, Output, Stop, run};
+use tc_command::{Engine, Halt, InputFault, Output, Stop, run};
 use tc_io::{Sink, Source};
 use tc_job::WaveSlicing;
 use wave_file::laws::{a_file_is_read_as_it_was_written, samples_are_few_and_behind_a_format};

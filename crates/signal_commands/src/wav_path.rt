@@ -15,7 +15,7 @@ ghost use Rattle.signal_commands.specs.WavPath.{along_track_path, asked_for_path
 
 use crate::laws::each_signal_makes_a_command;
 use crate::path_sound::{PathSound, header};
-use tc_command::{Halt, InputFault, Engine, Output, Stop, run};
+use tc_command::{Engine, Halt, InputFault, Output, Stop, run};
 use tc_io::{Sink, Source};
 use tc_job::TrackPath;
 use tc_job::laws::a_sound_file_has_steps_from_its_least_rate_on;

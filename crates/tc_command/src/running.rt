@@ -11,8 +11,8 @@ ghost use Rattle.tc_command.specs.Ran.{CameToItsEnd, StoppedBefore};
 ghost use Rattle.tc_command.specs.Stops.{StopsAtEnd};
 ghost use Rattle.tc_command.specs.Worked.{IsWorked};
 
-use crate::halt::Halt;
 use crate::engine::Engine;
+use crate::halt::Halt;
 use crate::outlet::Outlet;
 use crate::output::Output;
 use crate::stop::Stop;
