@@ -1,6 +1,6 @@
 -- The words of what an interval brought are two at most, and they come in turn.
 use Rattle.std.proofs.Common.{◌≡◌, ℕ, ◌^◌, ◌<◌, ◌≤◌, List, [], ◌∷◌, ◌++◌, length, length-append, ◌∙◌, ap}
-use Rattle.std.proofs.Common.{arith, map, refl, sym}
+use Rattle.std.proofs.Common.{arith, map, refl}
 use Rattle.std.proofs.Common.{append-nil, Bool, false, true}
 use Rattle.std.specs.Prelude.{IfSome, Some, None, All}
 use Rattle.std.specs.declared.option.Option.{Option}

@@ -1,11 +1,11 @@
 -- The next frame of an interval is the first of those that are still to come, since the words that wait come later.
 use Rattle.std.proofs.Common.{◌≡◌, ℕ, ◌^◌, ◌<◌, ◌≤◌, List, [], ◌∷◌, ◌++◌, ◌∙◌, ap, arith, refl, sym}
-use Rattle.std.proofs.Common.{append_assoc, append-nil, length, length-append, subst, ◌+◌, ◌-◌, ◌*◌, Bool, true, false}
+use Rattle.std.proofs.Common.{append-nil, length, length-append, subst, ◌+◌, ◌-◌, ◌*◌, Bool, true, false}
 use Rattle.std.proofs.Common.{inl, inr}
 use Rattle.std.proofs.lemmas.Bool.Decides.{nat_tests}
 use Rattle.std.proofs.lemmas.Bool.{cases_lt}
 use Rattle.std.specs.Prelude.{All, IfSome, None, Option, Some}
-use Rattle.std.proofs.lemmas.List.Elements.{All-nil, All-cons}
+use Rattle.std.proofs.lemmas.List.Elements.{All-nil}
 use Rattle.direction_reader.specs.Firm.{DoNotFall}
 use Rattle.flywheel.specs.declared.frame.Frame.{Frame}
 use Rattle.flywheel.specs.declared.frame.Frame.TheVariants.{Heard, Invented, Gone}
@@ -14,7 +14,6 @@ use Rattle.flywheel.specs.Frames.{frames, invented_after, is_due, tick_after}
 use Rattle.flywheel.specs.StandsFor as flies
 use Rattle.flywheel.specs.Wheel.{Wheel, IsPast, is_next_due, running, still}
 use Rattle.report_text.specs.FrameTexts.{FitsFrameLine}
-use Rattle.frame_commands.specs.declared.frames.Frames.{Frames}
 use Rattle.frame_commands.specs.Hearing.{due_at, word_ticks}
 use Rattle.frame_commands.specs.KeptFlight.{GivesDue, HeardBy}
 

@@ -1,5 +1,5 @@
 -- The lines of spans are those of the header's tick rate and system, and the last line counts what was read.
-use Rattle.std.proofs.Common.{◌≡◌, ℕ, List, [], ◌∷◌, ◌++◌, refl, sym, ◌∙◌, ap, ap₂, append_assoc}
+use Rattle.std.proofs.Common.{◌≡◌, ℕ, List, [], ◌∷◌, ◌++◌, refl, sym, ◌∙◌, ap, ap₂}
 use Rattle.tc_address.specs.declared.system.System.{System}
 use Rattle.flywheel.specs.declared.frame.Frame.{Frame}
 use Rattle.flywheel.specs.declared.frame.Frame.TheVariants.{Heard, Invented, Gone}

@@ -1,5 +1,5 @@
 -- The input ends, or the command halts along it.
-use Rattle.std.proofs.Common.{◌≡◌, ℕ, ◌∙◌, List, [], ◌++◌, Some, None, ap, subst, sym, inl, inr, append-nil}
+use Rattle.std.proofs.Common.{◌≡◌, ℕ, ◌∙◌, List, ◌++◌, Some, None, ap, subst, sym, inl}
 use Rattle.std.specs.Option.{option_map}
 use Rattle.std.specs.declared.option.Option.{Option}
 use Rattle.interval_file.specs.declared.fault.IntervalFileFault.{IntervalFileFault}

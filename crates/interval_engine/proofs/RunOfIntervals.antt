@@ -1,5 +1,5 @@
 -- A run of whole intervals within the limit, each looked at through a window of bytes.
-use Rattle.std.proofs.Common.{◌≡◌, ℕ, ◌+◌, ◌-◌, ◌<◌, ◌≤◌, List, [], ◌∷◌, ◌++◌, length, take, drop, Some, refl, sym, ◌∙◌}
+use Rattle.std.proofs.Common.{◌≡◌, ℕ, ◌+◌, ◌-◌, ◌<◌, ◌≤◌, List, [], ◌++◌, length, take, drop, Some, refl, sym, ◌∙◌}
 use Rattle.std.proofs.Common.{subst, arith}
 use Rattle.std.proofs.Common.{Result, Ok, Err}
 use Rattle.std.specs.Prelude.{fold}
@@ -11,7 +11,6 @@ use Rattle.limits.specs.declared.recording.TheConstants.{MAX_INTERVALS}
 use Rattle.interval_file.specs.declared.fault.IntervalFileFault.{IntervalFileFault}
 use Rattle.interval_file.specs.declared.decoder.Taken.TheVariants.{Interval, Fault}
 use Rattle.interval_file.specs.declared.header.FileVersion.{FileVersion}
-use Rattle.interval_file.specs.declared.header.IntervalHeader.{IntervalHeader}
 use Rattle.interval_file.specs.Decoding.{ReadsWhatIsSaid, IsBetween, decoding_of, with_byte, with_number}
 use Rattle.interval_file.specs.Next.{Makes}
 use Rattle.interval_file.specs.Progress.{Progress}

@@ -1,13 +1,13 @@
 -- A file of sliced sound grows by the intervals that more samples bring, and past the limit nothing more is taken.
 use Rattle.std.proofs.Common.{◌≡◌, inl, ℕ, ◌+◌, ◌-◌, ◌*◌, ◌/◌, ◌^◌, ◌%◌, ◌==◌, ap₂, get_or, mul-add, mul-le-mul, ◌<◌}
 use Rattle.std.proofs.Common.{◌≤◌, nat_lt, cond, ℤ}
-use Rattle.std.proofs.Common.{List, [], ◌∷◌, ◌++◌, length, take, drop, Some, None, sym, ◌∙◌, ap, refl, subst}
+use Rattle.std.proofs.Common.{List, [], ◌∷◌, ◌++◌, length, take, drop, Some, None, sym, ◌∙◌, ap, refl}
 use Rattle.std.proofs.Common.{append_assoc, append-nil, arith}
 use Rattle.std.specs.declared.option.Option.{Option}
 use Rattle.std.specs.Option.{option_to_list}
 use Rattle.std.proofs.lemmas.Bool.{lt-ltb}
 use Rattle.std.proofs.lemmas.Grind.{flat_map-append}
-use Rattle.std.proofs.lemmas.List.{length-append, length-take, length-take-le, take-append-drop, take-append-le}
+use Rattle.std.proofs.lemmas.List.{length-append, length-take, length-take-le, take-append-le}
 use Rattle.std.proofs.lemmas.List.{take-take, take_all}
 use Rattle.pcm_front.specs.declared.interval.Intervals.{Intervals}
 use Rattle.pcm_front.specs.declared.pace.Pace.{Pace}

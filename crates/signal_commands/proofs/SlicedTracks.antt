@@ -1,8 +1,8 @@
 -- A file of a track grows by the intervals of the samples that more bytes bring; what stops the reading leaves the
 -- file of the samples before it.
 use Rattle.std.proofs.Common.{◌≡◌, ℕ, ◌+◌, ◌-◌, ◌*◌, ◌^◌, ◌≤◌, ◌<◌, ℤ, List, [], ◌∷◌, ◌++◌, Option, Some, None, length}
-use Rattle.std.proofs.Common.{take, drop, inl, refl, sym, ◌∙◌, ap, ap₂}
-use Rattle.std.proofs.Common.{subst, append_assoc, append-nil, arith}
+use Rattle.std.proofs.Common.{drop, inl, refl, sym, ◌∙◌, ap, ap₂}
+use Rattle.std.proofs.Common.{subst, append-nil, arith}
 use Rattle.std.specs.Option.{option_map}
 use Rattle.std.proofs.lemmas.List.{length-append}
 use Rattle.std.proofs.lemmas.List.FromFn.{length-map-range_with_len}
@@ -29,7 +29,7 @@ use Rattle.tc_command.specs.Halt.{IsHalt}
 use Rattle.pcm_front.specs.declared.slicer.Slicer.{Slicer}
 use Rattle.signal_commands.specs.declared.wav_ltc.SlicedTrack.{SlicedTrack}
 use Rattle.signal_commands.specs.KeptTrack.{AreDue, IsGoing, Stands, pace_in, spelled}
-use Rattle.signal_commands.specs.WavLtc.{along_sound_file, track_file, track_header, track_of, track_pace}
+use Rattle.signal_commands.specs.WavLtc.{along_sound_file, track_file, track_header, track_pace}
 use Rattle.signal_commands.specs.WavLtc.{track_settings}
 use Rattle.signal_commands.proofs.PutMore.{none_begun}
 use Rattle.signal_commands.proofs.TrackGoesOn.{file_with}

@@ -1,8 +1,8 @@
 -- What more bytes of a sound file bring is heard as samples of its track; what stops the reading leaves what the
 -- samples
 -- before it brought.
-use Rattle.std.proofs.Common.{◌≡◌, ℕ, ◌+◌, ◌-◌, ◌^◌, ◌≤◌, ◌<◌, ℤ, List, [], ◌∷◌, ◌++◌, Option, Some, None, length, take}
-use Rattle.std.proofs.Common.{inl, refl, sym, ◌∙◌, ap, subst, append_assoc, append-nil, arith}
+use Rattle.std.proofs.Common.{◌≡◌, ℕ, ◌+◌, ◌-◌, ◌^◌, ◌≤◌, ◌<◌, ℤ, List, [], ◌∷◌, ◌++◌, Option, Some, None, length}
+use Rattle.std.proofs.Common.{inl, refl, sym, ◌∙◌, ap, subst, append-nil, arith}
 use Rattle.std.specs.Option.{option_map}
 use Rattle.std.proofs.lemmas.List.{length-append}
 use Rattle.tc_command.specs.declared.input_fault.InputFault.TheVariants.{Sound}

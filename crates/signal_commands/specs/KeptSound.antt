@@ -4,7 +4,6 @@ use Rattle.interval_file.specs.Grammar.{file_of}
 use Rattle.path_front.specs.Front.{AreIntervalsSoFar, FrontState, FrontStandsFor, IsAllGiven, IsGivenSoFar}
 use Rattle.path_front.specs.Front.{IsReady}
 use Rattle.signal_commands.specs.declared.path_sound.PathSound.{PathSound}
-use Rattle.tc_job.specs.PathSlicing.{SlicesPath}
 use Rattle.signal_commands.specs.PcmPath.{path_header}
 
 -- how many samples it was given

@@ -1,5 +1,5 @@
 -- What the engine of `wav-ltc` keeps. No promise speaks of it.
-use Rattle.std.specs.Prelude.{◌≡◌, ℕ, ◌≤◌, ℤ, List, [], ◌++◌, Option, Some, None}
+use Rattle.std.specs.Prelude.{◌≡◌, ℕ, ◌≤◌, ℤ, List, ◌++◌, Option, Some, None}
 use Rattle.std.proofs.Common.{◌∙◌, sym, ap, ap₂}
 use Rattle.pcm_front.specs.declared.pace.Pace.{Pace}
 use Rattle.pcm_front.specs.declared.pace.Pace.TheVariants.{Ended}

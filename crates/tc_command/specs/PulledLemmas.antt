@@ -1,7 +1,7 @@
 -- What is left of an input behind what was pulled of it, and what follows from a stop. No promise speaks of it.
 use Rattle.std.proofs.Common.{◌≡◌, ℕ, ◌<◌, List, [], ◌++◌, length, take, append-nil, subst}
 use Rattle.std.proofs.Common.{refl, inr, sym, ◌∙◌, ap}
-use Rattle.std.specs.Prelude.{OnOk, OnErr, IfErr, Ok, Err, Some, None}
+use Rattle.std.specs.Prelude.{OnErr, IfErr, Ok, Err, Some, None}
 use Rattle.std.specs.declared.result.Result.{Result}
 use Rattle.std.specs.declared.option.Option.{Option}
 use Rattle.std.specs.Io.KnownBytes.{Consumes, IsAtEnd, Keeps}

@@ -1,4 +1,4 @@
-use Rattle.std.proofs.Common.{◌≡◌, ◌+◌, replicate, subst, sym, arith}
+use Rattle.std.proofs.Common.{◌≡◌, replicate, subst, sym, arith}
 use Rattle.interval_file.specs.declared.header.FileVersion.TheVariants.{One}
 use Rattle.interval_file.specs.Grammar.{intervals_bytes}
 use Rattle.interval_file.specs.Piece.{spelling}

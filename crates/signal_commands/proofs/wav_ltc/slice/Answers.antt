@@ -1,4 +1,4 @@
-use Rattle.std.proofs.Common.{◌+◌, ◌++◌, ◌≤◌, ℤ, List, [], take, ◌∙◌, ap, refl, subst, sym, append-nil, arith}
+use Rattle.std.proofs.Common.{◌++◌, ◌≤◌, ℤ, List, [], take, ◌∙◌, ap, refl, subst, sym, append-nil, arith}
 use Rattle.std.specs.Prelude.{IfSome}
 use Rattle.std.proofs.lemmas.List.{take_all}
 use Rattle.pcm_front.specs.Distance.{IsInterval}

@@ -1,4 +1,4 @@
-use Rattle.std.proofs.Common.{[], ◌∷◌, ◌++◌, ◌<◌, ◌∙◌, ◌≡◌, ap, sym, subst, append_assoc, ℕ, List, true, arith}
+use Rattle.std.proofs.Common.{[], ◌∷◌, ◌++◌, ◌<◌, ◌∙◌, ◌≡◌, ap, sym, subst, true, arith}
 use Rattle.frame_commands.specs.KeptSteps.{HasFollowed, Stepping}
 use Rattle.frame_commands.specs.declared.ltc_chase.TheConstants.{MAX_FRAMES}
 use Rattle.frame_commands.proofs.StepsGrow.{TraceLaws, line_added, no_line_added}

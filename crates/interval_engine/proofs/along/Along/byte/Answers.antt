@@ -1,4 +1,4 @@
-use Rattle.std.proofs.Common.{◌++◌, ◌∷◌, [], Some, arith, refl}
+use Rattle.std.proofs.Common.{◌∷◌, [], Some, arith, refl}
 use Rattle.interval_file.specs.Recording.{recording_of}
 use Rattle.interval_file.specs.IntervalFile.{after}
 use Rattle.interval_engine.proofs.AnItemMore.{nothing_more, a_header, an_interval, a_fault, a_limit, by_byte}

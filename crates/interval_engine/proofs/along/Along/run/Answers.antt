@@ -1,4 +1,4 @@
-use Rattle.std.proofs.Common.{refl, rules, ◌≡◌, ◌+◌, ◌-◌, ◌++◌, ◌≤◌, ◌<◌, [], take, drop, length, arith, subst, List, ℕ, ◌∙◌}
+use Rattle.std.proofs.Common.{refl, rules, ◌≡◌, ◌+◌, ◌-◌, ◌++◌, ◌≤◌, ◌<◌, [], take, drop, length, arith, subst, List, ℕ}
 use Rattle.std.proofs.Common.{Some, ap}
 use Rattle.limits.specs.declared.recording.TheConstants.{MAX_INTERVALS}
 use Rattle.interval_file.specs.Progress.{Progress}

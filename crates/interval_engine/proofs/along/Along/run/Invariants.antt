@@ -1,4 +1,4 @@
-use Rattle.std.proofs.Common.{◌≡◌, ◌+◌, ◌-◌, ◌≤◌, ◌<◌, take, length, [], true, false}
+use Rattle.std.proofs.Common.{◌+◌, ◌-◌, ◌≤◌, take, length}
 use Rattle.std.specs.Prelude.{Some}
 use Rattle.limits.specs.declared.recording.TheConstants.{MAX_INTERVALS}
 use Rattle.interval_file.specs.Piece.{MayBeWhole}

@@ -1,9 +1,7 @@
-use Rattle.std.proofs.Common.{◌≡◌, ◌<◌, [], ℕ, List, length, refl, ap, append-nil, sym, subst, ◌∙◌, arith}
+use Rattle.std.proofs.Common.{◌≡◌, ◌<◌, [], ℕ, List, length, refl, append-nil, sym, subst, ◌∙◌, arith}
 use Rattle.std.proofs.lemmas.List.Elements.{All-nil}
 use Rattle.luma_field.specs.Raster.{size_of, RasterSize}
 use Rattle.line_file.specs.LineHeader.{header_bytes}
-use Rattle.tc_address.specs.declared.system.System.{System}
-use Rattle.signal_commands.specs.declared.luma_lines.TheConstants.{LINE_LENGTH}
 use Rattle.signal_commands.specs.LumaVitc.{luma_header}
 use Rattle.signal_commands.proofs.luma_vitc.ReadPixels.new.Goals as goal
 

@@ -1,4 +1,4 @@
-use Rattle.std.proofs.Common.{◌+◌, ◌++◌, [], ℕ, List, take, ap, append-nil, refl, sym, subst}
+use Rattle.std.proofs.Common.{◌+◌, ◌++◌, [], ℕ, List, take, append-nil, refl, sym, subst}
 use Rattle.std.proofs.Common.{◌∙◌}
 use Rattle.std.proofs.Common.{arith, length-take}
 use Rattle.line_file.specs.Grammar.{field_bytes}

@@ -4,9 +4,6 @@ use Rattle.std.proofs.lemmas.List.{take_all}
 use Rattle.std.specs.declared.option.Option.{Option}
 use Rattle.std.specs.Option.{option_to_list}
 use Rattle.signal_commands.specs.KeptSlices.{Slices}
-use Rattle.signal_commands.specs.PcmLtc.{along_samples}
-use Rattle.tc_command.specs.declared.halt.Halt.TheVariants.{Limit}
-use Rattle.tc_command.specs.Halt.{IsHalt}
 use Rattle.lemmas.specs.Results.{through}
 use Rattle.lemmas.specs.Lists.{first_only}
 use Rattle.signal_commands.proofs.Outcomes.{err_to, ok_to}

@@ -1,4 +1,4 @@
-use Rattle.std.proofs.Common.{inl, ◌∙◌, [], take, drop, ap, sym, refl, append-nil}
+use Rattle.std.proofs.Common.{inl, ◌∙◌, [], take, ap, refl, append-nil}
 use Rattle.line_file.specs.Texts.{field_line}
 use Rattle.signal_commands.specs.declared.vitc_read.FieldReport.{FieldReport}
 use Rattle.signal_commands.proofs.FieldsGrow.{fits_more, less_to_come, none_more, printed}

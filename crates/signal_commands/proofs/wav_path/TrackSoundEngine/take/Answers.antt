@@ -1,6 +1,6 @@
-use Rattle.std.proofs.Common.{[], ◌++◌, List, ℕ, take, refl, subst, sym, ◌∙◌, ap, append-nil, arith}
+use Rattle.std.proofs.Common.{[], ◌++◌, List, ℕ, take, refl, subst, append-nil, arith}
 use Rattle.tc_command.specs.Halt.{IsHalt}
-use Rattle.tc_command.specs.KeptBrings.{Brings, brings_more}
+use Rattle.tc_command.specs.KeptBrings.{brings_more}
 use Rattle.signal_commands.specs.KeptTrackPath.{Stands}
 use Rattle.signal_commands.specs.WavPath.{along_track_path}
 use Rattle.signal_commands.proofs.TrackPathOn.{falls, going_on}
