@@ -1,3 +1,4 @@
+pub mod FromTheLeft
 pub mod InSlots
 pub mod JobsInRange
 pub mod Numbers

@@ -1,6 +1,6 @@
 -- The words behind a command as values, by the slots of a form.
-use Rattle.std.specs.Prelude.{◌≡◌, ℕ, ◌+◌, true, nat_eq, List, [], ◌∷◌, ◌++◌, length}
-use Rattle.std.specs.Prelude.{Some, None, Result, Ok, Err}
+use Rattle.std.specs.Prelude.{◌≡◌, ℕ, ◌+◌, ◌<◌, true, nat_eq, List, [], ◌∷◌, ◌++◌, length}
+use Rattle.std.specs.Prelude.{take, slice_get, option_and_then, Option, Some, None, Result, Ok, Err}
 use Rattle.forms.specs.Form.{SlotRow, takes}
 use Rattle.forms.specs.Number.{Word}
 use Rattle.forms.specs.Slot.{FitsIn, value_in}
@@ -24,6 +24,19 @@ read_on before (slot ∷ slots) (word ∷ words) =
 
 abbrev pub read : List SlotRow → List Word → Result (List Value) ℕ
 read slots words = read_on [] slots words
+
+-- ---- what reading is: a law says that it is so
+
+-- what the word at a place is in the slot there, after the values before it
+abbrev pub value_at : List SlotRow → List Word → List Value → ℕ → Option Value
+value_at slots words before k =
+    option_and_then (λ slot. option_and_then (value_in slot.0 slot.1 before (nat_eq (k + 1) (length words)))
+    (slice_get words k)) (slice_get slots k)
+
+-- each of the values is what its word is, after the values before it
+abbrev pub AreValues : List SlotRow → List Word → List Value → Type 0
+AreValues slots words values =
+    (k : ℕ) → k < length values → value_at slots words (take k values) k ≡ slice_get values k
 
 -- ---- what is known of values that were read
 

@@ -1,6 +1,10 @@
-//! What lines of words name, and the ends of the ranges that the table holds.
-ghost use Rattle.std.specs.Prelude.{◌≡◌};
+//! What reading is, what lines of words name, and the ends of the ranges that the table holds.
+ghost use Rattle.std.specs.Prelude.{◌≡◌, ◌+◌, ℕ, List, length, None, Ok, Err};
+ghost use Rattle.forms.specs.Form.{SlotRow};
 ghost use Rattle.forms.specs.Lines.{AreNamed, AreRefused, AreTaken, named_lines, refused_lines, taken_lines};
+ghost use Rattle.forms.specs.Number.{Word};
+ghost use Rattle.forms.specs.Reading.{AreValues, read, value_at};
+ghost use Rattle.forms.specs.declared.value.Value.{Value};
 ghost use Rattle.forms.specs.declared.reading.TheConstants.{MAX_VALUES};
 
 /// Each command and each word of a choice names its job, each range ends where the lines say, and each fault is the
@@ -9,6 +13,16 @@ pub fn each_line_is_read_so()
     ensures named { AreNamed named_lines }
     ensures taken { AreTaken taken_lines }
     ensures refused { AreRefused refused_lines }
+{}
+
+/// Words are read from the left: each value is what its word is in its slot after the values before it, and the fault is
+/// the first word that has none.
+pub fn words_are_read_from_the_left()
+    ensures values { (slots : List SlotRow) (words : List Word) (values : List Value) → read slots words ≡ Ok values
+        → (length values ≡ length words) × AreValues slots words values }
+    ensures fault { (slots : List SlotRow) (words : List Word) (place : ℕ) → read slots words ≡ Err place
+        → (values : List Value) × (length values + 1 ≡ place) × AreValues slots words values
+        × (value_at slots words values (length values) ≡ None) }
 {}
 
 /// The longest form, that of `ltc-make`, has eight words behind its command.
