@@ -27,10 +27,21 @@ const TEXTS: [(Count, &[u8], TextFault); 8] = [
     ),
 ];
 
+/// Whether two faults of these rows are the same.
+fn is_same(found: TextFault, fault: TextFault) -> bool {
+    match (found, fault) {
+        (TextFault::Length, TextFault::Length) => true,
+        (TextFault::Byte(place), TextFault::Byte(wanted)) => place == wanted,
+        (TextFault::Label(LabelFault::Hours), TextFault::Label(LabelFault::Hours)) => true,
+        (TextFault::Label(LabelFault::Dropped), TextFault::Label(LabelFault::Dropped)) => true,
+        _ => false,
+    }
+}
+
 #[test]
 fn the_first_fault_of_a_text(rt: HostRuntime) {
     for (count, spelled, fault) in TEXTS {
-        assert!(rt; read_text(spelled, count) == Err(fault));
+        assert!(rt; matches!(read_text(spelled, count), Err(found) if is_same(found, fault)));
     }
 }
 
@@ -68,7 +79,8 @@ const NO_SYNC: [(u128, u32); 4] = [
 #[test]
 fn the_first_wrong_bit_of_a_sync_word(rt: HostRuntime) {
     for (bits, bit) in NO_SYNC {
-        assert!(rt; decode(System::F25, bits % (1 << 80)) == Err(WordFault::Sync(bit)));
+        let word = decode(System::F25, bits % (1 << 80));
+        assert!(rt; matches!(word, Err(WordFault::Sync(wrong)) if wrong == bit));
     }
 }
 
