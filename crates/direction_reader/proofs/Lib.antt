@@ -4,6 +4,7 @@ pub mod BitsShift
 pub mod CellsEnd
 pub mod CellsGrow
 pub mod ChainIsAStretch
+pub mod EachReading
 pub mod EventsExist
 pub mod EventsJoin
 pub mod Examples

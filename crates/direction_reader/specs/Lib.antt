@@ -19,6 +19,7 @@ pub mod Gathered
 pub mod Hissy
 pub mod HoldsBits
 pub mod Invariants
+pub mod KeptReading
 pub mod KeptStep
 pub mod LatestBits
 pub mod LatestCells
@@ -26,6 +27,7 @@ pub mod ListEvents
 pub mod Played
 pub mod Mirror
 pub mod Reader
+pub mod Reading
 pub mod StandsFor
 pub mod Tape
 pub mod Tracker
