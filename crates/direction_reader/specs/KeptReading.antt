@@ -1,4 +1,4 @@
--- The three readers in numbers, and what an interval brings to each. No promise speaks of it.
+-- The three readers in numbers, and what an interval brings to each.
 use Rattle.std.specs.Prelude.{◌≡◌, ℕ, ◌≤◌, List, map, Option, None}
 use Rattle.std.specs.Option.{option_map}
 use Rattle.direction_reader.specs.declared.brought.Brought.{Brought}

@@ -1,6 +1,6 @@
 -- One reading of a recording, whatever its words are asked for: what is told of a list of intervals, and a reader in
 -- numbers.
-use Rattle.std.specs.Prelude.{◌≡◌, ℕ, ◌+◌, ◌*◌, ◌≤◌, List, [], map, length, sum}
+use Rattle.std.specs.Prelude.{◌≡◌, ℕ, ◌+◌, ◌*◌, ◌≤◌, List, [], ◌++◌, map, length, sum}
 use Rattle.limits.specs.declared.recording.TheConstants.{MAX_INTERVAL}
 use Rattle.biphase.specs.declared.profile.Profile.{Profile}
 use Rattle.direction_reader.specs.declared.event.Event.{Event}
@@ -34,6 +34,12 @@ AreToldAsked NotAsked system profile intervals told until =
 AreToldAsked Asked system profile intervals told until = AreTold system profile intervals told until
 AreToldAsked Consecutive system profile intervals told until = AreConsecutiveTold system profile intervals told until
 
+-- how many events are told at once, at most
+abbrev pub most_told : Witness → ℕ
+most_told NotAsked = 2
+most_told Asked = 3
+most_told Consecutive = 4
+
 -- a reader: its system and tolerance, how many intervals it was given and their sum, up to which tick all is told, and
 -- which intervals it was given, with what it has told of them
 pub record ReadingState : Type 1 where
@@ -43,6 +49,11 @@ pub record ReadingState : Type 1 where
   pub tick : ℕ
   pub until : ℕ
   pub stands : List ℕ → List FirmEvent → Type 0
+
+-- from one state to a later one: it was given these intervals more, and told these events more
+abbrev pub ReadsMore : ReadingState → ReadingState → List ℕ → List FirmEvent → Type 0
+ReadsMore old new intervals own = (front : List ℕ) (told : List FirmEvent) → old.stands front told
+    → new.stands (front ++ intervals) (told ++ own)
 
 -- before the first interval
 pub record BeginsReading (r : ReadingState) (system : System) (profile : Profile) : Type 0 where
@@ -65,7 +76,7 @@ pub record ReadsOn (before : ReadingState) (x : ℕ) (now : ReadingState) : Type
 
 -- what it has told is what is told of its list
 pub record TellsItsList (witness : Witness) (r : ReadingState) (intervals : List ℕ) (told : List FirmEvent) : Type 0
-    where
-  pub count : r.count ≡ length intervals
-  pub sum_is : r.tick ≡ sum intervals
-  pub are_told : AreToldAsked witness r.system r.profile intervals told r.until
+  where
+    pub count : r.count ≡ length intervals
+    pub sum_is : r.tick ≡ sum intervals
+    pub are_told : AreToldAsked witness r.system r.profile intervals told r.until

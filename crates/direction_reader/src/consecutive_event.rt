@@ -25,10 +25,7 @@ impl ConsecutiveEvents {
     pub(crate) fn none_held(events: FirmEvents) -> ConsecutiveEvents
         ensures { result ≡ none_held events }
     {
-        ConsecutiveEvents {
-            held: None,
-            events,
-        }
+        ConsecutiveEvents { held: None, events }
     }
 
     /// Events of a reader that asks for no witness.

@@ -1,11 +1,12 @@
 //! One reading of a recording, whatever its words are asked for. Read next: `reading_laws`.
-ghost use Rattle.std.specs.Prelude.{◌≡◌, ℕ, ◌<◌, ◌≤◌, ◌*◌, List, [], ◌∷◌, ◌++◌, IsTrue, map};
+ghost use Rattle.std.specs.Prelude.{◌≡◌, ℕ, ◌<◌, ◌≤◌, ◌*◌, List, [], ◌∷◌, ◌++◌, IsTrue, length, map};
 ghost use Rattle.limits.specs.declared.recording.TheConstants.{MAX_INTERVAL, MAX_INTERVALS};
 ghost use Rattle.direction_reader.specs.declared.firm_event.FirmEvent.{FirmEvent};
 ghost use Rattle.direction_reader.specs.declared.witness.Witness.{Witness};
 ghost use Rattle.direction_reader.specs.ConsecutiveStep.{consecutive_list, ConsecutiveBrings};
 ghost use Rattle.direction_reader.specs.Firm.{told_tick, DoNotFall};
-ghost use Rattle.direction_reader.specs.Reading.{AreEventsAsked, BeginsReading, ReadingState, ReadsOn, TellsItsList};
+ghost use Rattle.direction_reader.specs.Reading.{most_told, AreEventsAsked, BeginsReading, ReadingState, ReadsOn};
+ghost use Rattle.direction_reader.specs.Reading.{TellsItsList};
 
 use crate::brought::Brought;
 use crate::consecutive::ConsecutiveReader;
@@ -65,6 +66,7 @@ pub trait Reading: Drop {
     fn told(&self, brought: Self::Brought) -> ConsecutiveEvents
         requires { (from : ℕ) × may self.now brought from }
         ensures told { tells self.now brought (consecutive_list result) }
+        ensures few { length (consecutive_list result) ≤ most_told witness }
         ensures brings { ConsecutiveBrings (ReadingState.count (reading self.now))
             (ReadingState.tick (reading self.now)) result }
         ensures in_turn { (from : ℕ) → may self.now brought from
@@ -72,6 +74,7 @@ pub trait Reading: Drop {
 
     /// The events that come if the recording ends here.
     fn last(&self) -> ConsecutiveEvents
+        ensures few { length (consecutive_list result) ≤ most_told witness }
         ensures brings { ConsecutiveBrings (ReadingState.count (reading self.now))
             (ReadingState.tick (reading self.now)) result }
         ensures in_turn { DoNotFall (ReadingState.until (reading self.now)) (map told_tick (consecutive_list result))

@@ -1,2 +1,2 @@
-mod StepsGoOn
-mod ToldFirst
+mod OneOfThree
+mod ReadsOneMore

@@ -16,13 +16,15 @@
 //! - Where `read` tells nothing it has taken all intervals up to the first number that is none, unless it is
 //!   full (clause `some`), and where it tells events it has taken none behind the one that brought them (`latest`).
 //!
-//! Read `settings`, `reader` and `laws`, in this order, and `specs/Tape.antt` beside them. `tc_c` makes functions for C
+//! Read `settings`, `reader`, `reading_on` and `laws`, in this order, and `specs/Tape.antt` beside them. `tc_c` makes functions for C
 //! of it. Nothing here allocates or fails.
 #![tactic(auto)]
 
 pub mod laws;
 mod reader;
+mod reading_on;
 mod settings;
 
-pub use reader::{TapeReader, is_interval};
-pub use settings::{TapeSettings, Witness};
+pub use reader::TapeReader;
+pub use reading_on::is_interval;
+pub use settings::TapeSettings;

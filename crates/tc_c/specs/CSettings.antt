@@ -11,8 +11,8 @@ use Rattle.sound_reader.specs.declared.settings.SoundSettings.{SoundSettings}
 use Rattle.tc_address.specs.declared.system.System.{System}
 use Rattle.tc_address.specs.declared.system.System.TheVariants.{F24, F25, F30}
 use Rattle.tape_reader.specs.declared.settings.TapeSettings.{TapeSettings}
-use Rattle.tape_reader.specs.declared.settings.Witness.{Witness}
-use Rattle.tape_reader.specs.declared.settings.Witness.TheVariants.{NotAsked, Asked, Consecutive}
+use Rattle.direction_reader.specs.declared.witness.Witness.{Witness}
+use Rattle.direction_reader.specs.declared.witness.Witness.TheVariants.{NotAsked, Asked, Consecutive}
 use Rattle.tc_c.specs.declared.settings.TcSettings.{TcSettings}
 use Rattle.tc_c.specs.declared.tape_settings.TcTapeSettings.{TcTapeSettings}
 

@@ -14,8 +14,8 @@ use Rattle.sound_reader.specs.Sound as sound
 use Rattle.sound_reader.specs.Sound.{SoundState}
 use Rattle.tape_reader.specs.Tape as tape
 use Rattle.tape_reader.specs.declared.reader.TapeReader.{TapeReader}
-use Rattle.tape_reader.specs.declared.settings.Witness.{Witness}
-use Rattle.tape_reader.specs.declared.settings.Witness.TheVariants.{NotAsked, Asked, Consecutive}
+use Rattle.direction_reader.specs.declared.witness.Witness.{Witness}
+use Rattle.direction_reader.specs.declared.witness.Witness.TheVariants.{NotAsked, Asked, Consecutive}
 use Rattle.tc_c.specs.CEvent.{c_event, c_told}
 use Rattle.tc_c.specs.CFrame.{c_frame}
 use Rattle.tc_c.specs.CMtc.{c_mtc_event, HasTold}

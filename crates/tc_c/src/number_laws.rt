@@ -10,7 +10,7 @@ ghost use Rattle.ltc_word.specs.Spelling.{word_with};
 ghost use Rattle.mtc_reader.specs.declared.event.MtcEvent.TheVariants as midi;
 ghost use Rattle.pcm_front.specs.declared.pace.Pace.TheVariants.{Ended, Passing};
 ghost use Rattle.pcm_front.specs.declared.threshold.Threshold.TheVariants.{Fixed, Follow, Deep};
-ghost use Rattle.tape_reader.specs.declared.settings.Witness.TheVariants.{NotAsked, Asked, Consecutive};
+ghost use Rattle.direction_reader.specs.declared.witness.Witness.TheVariants.{NotAsked, Asked, Consecutive};
 ghost use Rattle.tc_address.specs.declared.count.Count.TheVariants.{C24, C25, C30, Drop30};
 ghost use Rattle.tc_address.specs.declared.direction.Direction.TheVariants.{Forward, Backward};
 ghost use Rattle.tc_address.specs.declared.label.LabelFault.TheVariants as label_faults;

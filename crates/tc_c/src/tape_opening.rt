@@ -7,7 +7,8 @@ ghost use Rattle.tc_c.specs.Opening.{HasTape, HasTapeRoom};
 use crate::tape_handle::TcTape;
 use crate::tape_kept::KeptTape;
 use biphase::Profile;
-use tape_reader::{TapeReader, TapeSettings, Witness};
+use direction_reader::Witness;
+use tape_reader::{TapeReader, TapeSettings};
 use tc_address::System;
 
 /// Makes a reader in room of the caller's, with settings that it has until `tc_tape_start_` gives others.

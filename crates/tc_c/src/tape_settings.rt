@@ -1,12 +1,13 @@
 //! How a tape is read, in numbers. Read next: `tape_kept`.
 ghost use Rattle.std.specs.Prelude.{◌≡◌, Bool, Some, IfSome};
 ghost use Rattle.tape_reader.specs.declared.settings.TapeSettings.{TapeSettings};
-ghost use Rattle.tape_reader.specs.declared.settings.Witness.{Witness};
+ghost use Rattle.direction_reader.specs.declared.witness.Witness.{Witness};
 ghost use Rattle.tc_c.specs.CEvent.{bit};
 ghost use Rattle.tc_c.specs.CSettings.{witness_number, MeansTape};
 
 use crate::settings::{profile_of, system_of};
-use tape_reader::{TapeSettings, Witness};
+use direction_reader::Witness;
+use tape_reader::TapeSettings;
 
 /// How a tape is read, in numbers. Others than these mean nothing.
 #[repr(C)]

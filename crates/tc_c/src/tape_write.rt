@@ -2,14 +2,15 @@
 ghost use Rattle.std.specs.Prelude.{◌≡◌, ◌+◌, ◌≤◌, ◌<◌, ◌++◌, length, take, drop, map, false};
 ghost use Rattle.direction_reader.specs.ConsecutiveStep.{consecutive_list};
 ghost use Rattle.direction_reader.specs.FirmStep.{firm_listed};
-ghost use Rattle.tape_reader.specs.Tape.{begins_with_none, is_full, most_told, settings_of};
+ghost use Rattle.direction_reader.specs.Reading.{most_told};
+ghost use Rattle.tape_reader.specs.Tape.{begins_with_none, is_full, settings_of};
 ghost use Rattle.tc_c.specs.CEvent.{c_told};
 ghost use Rattle.tc_c.specs.Write.{room_for, room_of, TapeGoes};
 
 use crate::event::TcEvent;
 use crate::told::c_told;
-use direction_reader::{ConsecutiveEvents, FirmEvent};
-use tape_reader::{TapeReader, Witness, is_interval};
+use direction_reader::{ConsecutiveEvents, FirmEvent, Witness};
+use tape_reader::{TapeReader, is_interval};
 
 /// What a call took and gave.
 #[repr(C)]
