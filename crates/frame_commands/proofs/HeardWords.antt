@@ -5,19 +5,16 @@ use Rattle.std.proofs.Common.{append-nil, Bool, false, true}
 use Rattle.std.specs.Prelude.{IfSome, Some, None, All}
 use Rattle.std.specs.declared.option.Option.{Option}
 use Rattle.std.proofs.lemmas.Grind.{flat_map-append}
-use Rattle.std.proofs.lemmas.List.Elements.{All-nil, All-cons, All-append, All-head, All-tail}
+use Rattle.std.proofs.lemmas.List.Elements.{All-nil, All-cons, All-append}
 use Rattle.direction_reader.specs.declared.consecutive_event.ConsecutiveEvents.{ConsecutiveEvents}
 use Rattle.direction_reader.specs.declared.event.Event.{Event}
 use Rattle.direction_reader.specs.declared.event.Event.TheVariants as events
-use Rattle.direction_reader.specs.declared.event.Events.{Events}
 use Rattle.direction_reader.specs.declared.firm_event.FirmEvent.{FirmEvent}
 use Rattle.direction_reader.specs.declared.firm_event.FirmEvent.TheVariants.{Told, Alone}
 use Rattle.direction_reader.specs.declared.firm_event.FirmEvents.{FirmEvents}
-use Rattle.direction_reader.specs.Brings.{Brings, IsLatest}
 use Rattle.direction_reader.specs.ConsecutiveStep.{consecutive_list, is_told_word, ConsecutiveBrings}
-use Rattle.direction_reader.specs.Events.{event_list, listed}
 use Rattle.direction_reader.specs.Firm.{told_tick, DoNotFall}
-use Rattle.direction_reader.specs.FirmReader.{FirmBrings, IsToldBy}
+use Rattle.direction_reader.specs.FirmReader.{IsToldBy}
 use Rattle.direction_reader.specs.FirmStep.{firm_list, firm_listed, IsNoWord}
 use Rattle.flywheel.specs.declared.heard.HeardWord.{HeardWord}
 use Rattle.flywheel.specs.Wheel.{IsInRange}
@@ -25,76 +22,7 @@ use Rattle.frame_commands.specs.Heard.{told_events}
 use Rattle.frame_commands.specs.Hearing.{word_ticks}
 use Rattle.frame_commands.specs.OfFrames.{heard_in, words_heard}
 
--- ---- of a reader of all words
-
--- a word was heard at the tick
-abbrev pub IsHeardAt : ℕ → HeardWord → Type 0
-IsHeardAt tick word = (word.tick ≡ tick) × IsInRange word
-
--- an event brings one word at most, which was heard at its tick
-one_word : (event : Option Event) → length (words_heard (listed event)) ≤ 1
-one_word None = omega arith
-one_word (Some (events.Word d w t l)) = omega arith
-one_word (Some (events.Refused d f t)) = omega arith
-one_word (Some (events.Lost i t)) = omega arith
-
-word_at : (n tick : ℕ) (event : Option Event) → tick < 2 ^ 60 → IfSome event (IsLatest n tick)
-    → All (IsHeardAt tick) (words_heard (listed event))
-word_at n tick None below latest = All-nil (IsHeardAt tick)
-word_at n tick (Some (events.Word d w t l)) below latest =
-    let same = latest.0 in
-    let least = latest.1 in
-    let most = latest.2 in
-    All-cons (IsHeardAt tick) (record { label = w.fields.label; direction = d; tick = t; length = l }) []
-    (same, record { tick = omega (arith, same, below); least = omega (arith, least); most = omega (arith, most) })
-    (All-nil (IsHeardAt tick))
-word_at n tick (Some (events.Refused d f t)) below latest = All-nil (IsHeardAt tick)
-word_at n tick (Some (events.Lost i t)) below latest = All-nil (IsHeardAt tick)
-
-words_of_both : (own : Events)
-    → words_heard (event_list own) ≡ words_heard (listed own.first) ++ words_heard (listed own.second)
-words_of_both own = flat_map-append heard_in (listed own.first) (listed own.second)
-
--- an interval brings two words at most
-pub two_words : (own : Events) → length (words_heard (event_list own)) ≤ 2
-two_words own =
-    let one = one_word own.first in
-    let two = one_word own.second in
-    rw (words_of_both own, length-append (words_heard (listed own.first)) (words_heard (listed own.second)))
-    (omega (arith, one, two))
-
--- all of them were heard at its tick
-pub words_at : (n tick : ℕ) (own : Events) → tick < 2 ^ 60 → Brings n tick own
-    → All (IsHeardAt tick) (words_heard (event_list own))
-words_at n tick own below brings = rw (words_of_both own)
-    (All-append (IsHeardAt tick) (words_heard (listed own.first)) (words_heard (listed own.second))
-    (word_at n tick own.first below brings.first) (word_at n tick own.second below brings.second))
-
-at_in_range : (tick : ℕ) (words : List HeardWord) → All (IsHeardAt tick) words → All IsInRange words
-at_in_range tick [] all = All-nil IsInRange
-at_in_range tick (word ∷ more) all =
-    All-cons IsInRange word more (All-head (IsHeardAt tick) word more all).1
-    (at_in_range tick more (All-tail (IsHeardAt tick) word more all))
-
-pub in_range : (n tick : ℕ) (own : Events) → tick < 2 ^ 60 → Brings n tick own
-    → All IsInRange (words_heard (event_list own))
-in_range n tick own below brings = at_in_range tick (words_heard (event_list own)) (words_at n tick own below brings)
-
-at_in_turn : (from tick : ℕ) (words : List HeardWord) → from ≤ tick → All (IsHeardAt tick) words
-    → DoNotFall from (word_ticks words) tick
-at_in_turn from tick [] before all = before
-at_in_turn from tick (word ∷ more) before all =
-    let same = (All-head (IsHeardAt tick) word more all).0 in (
-      omega (arith, same, before),
-      at_in_turn word.tick tick more (omega (arith, same)) (All-tail (IsHeardAt tick) word more all),
-    )
-
-pub in_turn : (n from tick : ℕ) (own : Events) → tick < 2 ^ 60 → from ≤ tick → Brings n tick own
-    → DoNotFall from (word_ticks (words_heard (event_list own))) tick
-in_turn n from tick own below before brings =
-    at_in_turn from tick (words_heard (event_list own)) before (words_at n tick own below brings)
-
--- ---- of a reader that needs witnesses
+-- ---- what is told
 
 -- what is given of one behind another
 pub told_events-append : (fs gs : List FirmEvent) → told_events (fs ++ gs) ≡ told_events fs ++ told_events gs
@@ -133,14 +61,6 @@ one_told (Some (Told (events.Refused d f t))) = omega arith
 one_told (Some (Told (events.Lost i t))) = omega arith
 one_told (Some (Alone d w t l)) = omega arith
 
-pub two_told : (told : FirmEvents) → IfSome told.third IsNoWord → length (words_told (firm_list told)) ≤ 2
-two_told told none =
-    let f = words_told (firm_listed told.first) in
-    let s = words_told (firm_listed told.second) in
-    let one = one_told told.first in
-    let two = one_told told.second in
-    rw (words_of_two told none, length-append f s) (omega (arith, one, two))
-
 told_range : (n sum : ℕ) (o : Option FirmEvent) → sum < 2 ^ 60 → IfSome o (IsToldBy n sum)
     → All IsInRange (words_told (firm_listed o))
 told_range n sum None below told = All-nil IsInRange
@@ -155,13 +75,7 @@ told_range n sum (Some (Told (events.Refused d f t))) below told = All-nil IsInR
 told_range n sum (Some (Told (events.Lost i t))) below told = All-nil IsInRange
 told_range n sum (Some (Alone d w t l)) below told = All-nil IsInRange
 
-pub told_in_range : (n sum : ℕ) (told : FirmEvents) → sum < 2 ^ 60 → FirmBrings n sum told
-    → All IsInRange (words_told (firm_list told))
-told_in_range n sum told below brings = rw (words_of_two told brings.no_word)
-    (All-append IsInRange (words_told (firm_listed told.first)) (words_told (firm_listed told.second))
-    (told_range n sum told.first below brings.first) (told_range n sum told.second below brings.second))
-
--- ---- of consecutive words
+-- ---- of a word that was held
 
 -- a word that is not told is none
 not_told : (e : FirmEvent) → is_told_word e ≡ false → words_told (e ∷ []) ≡ []
@@ -202,10 +116,10 @@ unheld_words told none same =
     words_of_held told none ∙ ap (λ (ws : List HeardWord). ws ++ (words_told (firm_listed told.events.first)
     ++ words_told (firm_listed told.events.second))) same
 
-pub two_told_consecutively : (told : ConsecutiveEvents)
+pub two_told : (told : ConsecutiveEvents)
     → IfSome told.held (λ event. is_told_word event ≡ true → told.events.first ≡ None)
     → IfSome told.events.third IsNoWord → length (words_told (consecutive_list told)) ≤ 2
-two_told_consecutively told one none =
+two_told told one none =
     let h = words_told (firm_listed told.held) in
     let f = words_told (firm_listed told.events.first) in
     let s = words_told (firm_listed told.events.second) in
@@ -216,9 +130,9 @@ two_told_consecutively told one none =
     let front = length-append h f in
     rw (words_of_held told none) (omega (arith, both, last, three, two, front))
 
-pub consecutive_in_range : (n sum : ℕ) (told : ConsecutiveEvents) → sum < 2 ^ 60 → ConsecutiveBrings n sum told
+pub told_in_range : (n sum : ℕ) (told : ConsecutiveEvents) → sum < 2 ^ 60 → ConsecutiveBrings n sum told
     → All IsInRange (words_told (consecutive_list told))
-consecutive_in_range n sum told below brings =
+told_in_range n sum told below brings =
     let f = words_told (firm_listed told.events.first) in
     let s = words_told (firm_listed told.events.second) in
     rw (words_of_held told brings.no_word) (All-append IsInRange (words_told (firm_listed told.held)) (f ++ s)

@@ -7,6 +7,7 @@ mod FramesFirst
 mod FramesInOrder
 mod HeardInTurn
 mod HeardLabels
+mod HeardOfTold
 mod HeardWords
 mod LinesOfFrames
 mod MadeInOrder

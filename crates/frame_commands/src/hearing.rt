@@ -1,6 +1,5 @@
-//! What hears the words of a recording: a reader of all words, one that needs a witness for each, or one of
-//! consecutive words. Read next: `direction_reader/src/reader.rt`, `direction_reader/src/firm_reader.rt` and
-//! `direction_reader/src/consecutive.rt`.
+//! What hears the words of a recording: a reading of them, whatever they are asked for. Read next:
+//! `direction_reader/src/reading.rt`.
 ghost use Rattle.std.specs.Prelude.{◌≡◌, ℕ, ◌^◌, ◌<◌, ◌≤◌, ◌+◌, List, [], ◌∷◌, ◌++◌, All, IsTrue, length};
 ghost use Rattle.limits.specs.declared.recording.TheConstants.{MAX_INTERVAL, MAX_INTERVALS};
 ghost use Rattle.biphase.specs.declared.profile.Profile.{Profile};
@@ -15,12 +14,7 @@ ghost use Rattle.frame_commands.specs.OfFrames.{words_heard};
 
 use crate::words::Words;
 use biphase::Profile;
-use direction_reader::consecutive_laws::a_reader_has_told_what_its_list_tells;
-use direction_reader::firm_laws::a_reader_has_told_what_no_further_interval_changes;
-use direction_reader::laws::a_reader_gives_the_events_of_its_list;
-use direction_reader::{
-    Brought, ConsecutiveEvents, ConsecutiveReader, DirectionReader, FirmEvents, FirmReader,
-};
+use direction_reader::Reading;
 use limits::MAX_INTERVAL;
 use tc_address::System;
 
@@ -135,206 +129,72 @@ pub(crate) fn step_aside<R: Hearing>(reader: &mut R, x: u32) -> R::Brought
     reader.step(x)
 }
 
-impl Hearing for DirectionReader {
-    ghost use Rattle.std.specs.Prelude.{◌≡◌, ◌≤◌};
-    ghost use Rattle.direction_reader.specs.declared.brought.Brought.TheVariants.{Nothing};
-    ghost use Rattle.tc_job.specs.declared.witness.Witness.TheVariants.{NotAsked};
-    ghost use Rattle.frame_commands.specs.KeptHearing.{hearer_of_all, tells_all, MayTellFrom};
+/// Each reading is heard: of what it tells, the words that are not alone.
+impl<R: Reading> Hearing for R {
+    ghost use Rattle.std.specs.Prelude.{◌≡◌, List};
+    ghost use Rattle.direction_reader.specs.declared.firm_event.FirmEvent.{FirmEvent};
+    ghost use Rattle.frame_commands.specs.Heard.{told_events};
+    ghost use Rattle.frame_commands.specs.KeptHearing.{asked_as, hearer_of};
 
-    type Brought = Brought;
+    type Brought = R::Brought;
 
-    ghost witness = { NotAsked };
+    ghost witness = { asked_as R.witness };
 
-    ghost hearer = { λ r. hearer_of_all r };
+    ghost hearer = { λ r. hearer_of (R.reading r) };
 
-    ghost tells = { λ r brought own. tells_all r brought own };
+    ghost tells = { λ r brought own.
+        (told : List FirmEvent) × R.tells r brought told × (own ≡ told_events told) };
 
-    ghost nothing = { λ brought. brought ≡ Nothing };
+    ghost nothing = { λ brought. R.nothing brought };
 
-    ghost may = { λ r brought from. MayTellFrom r brought from };
+    ghost may = { λ r brought from. R.may r brought from };
 
-    fn start(system: System, profile: Profile) -> DirectionReader {
-        DirectionReader::new(system, profile)
+    fn start(system: System, profile: Profile) -> R {
+        <R as Reading>::start(system, profile)
     }
 
     #[inline(always)]
-    fn step(&mut self, x: u32) -> Brought {
-        self.step(x)
+    fn step(&mut self, x: u32) -> R::Brought {
+        Reading::step(self, x)
     }
 
     #[inline(always)]
-    fn is_nothing(brought: &Brought) -> bool {
-        match brought {
-            Brought::Nothing => true,
-            Brought::Candidate | Brought::Break => false,
-        }
+    fn is_nothing(brought: &R::Brought) -> bool {
+        <R as Reading>::is_nothing(brought)
     }
 
     #[cold]
     #[inline(never)]
-    fn words(&self, brought: Brought, words: &mut Words) {
-        *words = Words::of(self.events(brought));
+    fn words(&self, brought: R::Brought, words: &mut Words) {
+        let _below = Reading::ticks(self);
+        *words = Words::told(Reading::told(self, brought));
     }
 
     fn last_words(&self) -> Words {
-        a_reader_gives_the_events_of_its_list();
-        Words::new()
+        Words::told(Reading::last(self))
     }
 
     #[inline(always)]
     fn until(&self) -> u64 {
-        self.tick()
+        let _below = Reading::ticks(self);
+        Reading::until(self)
     }
 
     #[inline(always)]
     fn tick_after(&self, x: u32) -> u64 {
-        self.tick() + u64::from(x)
+        let _within = Reading::until(self);
+        Reading::ticks(self) + u64::from(x)
     }
 
     fn intervals(&self) -> u64 {
-        self.intervals()
+        Reading::intervals(self)
     }
 
     fn ticks(&self) -> u64 {
-        self.tick()
+        Reading::ticks(self)
     }
 
     fn what_is_told_is_heard() {
-        a_reader_gives_the_events_of_its_list();
-    }
-}
-
-impl Hearing for FirmReader {
-    ghost use Rattle.std.specs.Prelude.{◌≡◌, ◌≤◌, []};
-    ghost use Rattle.direction_reader.specs.FirmStep.{firm_list};
-    ghost use Rattle.tc_job.specs.declared.witness.Witness.TheVariants.{Asked};
-    ghost use Rattle.frame_commands.specs.KeptHearing.{hearer_of_firm, tells_firm, MayTellFirmFrom};
-
-    type Brought = FirmEvents;
-
-    ghost witness = { Asked };
-
-    ghost hearer = { λ r. hearer_of_firm r };
-
-    ghost tells = { λ r brought own. tells_firm brought own };
-
-    ghost nothing = { λ told. firm_list told ≡ [] };
-
-    ghost may = { λ r brought from. MayTellFirmFrom r brought from };
-
-    fn start(system: System, profile: Profile) -> FirmReader {
-        FirmReader::new(system, profile)
-    }
-
-    fn step(&mut self, x: u32) -> FirmEvents {
-        let told = self.feed(x);
-        let _within = self.told_until();
-        told
-    }
-
-    fn is_nothing(brought: &FirmEvents) -> bool {
-        match (brought.first, brought.second, brought.third) {
-            (None, None, None) => true,
-            _ => false,
-        }
-    }
-
-    #[cold]
-    #[inline(never)]
-    fn words(&self, brought: FirmEvents, words: &mut Words) {
-        *words = Words::told(brought);
-    }
-
-    fn last_words(&self) -> Words {
-        Words::told(self.finish())
-    }
-
-    fn until(&self) -> u64 {
-        self.told_until()
-    }
-
-    fn tick_after(&self, x: u32) -> u64 {
-        let _within = self.told_until();
-        self.tick() + u64::from(x)
-    }
-
-    fn intervals(&self) -> u64 {
-        self.intervals()
-    }
-
-    fn ticks(&self) -> u64 {
-        self.tick()
-    }
-
-    fn what_is_told_is_heard() {
-        a_reader_has_told_what_no_further_interval_changes();
-    }
-}
-
-impl Hearing for ConsecutiveReader {
-    ghost use Rattle.std.specs.Prelude.{◌≡◌, ◌≤◌, []};
-    ghost use Rattle.direction_reader.specs.ConsecutiveStep.{consecutive_list};
-    ghost use Rattle.tc_job.specs.declared.witness.Witness.TheVariants.{Consecutive};
-    ghost use Rattle.frame_commands.specs.KeptHearing.{hearer_of_consecutive, tells_consecutive, MayTellConsecutiveFrom};
-
-    type Brought = ConsecutiveEvents;
-
-    ghost witness = { Consecutive };
-
-    ghost hearer = { λ r. hearer_of_consecutive r };
-
-    ghost tells = { λ r brought own. tells_consecutive brought own };
-
-    ghost nothing = { λ told. consecutive_list told ≡ [] };
-
-    ghost may = { λ r brought from. MayTellConsecutiveFrom r brought from };
-
-    fn start(system: System, profile: Profile) -> ConsecutiveReader {
-        ConsecutiveReader::new(system, profile)
-    }
-
-    fn step(&mut self, x: u32) -> ConsecutiveEvents {
-        let told = self.feed(x);
-        let _within = self.told_until();
-        told
-    }
-
-    fn is_nothing(brought: &ConsecutiveEvents) -> bool {
-        let events = &brought.events;
-        match (brought.held, events.first, events.second, events.third) {
-            (None, None, None, None) => true,
-            _ => false,
-        }
-    }
-
-    #[cold]
-    #[inline(never)]
-    fn words(&self, brought: ConsecutiveEvents, words: &mut Words) {
-        *words = Words::told_consecutively(brought);
-    }
-
-    fn last_words(&self) -> Words {
-        Words::told_consecutively(self.finish())
-    }
-
-    fn until(&self) -> u64 {
-        self.told_until()
-    }
-
-    fn tick_after(&self, x: u32) -> u64 {
-        let _within = self.told_until();
-        self.tick() + u64::from(x)
-    }
-
-    fn intervals(&self) -> u64 {
-        self.intervals()
-    }
-
-    fn ticks(&self) -> u64 {
-        self.tick()
-    }
-
-    fn what_is_told_is_heard() {
-        a_reader_has_told_what_its_list_tells();
+        <R as Reading>::what_it_has_told();
     }
 }

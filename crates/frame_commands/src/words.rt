@@ -2,13 +2,13 @@
 ghost use Rattle.std.specs.Prelude.{◌≡◌, [], ◌++◌, true, IfSome, None};
 ghost use Rattle.std.specs.Option.{option_to_list};
 ghost use Rattle.direction_reader.specs.ConsecutiveStep.{consecutive_list, is_told_word};
-ghost use Rattle.direction_reader.specs.Events.{event_list, listed};
-ghost use Rattle.direction_reader.specs.FirmStep.{firm_list, firm_listed, IsNoWord};
+ghost use Rattle.direction_reader.specs.Events.{listed};
+ghost use Rattle.direction_reader.specs.FirmStep.{firm_listed, IsNoWord};
 ghost use Rattle.frame_commands.specs.Heard.{told_events};
 ghost use Rattle.frame_commands.specs.Hearing.{due_at};
 ghost use Rattle.frame_commands.specs.OfFrames.{words_heard};
 
-use direction_reader::{ConsecutiveEvents, Event, Events, FirmEvent, FirmEvents};
+use direction_reader::{ConsecutiveEvents, Event, FirmEvent};
 use flywheel::HeardWord;
 use std::marker::Model;
 
@@ -40,30 +40,9 @@ impl Words {
         }
     }
 
-    /// The words of the events of an interval.
-    pub(crate) fn of(events: Events) -> Words
-        ensures { result ≡ words_heard (event_list events) }
-    {
-        Words {
-            first: heard_in(events.first),
-            second: heard_in(events.second),
-        }
-    }
-
-    /// The words among the events, when each word needs a witness. The third event is no word.
-    pub(crate) fn told(told: FirmEvents) -> Words
-        requires { IfSome told.third IsNoWord }
-        ensures { result ≡ words_heard (told_events (firm_list told)) }
-    {
-        Words {
-            first: told_in(told.first),
-            second: told_in(told.second),
-        }
-    }
-
-    /// The words among the events of consecutive words: if a word that was held is told, none comes first
-    /// behind it.
-    pub(crate) fn told_consecutively(told: ConsecutiveEvents) -> Words
+    /// The words among the events that were told: if a word that was held is told, none comes first behind it, and
+    /// what comes last is no word.
+    pub(crate) fn told(told: ConsecutiveEvents) -> Words
         requires one { IfSome told.held (λ event. is_told_word event ≡ true → told.events.first ≡ None) }
         requires third { IfSome told.events.third IsNoWord }
         ensures { result ≡ words_heard (told_events (consecutive_list told)) }
