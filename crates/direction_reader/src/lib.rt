@@ -30,6 +30,9 @@
 //!   `AreConsecutiveTold`), and `finish` gives what is held (clause `all`). At most one word is held, and at
 //!   most two words are told with an interval. `consecutive_laws` says what the next word changes and what
 //!   not.
+//! - `Reading` is what the three readers have in common (`specs/Reading.antt`): whatever words are asked for, each
+//!   tells the events of its intervals, in turn, and up to which tick all is told. A list has one reading, and
+//!   what is told comes first (`reading_laws`). The commands and the library read by this trait alone.
 //! - A window holds the latest of the bits that it was given (`specs/HoldsBits.antt`).
 //! - `window_events` gives the candidates of one window, the forward one first
 //!   (`specs/Candidate.antt`).
@@ -38,7 +41,8 @@
 //! Read `reader`, `tracker`, `state`, `latest_cells`, `latest_bits`, `window`, `boundaries`, `brought`,
 //! `candidates` and `event`, in this order: the way of an interval. Then `firm_reader`, `firm_cells`,
 //! `beside`, `waiting` and `firm_event`, the way of a word that needs a witness, over the same tracker
-//! and cells, and `consecutive`, `consecutive_event` and `neighbours`, which come behind them.
+//! and cells, and `consecutive`, `consecutive_event` and `neighbours`, which come behind them; and `reading`,
+//! `witness` and `reading_laws`, what all of them are.
 //! `specs/Invariants.antt` is what the code keeps. `report_text` prints the events. Nothing
 //! here allocates.
 #![tactic(auto)]

@@ -54,13 +54,6 @@ words_of_two told none =
     words_told-append (f ++ s) t ∙ ap (λ (ws : List HeardWord). words_told (f ++ s) ++ ws) (none_third told.third none)
     ∙ append-nil (words_told (f ++ s)) ∙ words_told-append f s
 
-one_told : (o : Option FirmEvent) → length (words_told (firm_listed o)) ≤ 1
-one_told None = omega arith
-one_told (Some (Told (events.Word d w t l))) = omega arith
-one_told (Some (Told (events.Refused d f t))) = omega arith
-one_told (Some (Told (events.Lost i t))) = omega arith
-one_told (Some (Alone d w t l)) = omega arith
-
 told_range : (n sum : ℕ) (o : Option FirmEvent) → sum < 2 ^ 60 → IfSome o (IsToldBy n sum)
     → All IsInRange (words_told (firm_listed o))
 told_range n sum None below told = All-nil IsInRange
@@ -77,13 +70,6 @@ told_range n sum (Some (Alone d w t l)) below told = All-nil IsInRange
 
 -- ---- of a word that was held
 
--- a word that is not told is none
-not_told : (e : FirmEvent) → is_told_word e ≡ false → words_told (e ∷ []) ≡ []
-not_told (Told (events.Word d w t l)) is = absurd cc
-not_told (Told (events.Refused d f t)) is = refl
-not_told (Told (events.Lost i t)) is = refl
-not_told (Alone d w t l) is = refl
-
 -- the words of what is given, if a word was held
 pub words_of_held : (told : ConsecutiveEvents) → IfSome told.events.third IsNoWord
     → words_told (consecutive_list told) ≡ words_told (firm_listed told.held)
@@ -93,20 +79,6 @@ words_of_held told none =
     words_told-append h (firm_list told.events)
     ∙ ap (λ (ws : List HeardWord). words_told h ++ ws) (words_of_two told.events none)
 
-by_told : (e : FirmEvent) (first : Option FirmEvent) (told : Bool) → is_told_word e ≡ told
-    → (is_told_word e ≡ true → first ≡ None)
-    → length (words_told (firm_listed (Some e)) ++ words_told (firm_listed first)) ≤ 1
-by_told e first true is one =
-    let word = one_told (Some e) in
-    rw (one is, append-nil (words_told (e ∷ []))) word
-by_told e first false is one = let word = one_told first in rw (not_told e is) word
-
--- where a word was held and is told, none comes first behind it
-one_of_held : (held first : Option FirmEvent) → IfSome held (λ event. is_told_word event ≡ true → first ≡ None)
-    → length (words_told (firm_listed held) ++ words_told (firm_listed first)) ≤ 1
-one_of_held None first one = one_told first
-one_of_held (Some e) first one = by_told e first (is_told_word e) refl one
-
 -- if none was held, the first is that of what comes first
 pub unheld_words : (told : ConsecutiveEvents) → IfSome told.events.third IsNoWord
     → words_told (firm_listed told.held) ≡ []
@@ -115,20 +87,6 @@ pub unheld_words : (told : ConsecutiveEvents) → IfSome told.events.third IsNoW
 unheld_words told none same =
     words_of_held told none ∙ ap (λ (ws : List HeardWord). ws ++ (words_told (firm_listed told.events.first)
     ++ words_told (firm_listed told.events.second))) same
-
-pub two_told : (told : ConsecutiveEvents)
-    → IfSome told.held (λ event. is_told_word event ≡ true → told.events.first ≡ None)
-    → IfSome told.events.third IsNoWord → length (words_told (consecutive_list told)) ≤ 2
-two_told told one none =
-    let h = words_told (firm_listed told.held) in
-    let f = words_told (firm_listed told.events.first) in
-    let s = words_told (firm_listed told.events.second) in
-    let both = one_of_held told.held told.events.first one in
-    let last = one_told told.events.second in
-    let three = length-append h (f ++ s) in
-    let two = length-append f s in
-    let front = length-append h f in
-    rw (words_of_held told none) (omega (arith, both, last, three, two, front))
 
 pub told_in_range : (n sum : ℕ) (told : ConsecutiveEvents) → sum < 2 ^ 60 → ConsecutiveBrings n sum told
     → All IsInRange (words_told (consecutive_list told))
