@@ -1,7 +1,7 @@
 -- The words of what an interval brought are two at most, and they come in turn.
-use Rattle.std.proofs.Common.{◌≡◌, ℕ, ◌^◌, ◌<◌, ◌≤◌, List, [], ◌∷◌, ◌++◌, length, length-append, ◌∙◌, ap}
+use Rattle.std.proofs.Common.{◌≡◌, ℕ, ◌^◌, ◌<◌, ◌≤◌, List, [], ◌∷◌, ◌++◌, ◌∙◌, ap}
 use Rattle.std.proofs.Common.{arith, map, refl}
-use Rattle.std.proofs.Common.{append-nil, Bool, false, true}
+use Rattle.std.proofs.Common.{append-nil, false, true}
 use Rattle.std.specs.Prelude.{IfSome, Some, None, All}
 use Rattle.std.specs.declared.option.Option.{Option}
 use Rattle.std.proofs.lemmas.Grind.{flat_map-append}
@@ -12,7 +12,7 @@ use Rattle.direction_reader.specs.declared.event.Event.TheVariants as events
 use Rattle.direction_reader.specs.declared.firm_event.FirmEvent.{FirmEvent}
 use Rattle.direction_reader.specs.declared.firm_event.FirmEvent.TheVariants.{Told, Alone}
 use Rattle.direction_reader.specs.declared.firm_event.FirmEvents.{FirmEvents}
-use Rattle.direction_reader.specs.ConsecutiveStep.{consecutive_list, is_told_word, ConsecutiveBrings}
+use Rattle.direction_reader.specs.ConsecutiveStep.{consecutive_list, ConsecutiveBrings}
 use Rattle.direction_reader.specs.Firm.{told_tick, DoNotFall}
 use Rattle.direction_reader.specs.FirmReader.{IsToldBy}
 use Rattle.direction_reader.specs.FirmStep.{firm_list, firm_listed, IsNoWord}
