@@ -38,7 +38,7 @@ def louder(clean, noise, decibels):
 
 def told(path, words, there):
     """What the report says."""
-    ran = subprocess.run([f"{TOP}/tools/tape", path, *words], stdout=subprocess.PIPE, env=there, check=False)
+    ran = subprocess.run([f"{TOP}/tools/tape", path, "--margin", *words], stdout=subprocess.PIPE, env=there, check=False)
     found = re.search(r"the noise could be some (\d+) dB louder", ran.stdout.decode())
     return int(found[1]) if found else None
 

@@ -1,9 +1,9 @@
 # bash completion of tc-tape and tc-archive: options, and files.
 _tc_tape() {
     local word=${COMP_WORDS[COMP_CWORD]} before=${COMP_WORDS[COMP_CWORD - 1]}
-    local options="--track --system --rate --limit --all-words --threshold --smooth --deep --path --vitc --json --force --version"
+    local options="--track --system --rate --limit --all-words --threshold --smooth --deep --path --vitc --margin --json --force --version"
     case ${COMP_WORDS[0]##*/} in
-        *-archive) options+=" --jobs --hosts --resume --all --part --edl --ale --margin" ;;
+        *-archive) options+=" --jobs --hosts --resume --all --part --edl --ale" ;;
         *) options+=" --csv --picture --page --stamp" ;;
     esac
     case $before in

@@ -1,5 +1,5 @@
-"""The time code of a sound: each track and each system is tried, and other front ends if little is heard; the best
-is chosen, with how sure that is."""
+"""The time code of a sound: each track and each system is tried; the best path, if frames are missing; other front ends
+if neither hears code. The best is chosen, with how sure that is."""
 from collections.abc import Sequence
 from dataclasses import dataclass, field
 
@@ -7,21 +7,21 @@ from . import front_ends, levels
 from .front_ends import FrontEnd
 from .slicing import Progress, read_track
 from .sound import Sound
-from .spans import Reading, words_in
+from .spans import Reading, some_words_in
 
 SYSTEMS = (24, 25, 30)
 # From fewer intervals nothing is concluded: they are clicks.
 FEW_INTERVALS = 400
 # The most intervals a second that hum has.
 HUM_INTERVALS = 500
-# A tape is heard well if at least this part of the code that is seen is heard.
-WELL = 0.9
+# A tape is heard well if at least this part of the code that is seen is heard, but for a few frames at its ends.
+WELL, AT_ENDS = 0.98, 3
 # From this number of frames on, labels that go on are code, and not chance.
 FRAMES_OF_CODE = 3
 # A frame has 80 intervals and one more a bit that is set, 13 of them in its sync word; a common one in all.
 CELLS, SYNC_ONES, COMMON_INTERVALS = 80, 13, 105
-# How many words are read to find how many intervals a frame has.
-WORDS_ASKED = 50
+# How many words, over the whole tape, are read to find how many intervals a frame has.
+WORDS_ASKED = 1_000
 # How many of many tracks are tried by other front ends: those of which the plain one hears most.
 MOST_TRACKS_TRIED = 8
 
@@ -83,6 +83,11 @@ class Choice:
         return rival.heard < mine.heard or rival.refused > mine.refused or len(rival.spans) > len(mine.spans)
 
     @property
+    def has_system(self) -> bool:
+        """Enough is heard to speak of a system at all: a second of it, or one that was given."""
+        return self.is_sure or self.reading.heard >= self.reading.system
+
+    @property
     def sureness(self) -> str:
         """How sure the system is, and why: what the next best system would make of the same words."""
         mine, rival = self.reading, self.rival
@@ -113,24 +118,22 @@ def by_track(readings: Sequence[Reading]) -> list[list[Reading]]:
 
 
 def intervals_a_frame(reading: Reading) -> float:
-    """How many intervals a frame of this code has, by its first words."""
+    """How many intervals a frame of this code has, by words from all of it."""
     ones = []
-    for number, word in enumerate(words_in(reading.path)):
-        if number == WORDS_ASKED:
-            break
+    for word in some_words_in(reading.path, reading.words // WORDS_ASKED + 1):
         digits = int("".join(it for it in word.label if it.isdigit()), 16)
         ones.append(SYNC_ONES + digits.bit_count() + int(word.user, 16).bit_count() + word.flags.count("1"))
     return CELLS + sum(ones) / len(ones) if ones else COMMON_INTERVALS
 
 
-def hears_little(reading: Reading) -> bool:
-    """There are many more intervals than the frames that were heard have, and time for more frames."""
+def misses(reading: Reading) -> bool:
+    """There are more intervals than the frames that were heard have, and time for more frames."""
     if reading.intervals < FEW_INTERVALS:
         return False
     frames = reading.intervals / intervals_a_frame(reading)
     if reading.frame:
         frames = min(frames, float(reading.ticks / reading.frame))
-    return reading.heard < WELL * frames - SYSTEMS[0] / 2
+    return reading.heard < WELL * frames - AT_ENDS
 
 
 def is_code(reading: Reading) -> bool:
@@ -146,49 +149,75 @@ def choose(sound: Sound, wanted: Wanted, room: str, progress: Progress | None = 
     found = {
         track: read_track(sound, track, wanted.systems, first, wanted.limit, room, words, progress) for track in tracks
     }
-    is_well = any(is_code(it) and not hears_little(it) for it in map(best, found.values()))
+    is_well = any(is_code(it) and not misses(it) for it in map(best, found.values()))
     tried: dict[int, Tried] = {}
     for track in sorted(found, key=lambda it: best(found[it]).merit(), reverse=True)[:MOST_TRACKS_TRIED]:
         readings = found[track]
         mine = best(readings)
         # If another track is heard well, one without any code is programme.
         if wanted.front is None and (mine.heard or not is_well):
-            fronts = front_ends_for(sound, mine)
-            found[track], tried[track] = tried_by_others(sound, readings, fronts, wanted, room)
+            found[track], tried[track] = tried_further(sound, readings, wanted, room, progress)
     chosen = best([best(readings) for readings in found.values()])
     others = [it for readings in found.values() for it in readings]
     mine = tried.get(chosen.track, Tried())
     return Choice(chosen, others, mine.names, mine.before_path)
 
 
+def tried_further(
+    sound: Sound, readings: list[Reading], wanted: Wanted, room: str, progress: Progress | None
+) -> tuple[list[Reading], Tried]:
+    """The readings by the front end that hears most, and those that were tried: the path where frames are missing, and
+    others as long as there is no code.
+    """
+    tried, mine = Tried(), best(readings)
+    if wants_path(sound, mine):
+        tried.before_path = mine.heard
+        readings = better(sound, readings, front_ends.BEST_PATH, wanted, room, tried, progress)
+    if is_code(best(readings)):
+        return readings, tried
+    for front in front_ends_for(sound, mine):
+        readings = better(sound, readings, front, wanted, room, tried, progress)
+        if is_code(best(readings)) and not misses(best(readings)):
+            break
+    return readings, tried
+
+
+def better(
+    sound: Sound,
+    readings: list[Reading],
+    front: FrontEnd,
+    wanted: Wanted,
+    room: str,
+    tried: Tried,
+    progress: Progress | None,
+) -> list[Reading]:
+    """The readings by this front end, if it hears more."""
+    tried.names.append(front.name)
+    words, track = wanted.all_words, readings[0].track
+    found = read_track(sound, track, wanted.systems, front, wanted.limit, room, words, progress)
+    return found if is_code(best(found)) and best(found).merit() > best(readings).merit() else readings
+
+
+def wants_path(sound: Sound, mine: Reading) -> bool:
+    """Frames are missing; or no code is heard where there are as many crossings as code has, or more."""
+    if sound.place_of(mine.track)[0].rate < front_ends.PATH_RATE:
+        return False
+    return misses(mine) or not is_code(mine) and has_many_crossings(sound, mine)
+
+
+def has_many_crossings(sound: Sound, mine: Reading) -> bool:
+    return mine.intervals / max(1.0, sound.seconds or 1.0) > HUM_INTERVALS
+
+
 def front_ends_for(sound: Sound, mine: Reading) -> list[FrontEnd]:
-    """What is worth a try on a track: all if more code is seen than heard; if nothing is heard of few intervals,
-    a low threshold on a quiet one, and a filter where a hum may cover the code."""
-    if hears_little(mine):
+    """What is worth a try on a track in which neither the plain front end nor the path hears code: all if there are
+    many crossings; of few a low threshold on a quiet track, and a filter where a hum may cover the code.
+    """
+    if misses(mine) or has_many_crossings(sound, mine):
         return front_ends.others(mine.rate)
-    if mine.heard or mine.intervals / max(1.0, sound.seconds or 1.0) > HUM_INTERVALS:
+    if mine.heard:
         return []
     level = levels.level_of(sound, mine.track)
     if level.is_quiet:
         return [front_ends.QUIET]
     return [] if level.is_silent else [front for front in front_ends.others(mine.rate) if front.high_pass]
-
-
-def tried_by_others(
-    sound: Sound, readings: list[Reading], fronts: list[FrontEnd], wanted: Wanted, room: str
-) -> tuple[list[Reading], Tried]:
-    """The readings by the front end that hears most, and those that were tried."""
-    tried = Tried()
-    for front in fronts:
-        # It is slow: it is tried if there is code, of which frames are missing.
-        if front.is_path and not is_code(best(readings)):
-            continue
-        tried.names.append(front.name)
-        if front.is_path:
-            tried.before_path = best(readings).heard
-        found = read_track(sound, readings[0].track, wanted.systems, front, wanted.limit, room, wanted.all_words)
-        if is_code(best(found)) and best(found).merit() > best(readings).merit():
-            readings = found
-        if not hears_little(best(readings)) and best(readings).heard:
-            break
-    return readings, tried

@@ -4,7 +4,7 @@ import io
 import os
 import signal
 import sys
-from collections.abc import Callable, Sequence
+from collections.abc import Callable, Iterator, Sequence
 from types import FrameType
 
 FOUND, NONE_FOUND, WRONG_WORDS, FAILED = 0, 1, 2, 3
@@ -35,6 +35,16 @@ def end_if_told() -> None:
     """Ends if a signal came."""
     if told:
         raise SystemExit(told[0])
+
+
+@contextlib.contextmanager
+def held_back() -> Iterator[None]:
+    """Signals that come within the block come at its end."""
+    before = signal.pthread_sigmask(signal.SIG_BLOCK, CAUGHT)
+    try:
+        yield
+    finally:
+        signal.pthread_sigmask(signal.SIG_SETMASK, before)
 
 
 def fill_standard() -> None:

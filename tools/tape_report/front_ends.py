@@ -1,8 +1,8 @@
-"""The ways in which a track is made into intervals: a row each. What hears little by the first is tried by the
-others.
+"""The ways in which a track is made into intervals: a row each. A track of which the first misses frames is tried by
+the best path, and what neither hears by the others.
 """
 import shutil
-from dataclasses import dataclass
+from dataclasses import dataclass, replace
 
 THRESHOLD = 250
 LOW_THRESHOLD, LOWEST_THRESHOLD = 50, 20
@@ -13,8 +13,9 @@ MOST_SUMS = 16
 HIGH_PASS_HERTZ = 300
 # The ticks of a sample, with every front end.
 FINENESS = 16
-# The least samples a second for the best path, for any system.
-PATH_RATE = 4_200
+# The least samples a second for the best path, for any system. With fewer than ENOUGH it hears more when the sound is
+# brought to MORE.
+PATH_RATE, ENOUGH, MORE = 4_200, 32_000, 48_000
 
 
 @dataclass(frozen=True)
@@ -27,6 +28,14 @@ class FrontEnd:
     is_deep: bool = False
     high_pass: int | None = None
     is_path: bool = False
+    # The samples a second that it is brought to; those of the file without.
+    resampled: int | None = None
+
+    def at(self, rate: int) -> "FrontEnd":
+        """The same, for sound of this rate."""
+        if not self.is_path or rate >= ENOUGH or shutil.which("ffmpeg") is None:
+            return self
+        return replace(self, resampled=MORE)
 
     def words(self) -> list[str]:
         """What follows the track, or the rate."""
@@ -37,7 +46,9 @@ class FrontEnd:
 
     @property
     def filters(self) -> tuple[str, ...]:
-        """The filter, as a word of ffmpeg."""
+        """The filter, as words of ffmpeg."""
+        if self.resampled is not None:
+            return ("-af", f"aresample={self.resampled}")
         return () if self.high_pass is None else ("-af", f"highpass=f={self.high_pass}")
 
     @property
@@ -52,7 +63,9 @@ BEST_PATH = FrontEnd("best path", is_path=True)
 
 
 def others(rate: int) -> list[FrontEnd]:
-    """What is tried if the plain front end hears little, at this rate. A further one is one row more."""
+    """What is tried if neither the plain front end nor the path hears code, at this rate. A further one is one row
+    more.
+    """
     sums = max(2, min(MOST_SUMS, rate // RATE_OF_A_SUM))
     table = [
         FrontEnd(f"sums of {sums}", sums=sums),
@@ -62,4 +75,4 @@ def others(rate: int) -> list[FrontEnd]:
         FrontEnd(f"high-pass at {HIGH_PASS_HERTZ} Hz", high_pass=HIGH_PASS_HERTZ),
         FrontEnd(f"high-pass at {HIGH_PASS_HERTZ} Hz, sums of {sums}", sums=sums, high_pass=HIGH_PASS_HERTZ),
     ]
-    return [front for front in table if front.can_run] + ([BEST_PATH] if rate >= PATH_RATE else [])
+    return [front for front in table if front.can_run]

@@ -45,6 +45,7 @@ def add_reading(words: argparse.ArgumentParser) -> None:
     words.add_argument("--deep", action="store_true", help="a lower threshold, for dull tapes and hum")
     words.add_argument("--path", action="store_true", help="the best path through the sound, which is slow")
     words.add_argument("--vitc", action="store_true", help="the code in the upper rows of the picture too")
+    words.add_argument("--margin", action="store_true", help="how much louder the noise could be, which takes a second")
     words.add_argument("--json", action="store_true", help="a JSON object a tape, in place of the report")
     words.add_argument("--force", action="store_true", help="replaces files that stand")
 
@@ -78,7 +79,6 @@ def archive_parser() -> argparse.ArgumentParser:
     words.add_argument("--part", metavar="K/N", type=part, help="each N-th tape from the K-th on, and no table")
     words.add_argument("--edl", action="store_true", help="the spans as edit decision lists too (CMX 3600)")
     words.add_argument("--ale", action="store_true", help="the spans as Avid logs too")
-    words.add_argument("--margin", action="store_true", help="the margin in each report, as tc-tape tells it")
     return words
 
 

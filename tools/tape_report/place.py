@@ -126,7 +126,9 @@ def place_of(choice: Choice, given: Fraction | None = None) -> Place | None:
     begin, length = begin_of(mine, count, rate)
     # Sums of samples come half their number late.
     before = begin / FINENESS - Fraction(mine.sums - 1, 2)
-    day = LABELS_A_DAY[count] * mine.rate / rate
-    reference = round((number_of(count, span.first) * mine.rate / rate - before) % day)
+    samples = mine.file_rate or mine.rate
+    before *= Fraction(samples, mine.rate)
+    day = LABELS_A_DAY[count] * samples / rate
+    reference = round((number_of(count, span.first) * samples / rate - before) % day)
     doubts = doubts_of(choice, given, how, length)
-    return Place(count, rate, mine.rate, reference if reference < day else 0, tuple(doubts))
+    return Place(count, rate, samples, reference if reference < day else 0, tuple(doubts))

@@ -1,4 +1,6 @@
-"""What is to be read of a tape, and how, from what the words of a call said. A job of an archive needs no more of them."""
+"""What is to be read of a tape, and how, from what the words of a call said. A job of an archive needs no more of
+them.
+"""
 from fractions import Fraction
 from typing import Any
 

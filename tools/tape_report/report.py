@@ -98,7 +98,8 @@ def code_lines(choice: Choice, level: Level, sound: Sound, given: Fraction | Non
     mine = choice.reading
     how = rated(mine, mine.spans[0], given)
     form = ", drop-frame" if mine.spans[0].is_drop else ""
-    yield f"code          track {mine.track}, {how.name} frames a second{form}; {choice.sureness}"
+    rate = f"{how.name} frames a second{form}" if choice.has_system else "too few frames for a system"
+    yield f"code          track {mine.track}, {rate}; {choice.sureness}"
     yield from rate_line(choice, how)
     yield from tracks_lines(choice)
     if choice.tried:

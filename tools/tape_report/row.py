@@ -87,7 +87,7 @@ def row_of(name: str, sound: Sound, choice: Choice, place: Place | None, given: 
     row.note = mine.note
     if not choice.is_found:
         return row
-    row.status, row.track, row.system = CODE, mine.track, mine.system
+    row.status, row.track, row.system = CODE, mine.track, mine.system if choice.has_system else None
     how = rate_known(choice, mine.spans[0], given)
     row.rate, row.rate_by, row.drop = how.cell, how.by, yes(mine.spans[0].is_drop)
     row.other_codes = codes.cell(choice)

@@ -19,8 +19,8 @@ from .track import track_samples
 from .spans import Reading, spans_in
 
 # Under this tolerance sound is read: the command that prints its words, and the word of `ltc-spans`. With the last word
-# each word needs a witness.
-READ, TOLERANCE, WITNESS = "ltc-rough", "rough", "firm"
+# each word needs a witness, or one behind it that joins it and counts on.
+READ, TOLERANCE, WITNESS = "ltc-rough", "rough", "consecutive"
 PIECE = 1 << 20
 # A decoder that ends at least these seconds before the length that was said has ended early.
 EARLY_SECONDS = 0.5
@@ -96,14 +96,15 @@ class Slicing:
     """
 
     def __init__(self, sound: Sound, track: int, front: FrontEnd) -> None:
-        self.sound, self.front = sound, front
+        self.sound = sound
         self.stream, number = sound.place_of(track)
+        self.front = front = front.at(self.stream.rate)
         self.input = sound.open(self.stream, front.filters) if front.filters else sound.open_kept(self.stream)
         self.notes = tempfile.TemporaryFile()
         words = ["wav-ltc", "25", str(number)]
         samples: IO[bytes] = self.input.output
         if front.is_path:
-            words, samples = ["pcm-ltc", "25", str(self.stream.rate)], track_samples(sound, self.input, track)
+            words, samples = ["pcm-ltc", "25", str(self.rate)], track_samples(sound, self.input, track)
         command = [program(), *words, *front.words()]
         self.slicer = subprocess.Popen(command, stdin=samples, stdout=subprocess.PIPE, stderr=self.notes)
         if front.is_path:
@@ -111,6 +112,11 @@ class Slicing:
         if self.slicer.stdout is None:
             raise NoProgram("tc has no output")
         self.output = self.slicer.stdout
+
+    @property
+    def rate(self) -> int:
+        """The samples a second that are sliced."""
+        return self.front.resampled or self.stream.rate
 
     def pieces(self, progress: Progress | None) -> Iterator[bytes]:
         """What comes, and meanwhile how far the sound is read: a silence gives nothing for long."""
@@ -195,7 +201,7 @@ def read_track(
         slicing.close()
     if not are_whole and not is_empty:
         raise not_read(room)
-    return [told(reader, track, slicing.stream.rate, front, note, silences.count) for reader in readers]
+    return [told(reader, track, slicing, note, silences.count) for reader in readers]
 
 
 def not_read(room: str) -> Fault:
@@ -206,13 +212,14 @@ def not_read(room: str) -> Fault:
     return NoProgram("tc did not read the intervals that it made")
 
 
-def told(reader: Reader, track: int, rate: int, front: FrontEnd, note: str, silent: int) -> Reading:
+def told(reader: Reader, track: int, slicing: Slicing, note: str, silent: int) -> Reading:
     """What a reader wrote, as a reading."""
     spans, ticks = spans_in(reader.lines(0))
+    front = slicing.front
     reading = Reading(
         track,
         reader.system,
-        rate,
+        slicing.rate,
         front.name,
         front.sums,
         front.high_pass is not None,
@@ -221,6 +228,7 @@ def told(reader: Reader, track: int, rate: int, front: FrontEnd, note: str, sile
         path=reader.outputs[1],
         note=note,
         made=front,
+        file_rate=slicing.stream.rate,
     )
     for line in reader.lines(1, last=1):
         words = line.split()

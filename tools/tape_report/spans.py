@@ -1,4 +1,5 @@
 """What `tc` says of a track: the spans of its labels, the gaps between them, and its words."""
+import itertools
 from collections.abc import Iterable
 from dataclasses import dataclass, field
 from fractions import Fraction
@@ -73,6 +74,8 @@ class Reading:
     note: str = ""
     # The front end itself.
     made: FrontEnd = PLAIN
+    # The samples a second of the file; ticks are those of `rate`, to which its sound may have been brought.
+    file_rate: int = 0
 
     @property
     def heard(self) -> int:
@@ -95,8 +98,10 @@ class Reading:
         return sum(span.speed * span.frames for span in self.spans) / frames if frames else 0.0
 
     def merit(self) -> tuple[float, ...]:
-        """More frames, fewer refused words, fewer spans, and a speed near the nominal one."""
-        return self.heard, -self.refused, -len(self.spans), -abs(self.speed - 1000)
+        """More frames, of which one counts against a span more: under a wrong system labels break off each second, and
+        a false word or two may be heard more; then fewer refused words, fewer spans, and a speed near the nominal one.
+        """
+        return self.heard - len(self.spans), self.heard, -self.refused, -len(self.spans), -abs(self.speed - 1000)
 
     def seconds_at(self, tick: int) -> float:
         return tick / FINENESS / self.rate
@@ -128,6 +133,13 @@ def word_of(line: str) -> Word | None:
     if not parts or parts[0] != "word":
         return None
     return Word(parts[1], parts[2], parts[4], parts[6], int(parts[10]), int(parts[14]))
+
+
+def some_words_in(path: str, each: int) -> Iterable[Word]:
+    """Each `each`-th word of a report."""
+    with open(path, encoding="ascii") as lines:
+        of_words = (line for line in lines if line.startswith("word "))
+        yield from filter(None, map(word_of, itertools.islice(of_words, 0, None, each)))
 
 
 def words_in(path: str) -> Iterable[Word]:

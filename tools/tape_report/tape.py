@@ -74,7 +74,7 @@ def tell_silent(options: argparse.Namespace, tape: Silent, is_first: bool) -> in
 
 def tell_tape(options: argparse.Namespace, tape: Tape, is_first: bool) -> int:
     """The report at once; the JSON object, of which a file has one, when all that was asked for is written."""
-    text = tape.report(has_margin=True) if options.page or not (options.csv or options.json) else ""
+    text = tape.report(options.margin) if options.page or not (options.csv or options.json) else ""
     if options.csv:
         report.write_csv(tape.name, tape.choice.reading if tape.choice.is_found else None, sys.stdout, is_first)
     elif not options.json:

@@ -17,6 +17,7 @@ from collections.abc import Iterable, Iterator
 from dataclasses import dataclass
 from typing import IO
 
+from .endings import held_back
 from .faults import NoTarget
 from .names import shown
 
@@ -94,17 +95,22 @@ def written(path: str, force: bool = False, tapes: Iterable[Identity] = ()) -> I
                 shutil.copyfileobj(file, out, PIECE)
         return
     take_away(path, tapes)
-    file, name = new_part(path)
+    made: tuple[IO[bytes], str] | None = None
     try:
+        # A signal between the making and the keeping of the name would leave the file.
+        with held_back():
+            made = new_part(path)
+        file, name = made
         yield Part(file, name)
         file.flush()
         refuse(path, force, tapes)
         give_name(name, path, force)
     finally:
-        with contextlib.suppress(FileNotFoundError):
-            os.unlink(name)
-        with contextlib.suppress(OSError):
-            file.close()
+        if made is not None:
+            with contextlib.suppress(FileNotFoundError):
+                os.unlink(made[1])
+            with contextlib.suppress(OSError):
+                made[0].close()
 
 
 def write_text(path: str, text: str, force: bool = False, tapes: Iterable[Identity] = ()) -> None:

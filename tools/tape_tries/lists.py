@@ -166,7 +166,10 @@ def try_index_in_browser(room):
 # What a page draws as text, and how its head stands.
 DRAWN = """<script>
 const drawn = [], plainText = CanvasRenderingContext2D.prototype.fillText;
-CanvasRenderingContext2D.prototype.fillText = function(text, ...at) { drawn.push(text); plainText.call(this, text, ...at); };
+CanvasRenderingContext2D.prototype.fillText = function(text, ...at) {
+  drawn.push(text);
+  plainText.call(this, text, ...at);
+};
 draw();
 const said = document.createElement("pre");
 said.textContent = "drawn " + drawn.join("|");

@@ -1,5 +1,6 @@
 """What the report of a tape says, and its other forms."""
 import csv
+import json
 import math
 import os
 import random
@@ -69,7 +70,7 @@ def try_options(room):
 
 def margin_told(path, *words):
     """The decibels of the margin in the report; None if there is none."""
-    out, _ = tape(path, *words)
+    out, _ = tape(path, "--margin", *words)
     found = re.search(r"\nmargin        every word was read; the noise could be some (\d+) dB louder", out)
     return int(found[1]) if found else None
 
@@ -121,7 +122,7 @@ def try_margins_of_a_folder(room):
     assert not any("margin" in text for text in reports(out)), "a margin that was not asked for"
     holed, whole = reports(out, "--resume", "--margin")
     assert "margin" not in holed, holed
-    mine, _ = tape(os.path.join(folder, "whole.wav"))
+    mine, _ = tape(os.path.join(folder, "whole.wav"), "--margin")
     line = re.search(r"^margin .*$", mine, re.M)
     assert line and line[0] in whole, whole
 
@@ -156,12 +157,14 @@ def try_hiss_and_hum(room):
 
 
 def try_front_ends(room):
-    """If little is heard the other front ends are tried, and the report says which was taken."""
+    """If frames are missing the best path is tried, and where it hears no code the others; the report says which was
+    taken.
+    """
     hissy, hummed = hissy_and_hummed(room)
-    for path, taken in ((hissy, "(deep, )?sums of 3"), (hummed, "deep|sums of 3|high-pass")):
+    for path in (hissy, hummed):
         assert heard_of(path) > 95, f"{path}: {heard_of(path)} frames"
         out, _ = tape(path)
-        assert re.search(rf"\nfront end     ({taken}).*; tried sums of 3", out), out
+        assert re.search(r"\nfront end     best path; tried best path; without the path \d+ frames", out), out
     # A loud hum, which only a filter takes away.
     made = code(48_000, intervals("25", "10:00:00:00", 100), size=3000)
     loud = [
@@ -169,7 +172,11 @@ def try_front_ends(room):
     ]
     path = wav(os.path.join(room, "loud.wav"), 48_000, [loud])
     want("ffmpeg")
-    assert heard_of(path) > 95, f"of a loud hum {heard_of(path)} frames"
+    assert heard_of(path) > 90, f"of a loud hum {heard_of(path)} frames"
+    # Of so few samples a second there is no path, and a filter gives no stamp.
+    slow = code(4_000, intervals("25", "10:00:00:00", 100, rate=5), size=3000)
+    loud = [round(it + 12_000 * math.sin(2 * math.pi * 10 * n / 4_000)) for n, it in enumerate(slow)]
+    path = wav(os.path.join(room, "loud.wav"), 4_000, [loud])
     out, notes = tape(path, "--stamp", os.path.join(room, "no.wav"), status=3)
     has(out, "front end     high-pass at 300 Hz")
     has(notes, "a filter moves the code by some samples")
@@ -179,7 +186,7 @@ def try_front_ends(room):
     chance = random.Random(3)
     noise = [chance.randrange(-9000, 9000) for _ in range(96_000)]
     out, _ = tape(wav(os.path.join(room, "noise.wav"), 48_000, [noise]), status=1)
-    has(out, "front ends    tried sums of 3, deep")
+    has(out, "front ends    tried best path, sums of 3, deep")
 
 
 def try_best_path(room):
@@ -194,8 +201,43 @@ def try_best_path(room):
         sums, best = heard_of(path, *track, "--smooth", "3"), heard_of(path, *track, "--path")
         assert best > 95 and best > sums + 20, f"{name}: with the path {best}, with sums {sums}"
     out, _ = tape(path, "--track", "2")
-    assert re.search(r"\nfront end     best path; tried .*, best path; without the path \d+ frames", out), out
+    assert re.search(r"\nfront end     best path; tried best path; without the path \d+ frames", out), out
     tape(path, "--path", "--deep", status=2)
+
+
+def try_path_where_nothing_is_heard(room):
+    """In noise at the level of the code, of which the plain way hears nothing, the path is tried and hears nearly all;
+    and brought to more samples a second, sound of few.
+    """
+    want("ffmpeg")
+    chance = random.Random(7)
+    for rate, loud, least in ((48_000, 8_000, 97), (8_000, 3_000, 97)):
+        made = code(rate, intervals("25", "10:00:00:00", 100), size=8_000)
+        noisy = [max(-32_768, min(32_767, round(it + chance.gauss(0, loud)))) for it in made]
+        path = wav(os.path.join(room, f"{rate}.wav"), rate, [noisy])
+        out, _ = tape(path)
+        heard = int(re.search(r"\nheard         (\d+) frames", out)[1])
+        assert heard >= least, f"at {rate} {heard} frames\n{out}"
+        has(out, "front end     best path", "25 frames a second; sure")
+
+
+def try_right_system_in_noise(room):
+    """A false word or two make no other system: labels that break off each second count against it."""
+    form = "span forward 10:00:{0:02}:00 10:00:{0:02}:24 heard 25 bridged 0 tick {0} {0} speed 1000"
+    spans = [form.format(number) for number in range(9)]
+    one = "span forward 10:00:00:00 10:00:08:24 heard 224 bridged 0 tick 0 9 speed 1000"
+    read = {25: spans_in([one])[0], 30: spans_in(spans)[0]}
+    systems = [Reading(1, system, 48_000, "plain", spans=found) for system, found in read.items()]
+    assert max(systems, key=Reading.merit).system == 25
+
+
+def try_too_few_frames(room):
+    """Some frames of minutes of sound are no finding of a system."""
+    made = code(48_000, intervals("25", "10:00:00:03", 12), lead=4_800)
+    out, _ = tape(wav(os.path.join(room, "few.wav"), 48_000, [made]))
+    has(out, "code          track 1, too few frames for a system; not sure: less than a second of code")
+    said = json.loads(tape(os.path.join(room, "few.wav"), "--json")[0])
+    assert (said["system"], said["rate"], said["rate_by"]) == (None, "", "undecided") and 0 < said["heard"] <= 12, said
 
 
 def try_tracks(room):

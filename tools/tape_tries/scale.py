@@ -48,7 +48,8 @@ def try_long_silence(room):
 
 def try_progress(room):
     """The line of progress moves while a silence is read."""
-    there = Terminal([sys.executable, TAPE, long_silence(room, 11, [], [])], 100, 24, {**os.environ, "TC": os.path.abspath(TC)})
+    words = [sys.executable, TAPE, long_silence(room, 11, [], [])]
+    there = Terminal(words, 100, 24, {**os.environ, "TC": os.path.abspath(TC)})
     assert there.all(120) == 1
     parts = {int(it) for it in re.findall(r": +(\d+) %", there.data.decode("utf-8", "replace"))}
     assert len(parts) >= 2 and max(parts) < 101, parts
