@@ -216,7 +216,7 @@ def refused(before, cell, behind, threshold):
         return True
     around = before + behind
     usual = sum(sum(other.apart(high)) for other in around) // (2 * sum(other.length for other in around))
-    return max(cell.apart(high)) > 3 * (usual + high ** 2) * cell.length
+    return max(cell.apart(high)) > (usual + 4 * high ** 2) * cell.length
 
 
 def broken(cells, threshold, grain):

@@ -337,7 +337,7 @@ fn breaks(cells: &[Measured], place: usize, threshold: i64, grid: Grid) -> bool 
     let around = || before.iter().chain(behind);
     let all: i64 = around().flat_map(|other| other.halves_apart(high)).sum();
     let usual = all / (2 * around().map(Measured::length).sum::<i64>());
-    let most = 3 * (usual + high * high) * it.length();
+    let most = (usual + 4 * high * high) * it.length();
     let is_misfit = it.halves_apart(high).into_iter().any(|apart| apart > most);
     it.cell.jumps || is_faint || is_misfit || bends(cells, place, grid)
 }

@@ -116,16 +116,16 @@ with_squares squares = record {
   second = record { sum = pos 2_000; squares = 200_000 + squares };
 }
 
-three_squares : is_misfit 100 0 (with_squares 600_000) ≡ false
-three_squares = refl
+four_squares : is_misfit 100 0 (with_squares 800_000) ≡ false
+four_squares = refl
 
-more_than_three : is_misfit 100 0 (with_squares 600_001) ≡ true
-more_than_three = refl
+more_than_four : is_misfit 100 0 (with_squares 800_001) ≡ true
+more_than_four = refl
 
-three_times_usual : is_misfit 100 50 (with_squares 603_000) ≡ false
-three_times_usual = refl
+as_far_as_usual : is_misfit 100 50 (with_squares 801_000) ≡ false
+as_far_as_usual = refl
 
-more_than_usual : is_misfit 100 50 (with_squares 603_001) ≡ true
+more_than_usual : is_misfit 100 50 (with_squares 801_001) ≡ true
 more_than_usual = refl
 
 first_half : is_misfit 100 0 (cell Zero (neg_ℤ (pos 2_000)) (pos 2_000)) ≡ false
@@ -149,23 +149,23 @@ loud_behind = refl
 faint_beside_loud : refuses ear (eight 1_000) (zero_of 100) (eight 1_000) ≡ false
 faint_beside_loud = refl
 
-too_loud : refuses ear (eight 100) (zero_of 274) (eight 100) ≡ true
+too_loud : refuses ear (eight 100) (zero_of 301) (eight 100) ≡ true
 too_loud = refl
 
-not_too_loud : refuses ear (eight 100) (zero_of 273) (eight 100) ≡ false
+not_too_loud : refuses ear (eight 100) (zero_of 300) (eight 100) ≡ false
 not_too_loud = refl
 
-the_eighth_counts : refuses ear (replicate 7 (zero_of 100) ++ zero_of 108 ∷ []) (zero_of 274) (eight 100) ≡ false
+the_eighth_counts : refuses ear (replicate 7 (zero_of 100) ++ zero_of 108 ∷ []) (zero_of 301) (eight 100) ≡ false
 the_eighth_counts = refl
 
-the_ninth_does_not : refuses ear (eight 100 ++ zero_of 108 ∷ []) (zero_of 274) (eight 100) ≡ true
+the_ninth_does_not : refuses ear (eight 100 ++ zero_of 108 ∷ []) (zero_of 301) (eight 100) ≡ true
 the_ninth_does_not = refl
 
-the_eighth_behind_counts : refuses ear (eight 100) (zero_of 274) (replicate 7 (zero_of 100) ++ zero_of 108 ∷ [])
+the_eighth_behind_counts : refuses ear (eight 100) (zero_of 301) (replicate 7 (zero_of 100) ++ zero_of 108 ∷ [])
     ≡ false
 the_eighth_behind_counts = refl
 
-the_ninth_behind_does_not : refuses ear (eight 100) (zero_of 274) (eight 100 ++ zero_of 108 ∷ []) ≡ true
+the_ninth_behind_does_not : refuses ear (eight 100) (zero_of 301) (eight 100 ++ zero_of 108 ∷ []) ≡ true
 the_ninth_behind_does_not = refl
 
 the_first_is_none : refuses ear [] (zero_of 1) (eight 100) ≡ false

@@ -29,8 +29,9 @@ abbrev pub usual : ℕ → List Measured → List Measured → ℕ
 usual level before behind =
     (all_apart level before + all_apart level behind) / (2 * (steps_of before + steps_of behind))
 
--- the mean square of a half is more than three times what is usual and the square of the level, added
+-- the mean square of a half is more than what is usual and four squares of the level, which a half has that lies on the
+-- wrong side
 abbrev pub is_misfit : ℕ → ℕ → Measured → Bool
 is_misfit level around cell =
-    ltb (3 * (around + level * level) * cell.length)
+    ltb ((around + 4 * (level * level)) * cell.length)
     (max (apart level cell.first cell.length) (apart level cell.second cell.length))

@@ -77,5 +77,5 @@ pub(crate) fn is_misfit(level: u64, usual: u64, cell: &Measured) -> bool
 {
     let first = apart(level, &cell.first, cell.length);
     let second = apart(level, &cell.second, cell.length);
-    3 * (usual + level * level) * u64::from(cell.length) < first.max(second)
+    (usual + 4 * (level * level)) * u64::from(cell.length) < first.max(second)
 }

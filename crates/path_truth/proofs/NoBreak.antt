@@ -79,15 +79,15 @@ range-of low high n cell near (next ∷ ahead) are behind =
 -- ---- its fit
 
 misfit-by : (around square n first second : ℕ) → first ≤ 3 * square * n → second ≤ 3 * square * n
-    → ltb (3 * (around + square) * n) (max first second) ≡ false
+    → ltb ((around + 4 * square) * n) (max first second) ≡ false
 misfit-by around square n first second one two =
-    let more = times (3 * square) (3 * (around + square)) n n (omega arith) (omega arith) in
-    le-ltb (3 * (around + square) * n) (max first second) (omega (arith, one, two, more))
+    let more = times (3 * square) (around + 4 * square) n n (omega arith) (omega arith) in
+    le-ltb ((around + 4 * square) * n) (max first second) (omega (arith, one, two, more))
 
 no-misfit : (low high n level around : ℕ) (cell : Measured) → 5 * high ≤ 12 * low → IsFair low high n cell
     → IsLevel low high level → is_misfit level around cell ≡ false
 no-misfit low high n level around cell near is between =
-    subst (λ k. ltb (3 * (around + level * level) * k) (max (apart level cell.first k) (apart level cell.second k))
+    subst (λ k. ltb ((around + 4 * (level * level)) * k) (max (apart level cell.first k) (apart level cell.second k))
     ≡ false) (sym is.length_is)
     (misfit-by around (level * level) n (apart level cell.first n) (apart level cell.second n)
     (half-fits low high level n cell.first near is.first between)
