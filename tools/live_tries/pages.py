@@ -229,6 +229,36 @@ class Browser:
         self.driver.wait()
 
 
+# The heights at which the page writes the numbers of its scale, and how high they are.
+NUMBERS = """(() => {
+  const at = [], plain = CanvasRenderingContext2D.prototype.fillText;
+  CanvasRenderingContext2D.prototype.fillText = function(text, x, y) {
+    if (/^[0-9.]+$/.test(text)) at.push([y, parseFloat(this.font)]);
+    plain.call(this, text, x, y);
+  };
+  draw();
+  CanvasRenderingContext2D.prototype.fillText = plain;
+  return at;
+})()"""
+
+
+def try_scale_of_the_page(room):
+    """The numbers of the scale of the speeds never overlap, at any size."""
+    browser = Browser(room)
+    try:
+        served = Served(tape(room, words("25", "10:00:00:00", 750)))
+        for wide, high in (*SIZES.values(), (800, 480), (1920, 1080), (320, 480)):
+            browser.opens(f"http://127.0.0.1:{served.port}/", wide, high)
+            wait_for(lambda: browser.says("speeds.speeds.length") > 1, what="the speeds")
+            numbers = sorted(map(tuple, browser.says(NUMBERS)))
+            assert len(numbers) >= 2, f"at {wide} by {high} {numbers}"
+            for (one, _), (two, size) in zip(numbers, numbers[1:]):
+                assert two - one >= 0.8 * size, f"at {wide} by {high} two numbers {two - one:.0f} apart: {numbers}"
+        served.end()
+    finally:
+        browser.end()
+
+
 def try_browser(room):
     """The page in a browser, at two sizes: what it says is what the display says, big, and beside nothing."""
     browser = Browser(room)
