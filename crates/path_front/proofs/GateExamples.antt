@@ -4,7 +4,6 @@ use Rattle.cell_path.specs.declared.cell.Bit.{Bit}
 use Rattle.cell_path.specs.declared.cell.Bit.TheVariants.{Zero, One}
 use Rattle.step_grid.specs.declared.grid.Grid.TheVariants.{Repeat, Sum}
 use Rattle.path_front.specs.declared.gate.Ear.{Ear}
-use Rattle.path_front.specs.declared.levels.Range.{Range}
 use Rattle.path_front.specs.declared.measured.Half.{Half}
 use Rattle.path_front.specs.declared.measured.Measured.{Measured}
 use Rattle.path_front.specs.Fit.{apart, is_misfit, usual}

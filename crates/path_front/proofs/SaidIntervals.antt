@@ -1,6 +1,6 @@
 -- A cell lasts four ticks or more, and no more than a file can say; so each of its intervals can be said.
-use Rattle.std.proofs.Common.{◌≡◌, ℕ, ◌+◌, ◌-◌, ◌*◌, ◌<◌, ◌≤◌, min, ltb, Bool, true, false, ◌||◌, List, [], ◌∷◌, subst}
-use Rattle.std.proofs.Common.{sym, arith}
+use Rattle.std.proofs.Common.{ℕ, ◌+◌, ◌-◌, ◌*◌, ◌≤◌, min, ltb, Bool, true, false, ◌||◌, List, [], ◌∷◌}
+use Rattle.std.proofs.Common.{arith}
 use Rattle.std.specs.List.{All}
 use Rattle.std.specs.Int.{div_ceil}
 use Rattle.std.proofs.lemmas.List.Elements.{All-cons, All-nil}

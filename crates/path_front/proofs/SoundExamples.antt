@@ -1,11 +1,9 @@
 -- The numbers of the clip, the hold, the halves and the intervals, each told from its neighbours.
-use Rattle.std.proofs.Common.{◌≡◌, ℕ, ℤ, pos, neg_ℤ, true, false, List, [], ◌∷◌, Option, Some, None, refl}
+use Rattle.std.proofs.Common.{◌≡◌, ℤ, pos, neg_ℤ, true, false, List, [], ◌∷◌, Some, refl}
 use Rattle.cell_path.specs.declared.cell.Bit.TheVariants.{Zero, One}
-use Rattle.cell_path.specs.declared.cell.Sign.TheVariants.{Plus, Minus}
-use Rattle.path_front.specs.declared.hold.Loudness.{Loudness}
+use Rattle.cell_path.specs.declared.cell.Sign.TheVariants.{Minus}
 use Rattle.path_front.specs.declared.hold.Side.TheVariants.{High, Low}
-use Rattle.path_front.specs.declared.measured.Half.{Half}
-use Rattle.path_front.specs.Clip.{clip_at, clipped, clipped_to}
+use Rattle.path_front.specs.Clip.{clip_at, clipped_to}
 use Rattle.path_front.specs.Grid.{total}
 use Rattle.path_front.specs.Hold.{held_at, loudness_of, side_by, side_of, threshold_by}
 use Rattle.path_front.specs.Measured.{half_of, twice}
