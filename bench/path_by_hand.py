@@ -166,11 +166,10 @@ class Half:
     def __init__(self, sound, times, shorter, longer):
         steps = sound[slice(*shorter)] + sound[slice(*longer)]
         self.sum = times * sum(steps)
-        self.squares = sum(step * step for step in steps)
 
-    def apart(self, length, level):
-        """How far its sound lies from a level on its side, in squares."""
-        return self.squares + length * level ** 2 - 2 * level * self.sum
+    def far(self, length, level):
+        """How far its mean sound lies from a level on its side."""
+        return abs(self.sum - length * level) // length
 
 
 class Measured:
@@ -186,9 +185,9 @@ class Measured:
         self.second = Half(sound, last_sign, (self.end - half, self.end), (self.end - self.length + half, self.end))
         self.level = max(0, self.first.sum + self.second.sum) // (2 * self.length)
 
-    def apart(self, level):
+    def far(self, level):
         """How far each half lies from a level."""
-        return [half.apart(self.length, level) for half in (self.first, self.second)]
+        return [half.far(self.length, level) for half in (self.first, self.second)]
 
 
 def mean(cells):
@@ -215,8 +214,8 @@ def refused(before, cell, behind, threshold):
     if 8 * max(0, before[-1].second.sum + cell.first.sum) < floor * (before[-1].length + cell.length):
         return True
     around = before + behind
-    usual = sum(sum(other.apart(high)) for other in around) // (2 * sum(other.length for other in around))
-    return max(cell.apart(high)) > (usual + 4 * high ** 2) * cell.length
+    usual = sum(min(far, high) ** 2 for other in around for far in other.far(high)) // (2 * len(around))
+    return max(cell.far(high)) ** 2 > 12 * usual + 2 * high ** 2
 
 
 def broken(cells, threshold, grain):

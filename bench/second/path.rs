@@ -255,7 +255,6 @@ impl Paths {
 /// What is measured of a half.
 struct Half {
     s: i64,
-    q: i64,
 }
 
 impl Half {
@@ -263,13 +262,12 @@ impl Half {
     fn of(sound: &[i64], sign: usize, parts: [(i64, i64); 2]) -> Half {
         let steps = parts.iter().flat_map(|(from, to)| &sound[from.max(&0).unsigned_abs() as usize..*to.max(&0) as usize]);
         let factor = 1 - 2 * sign as i64;
-        let (sum, q) = steps.fold((0, 0), |(sum, q), it| (sum + it, q + it * it));
-        Half { s: factor * sum, q }
+        Half { s: factor * steps.sum::<i64>() }
     }
 
-    /// How far its sound lies from a level on its side, in squares.
-    fn apart(&self, length: i64, level: i64) -> i64 {
-        self.q + length * level * level - 2 * level * self.s
+    /// How far its mean sound lies from a level on its side.
+    fn far(&self, length: i64, level: i64) -> i64 {
+        (self.s - length * level).abs() / length
     }
 }
 
@@ -295,8 +293,8 @@ impl Measured {
     }
 
     /// How far each half lies from a level.
-    fn halves_apart(&self, level: i64) -> [i64; 2] {
-        [&self.first, &self.second].map(|half| half.apart(self.length(), level))
+    fn halves_far(&self, level: i64) -> [i64; 2] {
+        [&self.first, &self.second].map(|half| half.far(self.length(), level))
     }
 }
 
@@ -335,10 +333,9 @@ fn breaks(cells: &[Measured], place: usize, threshold: i64, grid: Grid) -> bool 
     let heard = 8 * (last.second.s + it.first.s).max(0);
     let is_faint = heard < (eighths * low).max(2 * threshold) * (last.length() + it.length());
     let around = || before.iter().chain(behind);
-    let all: i64 = around().flat_map(|other| other.halves_apart(high)).sum();
-    let usual = all / (2 * around().map(Measured::length).sum::<i64>());
-    let most = (usual + 4 * high * high) * it.length();
-    let is_misfit = it.halves_apart(high).into_iter().any(|apart| apart > most);
+    let all: i64 = around().flat_map(|other| other.halves_far(high)).map(|far| far.min(high).pow(2)).sum();
+    let usual = all / (2 * around().count() as i64);
+    let is_misfit = it.halves_far(high).into_iter().any(|far| far * far > 12 * usual + 2 * high * high);
     it.cell.jumps || is_faint || is_misfit || bends(cells, place, grid)
 }
 

@@ -6,7 +6,7 @@ use Rattle.step_grid.specs.declared.grid.Grid.TheVariants.{Repeat, Sum}
 use Rattle.path_front.specs.declared.gate.Ear.{Ear}
 use Rattle.path_front.specs.declared.measured.Half.{Half}
 use Rattle.path_front.specs.declared.measured.Measured.{Measured}
-use Rattle.path_front.specs.Fit.{apart, is_misfit, usual}
+use Rattle.path_front.specs.Fit.{far, is_misfit, square_far, usual}
 use Rattle.path_front.specs.Gate.{breaks, ear_of, refuses}
 use Rattle.path_front.specs.Levels.{is_faint, level_of, mean_level, range_by}
 
@@ -89,14 +89,20 @@ both_halves = refl
 
 -- ---- fit
 
-on_the_level : apart 100 (zero_of 100).first 20 ≡ 0
+on_the_level : far 100 (zero_of 100).first 20 ≡ 0
 on_the_level = refl
 
-beside_it : apart 90 (zero_of 100).first 20 ≡ 20 * 100
-beside_it = refl
+above_it : far 90 (zero_of 100).first 20 ≡ 10
+above_it = refl
 
-on_the_wrong_side : apart 100 (record { sum = neg_ℤ (pos 2_000); squares = 200_000 }) 20 ≡ 20 * 40_000
+below_it : far 110 (zero_of 100).first 20 ≡ 10
+below_it = refl
+
+on_the_wrong_side : far 100 (half (neg_ℤ (pos 2_000))) 20 ≡ 200
 on_the_wrong_side = refl
+
+no_more_than_the_level : square_far 100 (half (neg_ℤ (pos 2_000))) 20 ≡ 10_000
+no_more_than_the_level = refl
 
 usual_of_two : usual 100 (zero_of 100 ∷ []) (zero_of 70 ∷ []) ≡ 450
 usual_of_two = refl
@@ -104,31 +110,29 @@ usual_of_two = refl
 usual_before : usual 100 (zero_of 70 ∷ []) [] ≡ 900
 usual_before = refl
 
--- a half without sound is as far as the level: so is one whose squares are so much more
-abbrev with_squares : ℕ → Measured
-with_squares squares = record {
-  span = 20;
-  length = 20;
-  bit = Zero;
-  jumps = false;
-  first = (zero_of 100).first;
-  second = record { sum = pos 2_000; squares = 200_000 + squares };
-}
+-- a half that lies 141 from a level of 100, and one that lies 142
+two_squares : is_misfit 100 0 (cell Zero (neg_ℤ (pos 820)) (pos 2_000)) ≡ false
+two_squares = refl
 
-four_squares : is_misfit 100 0 (with_squares 800_000) ≡ false
-four_squares = refl
+more_than_two : is_misfit 100 0 (cell Zero (neg_ℤ (pos 840)) (pos 2_000)) ≡ true
+more_than_two = refl
 
-more_than_four : is_misfit 100 0 (with_squares 800_001) ≡ true
-more_than_four = refl
+second_half : is_misfit 100 0 (cell Zero (pos 2_000) (neg_ℤ (pos 840))) ≡ true
+second_half = refl
 
-as_far_as_usual : is_misfit 100 50 (with_squares 801_000) ≡ false
-as_far_as_usual = refl
+-- 142² is 20,164
+twelve_times_usual : is_misfit 100 14 (cell Zero (neg_ℤ (pos 840)) (pos 2_000)) ≡ false
+twelve_times_usual = refl
 
-more_than_usual : is_misfit 100 50 (with_squares 801_001) ≡ true
-more_than_usual = refl
+less_than_that : is_misfit 100 13 (cell Zero (neg_ℤ (pos 840)) (pos 2_000)) ≡ true
+less_than_that = refl
 
-first_half : is_misfit 100 0 (cell Zero (neg_ℤ (pos 2_000)) (pos 2_000)) ≡ false
-first_half = refl
+-- 200² is 40,000: a half on the wrong side, where a twelfth of two squares is usual
+wrong_beside_noise : is_misfit 100 1_666 (cell Zero (neg_ℤ (pos 2_000)) (pos 2_000)) ≡ true
+wrong_beside_noise = refl
+
+as_wrong_as_usual : is_misfit 100 1_667 (cell Zero (neg_ℤ (pos 2_000)) (pos 2_000)) ≡ false
+as_wrong_as_usual = refl
 
 -- ---- neighbours: of eight the level counts, and of the ninth not
 
@@ -148,23 +152,23 @@ loud_behind = refl
 faint_beside_loud : refuses ear (eight 1_000) (zero_of 100) (eight 1_000) ≡ false
 faint_beside_loud = refl
 
-too_loud : refuses ear (eight 100) (zero_of 301) (eight 100) ≡ true
+too_loud : refuses ear (eight 100) (zero_of 242) (eight 100) ≡ true
 too_loud = refl
 
-not_too_loud : refuses ear (eight 100) (zero_of 300) (eight 100) ≡ false
+not_too_loud : refuses ear (eight 100) (zero_of 241) (eight 100) ≡ false
 not_too_loud = refl
 
-the_eighth_counts : refuses ear (replicate 7 (zero_of 100) ++ zero_of 108 ∷ []) (zero_of 301) (eight 100) ≡ false
+the_eighth_counts : refuses ear (replicate 7 (zero_of 100) ++ zero_of 108 ∷ []) (zero_of 242) (eight 100) ≡ false
 the_eighth_counts = refl
 
-the_ninth_does_not : refuses ear (eight 100 ++ zero_of 108 ∷ []) (zero_of 301) (eight 100) ≡ true
+the_ninth_does_not : refuses ear (eight 100 ++ zero_of 108 ∷ []) (zero_of 242) (eight 100) ≡ true
 the_ninth_does_not = refl
 
-the_eighth_behind_counts : refuses ear (eight 100) (zero_of 301) (replicate 7 (zero_of 100) ++ zero_of 108 ∷ [])
+the_eighth_behind_counts : refuses ear (eight 100) (zero_of 242) (replicate 7 (zero_of 100) ++ zero_of 108 ∷ [])
     ≡ false
 the_eighth_behind_counts = refl
 
-the_ninth_behind_does_not : refuses ear (eight 100) (zero_of 301) (eight 100 ++ zero_of 108 ∷ []) ≡ true
+the_ninth_behind_does_not : refuses ear (eight 100) (zero_of 242) (eight 100 ++ zero_of 108 ∷ []) ≡ true
 the_ninth_behind_does_not = refl
 
 the_first_is_none : refuses ear [] (zero_of 1) (eight 100) ≡ false

@@ -8,13 +8,14 @@ use Rattle.cell_path.specs.declared.cell.Bit.{Bit}
 use Rattle.cell_path.specs.declared.cell.Bit.TheVariants.{Zero, One}
 use Rattle.path_front.specs.declared.gate.Ear.{Ear}
 use Rattle.path_front.specs.declared.levels.Range.{Range}
+use Rattle.path_front.specs.declared.measured.Half.{Half}
 use Rattle.path_front.specs.declared.measured.Measured.{Measured}
 use Rattle.path_front.specs.Bend.{bends, bends_from, beyond, is_peak, keep_pace, peaks}
-use Rattle.path_front.specs.Fit.{apart, is_misfit, usual}
+use Rattle.path_front.specs.Fit.{far, is_misfit, usual}
 use Rattle.path_front.specs.Gate.{refuses}
 use Rattle.path_front.specs.Levels.{above, eighths, is_faint, mean_level, range_by}
-use Rattle.path_truth.proofs.FairCells.{above-both, mean-level, take-fair, AreFair, IsFair, IsLevel}
-use Rattle.path_truth.proofs.FairFit.{half-fits, times}
+use Rattle.path_truth.proofs.FairCells.{above-both, mean-level, take-fair, AreFair, IsFair, IsFairHalf, IsLevel}
+use Rattle.path_truth.proofs.FairFit.{half-fits, square-fits, times}
 
 pub neither : (a b : Bool) → a ≡ false → b ≡ false → (a || b) ≡ false
 neither false b one two = two
@@ -78,20 +79,16 @@ range-of low high n cell near (next ∷ ahead) are behind =
 
 -- ---- its fit
 
-misfit-by : (around square n first second : ℕ) → first ≤ 3 * square * n → second ≤ 3 * square * n
-    → ltb ((around + 4 * square) * n) (max first second) ≡ false
-misfit-by around square n first second one two =
-    let more = times (3 * square) (around + 4 * square) n n (omega arith) (omega arith) in
-    le-ltb ((around + 4 * square) * n) (max first second) (omega (arith, one, two, more))
-
 no-misfit : (low high n level around : ℕ) (cell : Measured) → 5 * high ≤ 12 * low → IsFair low high n cell
     → IsLevel low high level → is_misfit level around cell ≡ false
 no-misfit low high n level around cell near is between =
-    subst (λ k. ltb ((around + 4 * (level * level)) * k) (max (apart level cell.first k) (apart level cell.second k))
-    ≡ false) (sym is.length_is)
-    (misfit-by around (level * level) n (apart level cell.first n) (apart level cell.second n)
-    (half-fits low high level n cell.first near is.first between)
-    (half-fits low high level n cell.second near is.second between))
+    let fits = λ (half : Half) (fair : IsFairHalf low high n half). subst (λ k. 5 * far level half k ≤ 7 * level)
+    (sym is.length_is) (half-fits low high level n half is.some near fair between) in
+    let first = fits cell.first is.first in
+    let second = fits cell.second is.second in
+    let most = max (far level cell.first cell.length) (far level cell.second cell.length) in
+    let both : 5 * most ≤ 7 * level = omega (arith, first, second) in
+    le-ltb (12 * around + 2 * (level * level)) (most * most) (omega (arith, square-fits most level both))
 
 -- ---- its length
 
