@@ -48,7 +48,8 @@ fn all_far(level: u64, cells: &[Measured]) -> u64
 {
     let mut sum = 0;
     for cell in cells {
-        sum += square_far(level, &cell.first, cell.length) + square_far(level, &cell.second, cell.length);
+        sum += square_far(level, &cell.first, cell.length)
+            + square_far(level, &cell.second, cell.length);
     }
     sum
 }
