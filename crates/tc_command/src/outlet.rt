@@ -46,6 +46,8 @@ impl<'a, K: Sink> Outlet<'a, K> {
     }
 
     /// Pushes what is gathered, unless a push failed.
+    // Out of line: it is rare, and the loops that gather are short only without it.
+    #[inline(never)]
     fn push_gathered(&mut self)
         ensures same { self.new.sink.ghost_name ≡ self.old.sink.ghost_name }
         ensures given { IsGiven (K.written self.old.sink.now) (K.written self.new.sink.now)
@@ -104,7 +106,9 @@ impl<K: Sink> Output for Outlet<'_, K> {
         (then.0 ∙ first.0, more_given _ _ _ _ _ _ _ _ _ _ _ _ bytes more first.1 then.1) };
 
     fn write(&mut self, bytes: &[u8]) {
-        self.push_gathered();
+        if !self.gathered.is_empty() {
+            self.push_gathered();
+        }
         self.push(bytes);
     }
 
