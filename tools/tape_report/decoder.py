@@ -86,11 +86,30 @@ class Decoder:
         return first_line(self.notes.read(65_536))
 
 
+class Done(NamedTuple):
+    """A decoder that has ended well, and gave all."""
+
+    whole: float
+    output: None = None
+
+    def wait(self) -> int:
+        return 0
+
+    def seconds(self) -> float:
+        return self.whole
+
+    def note(self) -> str:
+        return ""
+
+    def close(self) -> None:
+        pass
+
+
 class Kept(NamedTuple):
     """A stream that was decoded into a file without a name, and how that went."""
 
     file: IO[bytes]
-    decoder: Decoder
+    decoder: "Decoder | Done"
 
 
 def kept(path: str, stream: int) -> Kept:

@@ -10,7 +10,7 @@ from collections.abc import Callable, Iterator, Sequence
 from typing import IO
 
 
-from .decoder import Decoder
+from .decoder import Decoder, Done
 from .faults import Fault, NoProgram, NoSound, NotThere
 from .front_ends import FrontEnd
 from .programs import program
@@ -150,7 +150,7 @@ class Slicing:
         is_cut = self.front.is_path and wave is not None and wave.is_cut
         return f"the file ends inside its samples, at byte {wave.length}" if is_cut and wave else note
 
-    def decoder_ended(self, decoder: Decoder, note: str, is_empty: bool) -> str:
+    def decoder_ended(self, decoder: Decoder | Done, note: str, is_empty: bool) -> str:
         # It has no reader any more, if `tc` gave up.
         self.input.output.close()
         status, seconds, said = decoder.wait(), decoder.seconds() or 0.0, decoder.note()

@@ -3,12 +3,12 @@ import os
 import shutil
 import struct
 import threading
-from collections.abc import Sequence
+from collections.abc import Callable, Sequence
 from dataclasses import dataclass, field
 from typing import IO, Any
 
 from . import programs
-from .decoder import Decoder, Kept, kept, number_in, streams_of
+from .decoder import Decoder, Done, Kept, kept, number_in, streams_of
 from .faults import NoSound, NotThere
 from .source import Source, path_of
 from .wave import NO_SIZE, Wave, is_wave, wave_of
@@ -50,6 +50,8 @@ class Sound:
     levels: dict[int, Any] = field(default_factory=dict)
     # Streams that were decoded once, by their numbers.
     kept: dict[int, Kept] = field(default_factory=dict)
+    # Decodes its one stream without ffmpeg, where that can be.
+    other_decoder: Callable[[], Kept | None] | None = None
 
     @property
     def tracks(self) -> int:
@@ -70,7 +72,8 @@ class Sound:
         if not self.is_decoded or size >= MOST_KEPT:
             return self.open(stream)
         if stream.number not in self.kept:
-            self.kept[stream.number] = kept(self.source.path, stream.number)
+            by_another = self.other_decoder() if self.other_decoder else None
+            self.kept[stream.number] = by_another or kept(self.source.path, stream.number)
         there = self.kept[stream.number]
         return Input(file=open(path_of(there.file), "rb"), decoder=there.decoder)
 
@@ -92,7 +95,7 @@ class Input:
     """Where a WAV file is read from, and what runs for it."""
 
     file: IO[bytes] | None = None
-    decoder: Decoder | None = None
+    decoder: Decoder | Done | None = None
 
     @property
     def output(self) -> IO[bytes]:
@@ -151,9 +154,10 @@ def decoded_sound(source: Source, form: Wave | None) -> Sound:
     from . import flac
 
     if (header := flac.header_of(source.path)) is not None:
-        seconds = header.samples / header.rate
-        stream = Stream(header.tracks, header.rate, seconds=seconds)
-        return Sound(source, "flac", [stream], seconds, form, is_decoded=True)
+        stream = Stream(header.tracks, header.rate, seconds=header.seconds)
+        sound = Sound(source, "flac", [stream], header.seconds, form, is_decoded=True)
+        sound.other_decoder = lambda: flac.kept(source.path, header)
+        return sound
     sounds, whole = streams_of(source.path)
     kind, coded = str(whole.get("format_name", "sound")).split(",")[0], str(sounds[0].get("codec_name", "unknown"))
     streams = [stream_of(it, number, kind not in ESTIMATED) for number, it in enumerate(sounds)]

@@ -1,6 +1,7 @@
 """MOV, MP4 and MXF files, and their stamps."""
 import os
 import re
+import struct
 import subprocess
 
 from .making import code, intervals, tone, wav
@@ -59,6 +60,44 @@ def try_drop_in_containers(room):
     copy = os.path.join(room, "copy.mov")
     tape(video(room, "tape.mov", made, "60000/1001"), "--stamp", copy, "--force")
     assert timecode_in(copy) == "00:00:59;58", timecode_in(copy)
+
+
+XMP = b"""<x:xmpmeta xmlns:x="adobe:ns:meta/"><rdf:RDF xmlns:rdf="http://www.w3.org/1999/02/22-rdf-syntax-ns#">
+<rdf:Description xmlns:xmpDM="http://ns.adobe.com/xmp/1.0/DynamicMedia/">
+<xmpDM:startTimecode xmpDM:timeFormat="25Timecode" xmpDM:timeValue="01:00:00:00"/>
+</rdf:Description></rdf:RDF></x:xmpmeta>"""
+XMP_BOX = bytes.fromhex("be7acfcb97a942e89c71999491e3afac")
+
+
+def box(name, body):
+    return struct.pack(">I", 8 + len(body)) + name + body
+
+
+def with_xmp(data):
+    """A MOV whose last box is `moov`, with XMP in it as editors write it, and with XMP in a box behind it."""
+    at, size = 0, 0
+    while at + size < len(data):
+        at += size
+        size = int.from_bytes(data[at : at + 4], "big")
+    assert data[at + 4 : at + 8] == b"moov", "ffmpeg writes it in another place"
+    inside = data[:at] + box(b"moov", data[at + 8 :] + box(b"udta", box(b"XMP_", XMP)))
+    return inside, data + box(b"uuid", XMP_BOX + XMP)
+
+
+def try_xmp_in_a_mov(room):
+    """XMP of a container may say when it begins; ffmpeg does not keep it, so the copy has none, and that is told."""
+    path = video(room, "tape.mov", code(48_000, intervals("25", "10:00:00:00", 60), lead=9600))
+    with open(path, "rb") as file:
+        variants = with_xmp(file.read())
+    for data in variants:
+        copy = os.path.join(room, "copy.mov")
+        with open(path, "wb") as file:
+            file.write(data)
+        out, _ = tape(path, "--stamp", copy, "--force")
+        has(out, "copy          not kept: xmp")
+        assert timecode_in(copy) == "09:59:59:20", timecode_in(copy)
+        with open(copy, "rb") as file:
+            assert b"startTimecode" not in file.read(), "the copy has XMP that says another beginning"
 
 
 def try_pictures(room):

@@ -11,12 +11,13 @@ import time
 
 from live_tries.stage import free_port, wait_for
 from live_tries.terminal import Terminal
+from tape_report.jobs import JOB
 
 from . import running
 from .folders import archive_of, table_of
 from .left_out import archive
 from .machines import hosts
-from .making import TC, code, intervals, packed
+from .making import TC, code, intervals, packed, wav
 from .running import ARCHIVE, TAPE, NotTried, has, run, tape, want
 
 RATE = 12_000
@@ -69,6 +70,37 @@ def try_dead_host(room):
             lines.write(first.replace("127.0.0.1", "127.0.0.9"))
         told, _ = archive(folder, out, "--hosts", file, "--jobs", "2")
     has(told, "9 tapes: 7 with code, 1 without, 1 failed, 0 not read")
+    assert table_of(out) == table_of(alone), "the tables differ"
+
+
+DYING = """#!/bin/sh
+# A way to a host that dies while it does its first job: before that it answers, and behind that nobody does. Parallel writes
+# what is to be done in hexadecimal digits.
+[ ! -e '{room}/died' ] || exit 255
+case "$*" in
+*{job}* | *{job_in_hex}*) touch '{room}/died'; exec timeout -s KILL 0.3 "$@" ;;
+esac
+exec "$@"
+"""
+
+
+def try_host_that_dies(room):
+    """A host that dies in the middle of a job: the others do what it had begun, and the table is that of one."""
+    want("parallel")
+    folder, alone, out = archive_of(room), os.path.join(room, "alone"), os.path.join(room, "out")
+    archive(folder, alone)
+    dying = os.path.join(room, "dying")
+    with open(dying, "w", encoding="ascii") as file:
+        file.write(DYING.format(room=room, job=JOB, job_in_hex=JOB.encode().hex()))
+    os.chmod(dying, 0o755)
+    with hosts(room) as file:
+        with open(file, encoding="ascii") as lines:
+            one, two = lines.read().splitlines()
+        with open(file, "w", encoding="ascii") as lines:
+            lines.write(f"{one}\n{dying} {two}\n")
+        told, _ = archive(folder, out, "--hosts", file, "--jobs", "1")
+    has(told, "9 tapes: 7 with code, 1 without, 1 failed, 0 not read")
+    assert os.path.exists(os.path.join(room, "died")), "the host got no job"
     assert table_of(out) == table_of(alone), "the tables differ"
 
 
@@ -138,23 +170,58 @@ def try_slurm(room):
     assert table_of(out) == table_of(alone), "the tables differ"
 
 
+def watched(room, name, log, script):
+    """A program of this name that notes that it runs, before a line of the shell; the path with it in front."""
+    bin_folder = os.path.join(room, "bin")
+    os.makedirs(bin_folder, exist_ok=True)
+    path = os.path.join(bin_folder, name)
+    with open(path, "w", encoding="ascii") as file:
+        file.write(f"#!/bin/sh\necho {name} >> '{log}'\n{script}\n")
+    os.chmod(path, 0o755)
+    return {**os.environ, "PATH": f"{bin_folder}:{os.environ['PATH']}"}
+
+
 def try_short_streams(room):
-    """A FLAC that is short is read by one run of ffmpeg and none of ffprobe, whatever is asked of it."""
+    """A FLAC that is short is read by one run of flac, whatever is asked of it, and where flac finds a fault or is not
+    there by one run of ffmpeg: both give the same report."""
     want("ffmpeg", "ffprobe", "flac")
-    path = os.path.join(room, "tape.flac")
-    made = packed([code(48_000, intervals("25", "10:00:00:00", 250))] * 2, 16)
-    words = ["flac", "-s", "--endian=little", "--sign=signed", "--channels=2", "--bps=16", "--sample-rate=48000"]
-    subprocess.run([*words, "--force-raw-format", "-o", path, "-"], input=made, check=True)
-    bin_folder, log = os.path.join(room, "bin"), os.path.join(room, "log")
-    os.mkdir(bin_folder)
-    for name in ("ffmpeg", "ffprobe"):
-        script = os.path.join(bin_folder, name)
-        with open(script, "w", encoding="ascii") as file:
-            file.write(f"#!/bin/sh\necho run >> '{log}'\nexec '{shutil.which(name)}' \"$@\"\n")
-        os.chmod(script, 0o755)
-    there = {**os.environ, "PATH": f"{bin_folder}:{os.environ['PATH']}"}
-    ended, out, notes = run(TAPE, path, env=there)
-    assert ended == 0, notes
-    has(out, "2 tracks", "heard         250 frames", "peak")
-    with open(log, encoding="ascii") as file:
-        assert len(file.readlines()) == 1, "more runs than one"
+    path, log = os.path.join(room, "tape.flac"), os.path.join(room, "log")
+    for bits in (16, 24):
+        made = packed([code(48_000, intervals("25", "10:00:00:00", 250))] * 2, bits)
+        words = ["flac", "-s", "-f", "--endian=little", "--sign=signed", "--channels=2", f"--bps={bits}"]
+        words += ["--sample-rate=48000", "--force-raw-format", "-o", path, "-"]
+        subprocess.run(words, input=made, check=True)
+        reports = []
+        for how in (f"exec '{shutil.which('flac')}' \"$@\"", "exit 1"):
+            for name in ("ffmpeg", "ffprobe"):
+                watched(room, name, log, f"exec '{shutil.which(name)}' \"$@\"")
+            ended, out, notes = run(TAPE, path, env=watched(room, "flac", log, how))
+            assert ended == 0, notes
+            has(out, "2 tracks", "heard         250 frames", "peak")
+            reports.append(out)
+            with open(log, encoding="ascii") as file:
+                ran = file.read().split()
+            os.unlink(log)
+            assert ran == (["flac"] if how != "exit 1" else ["flac", "ffmpeg"]), ran
+        assert reports[0] == reports[1], reports
+
+
+def try_lying_flac(room):
+    """A FLAC whose header tells fewer or more samples than it has is read by ffmpeg, as far as it goes."""
+    want("ffmpeg", "ffprobe", "flac")
+    path, log = os.path.join(room, "tape.flac"), os.path.join(room, "log")
+    made = wav(os.path.join(room, "tape.wav"), 48_000, [code(48_000, intervals("25", "10:00:00:00", 100))])
+    subprocess.run(["flac", "-s", "-f", "-o", path, made], check=True)
+    env = watched(room, "ffmpeg", log, f"exec '{shutil.which('ffmpeg')}' \"$@\"")
+    with open(path, "rb") as file:
+        whole = bytearray(file.read())
+    for samples in (48_000, 9_600_000):
+        lying = bytearray(whole)
+        lying[22:26] = struct.pack(">I", samples)
+        with open(path, "wb") as file:
+            file.write(lying)
+        ended, out, notes = run(TAPE, path, env=env)
+        assert ended == 0, notes
+        has(out, "forward  10:00:00:00 to 10:00:03:24")
+        assert os.path.exists(log), "flac's samples were taken"
+        os.unlink(log)
