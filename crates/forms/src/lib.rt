@@ -29,6 +29,7 @@ mod made_labels;
 mod made_sound;
 mod made_stripe;
 mod named;
+pub mod names;
 mod number;
 mod reading;
 mod slot;

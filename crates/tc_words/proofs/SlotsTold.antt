@@ -1,7 +1,7 @@
 -- A word that a slot takes is named by the page, if the page names what the slot takes: this is a test that is computed.
 use Rattle.std.proofs.Common.{◌≡◌, ◌≤◌, ℕ, Bool, true, false, not, ◌&&◌, List, [], ◌∷◌, length, Some, None, refl}
 use Rattle.std.proofs.Common.{◌||◌, ◌<◌, ◌+◌, ◌^◌, arith, inl, inr, zero, suc, get_or, cond, min, nat_lt, le-leb, rules}
-use Rattle.std.specs.Prelude.{codes, nat_le, option_map, option_and_then, slice_get, position}
+use Rattle.std.specs.Prelude.{codes, nat_eq, nat_le, option_map, option_and_then, slice_get, position}
 use Rattle.std.specs.declared.option.Option.{Option}
 use Rattle.std.specs.List.{list_all, list_any}
 use Rattle.std.specs.Option.{is_some}
@@ -48,7 +48,7 @@ names_range least most named = not (is_of_labels named) && names_numbers least m
 -- a row of the command, at a place, whose text is so
 abbrev has_row : (List ℕ → Bool) → Word → ℕ → List ValueRow → Bool
 has_row is command place rows = list_any (λ (row : ValueRow).
-    bytes_eq row.command command && nat_le row.first place && nat_le place row.last && is row.named) rows
+    bytes_eq row.command command && nat_eq row.place place && is row.named) rows
 
 -- each word of a choice is named
 abbrev names_choice : Word → ℕ → ℕ → Bool
@@ -175,11 +175,11 @@ number_named least most named word n names spelled low high = go (is_of_labels n
 
 row_tells : (is : List ℕ → Bool) (command : Word) (place : ℕ) (word : Word) (rows : List ValueRow)
     → ((named : List ℕ) → is named ≡ true → is_named named word ≡ true) → has_row is command place rows ≡ true
-    → list_any (λ (row : ValueRow). bytes_eq row.command command && nat_le row.first place && nat_le place row.last
+    → list_any (λ (row : ValueRow). bytes_eq row.command command && nat_eq row.place place
     && is_named row.named word) rows ≡ true
 row_tells is command place word [] names has = absurd cc
 row_tells is command place word (row ∷ rows) names has =
-    let at = bytes_eq row.command command && nat_le row.first place && nat_le place row.last in
+    let at = bytes_eq row.command command && nat_eq row.place place in
     elim (or_cases (at && is row.named) _ has) [
       | inl this ↦
           let parts = and_parts at (is row.named) this in
