@@ -1,6 +1,6 @@
-//! What the words of each command may be, as its page lists them. Made by tools/make_help_values from the slots by which
-//! they are read (`forms`, `table` and `names`), and a law there holds the two together
-//! (`each_page_lists_what_is_taken`). The last rows say of `help` which words it takes.
+//! What the words of each command may be, as its page lists them. Made by tools/make_help_values from the slots by
+//! which they are read (`table` and `names` of forms), and a law there proves that they are those
+//! (`each_page_lists_what_is_taken`). The last rows, by hand, say of `help` which words it takes.
 use crate::page_line::PageLine;
 
 /// The lines of the values of each command that has some.

@@ -50,8 +50,8 @@ read_told command place before (slot ∷ slots) (word ∷ words) names ok =
 
 -- the page of each command names what its slots take
 each_names : list_all (λ (row : Row). names_slots row.0 1 row.2) forms ≡ true
-unfolding digits forms choices between_bars between_spaces between number_spelled range_text rows_from slot_rows value_rows
-    ways ways_by
+unfolding digits forms choices between_bars between_spaces between number_spelled range_text rows_from slot_rows
+    value_rows ways ways_by
 each_names = refl
 
 -- the form that is found is one of the table
