@@ -1,6 +1,7 @@
 mod AreCommands
 mod DueSamples
 mod Examples
+mod FileOn
 mod FieldsGrow
 mod FieldsTold
 mod LumaIsCommand
@@ -13,14 +14,14 @@ mod Outcomes
 mod PathEnds
 mod PathIsCommand
 mod PathLasts
-mod PathOfBytes
 mod PathOn
 mod PutMore
+mod RawOn
+mod SamplesWithin
 mod SentIsRead
 mod SlicedOn
-mod SlicedTracks
 mod SoundCovered
+mod SoundOn
 mod TrackGoesOn
 mod TrackOfAFile
 mod TrackPathIsCommand
-mod TrackPathOn

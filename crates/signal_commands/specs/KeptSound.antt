@@ -1,36 +1,172 @@
--- What a sound keeps on its way into the intervals of its best path. No promise speaks of it.
-use Rattle.std.specs.Prelude.{◌≡◌, ℕ, ℤ, List, length, reverse}
-use Rattle.interval_file.specs.Grammar.{file_of}
-use Rattle.path_front.specs.Front.{AreIntervalsSoFar, FrontState, FrontStandsFor, IsAllGiven, IsGivenSoFar}
-use Rattle.path_front.specs.Front.{IsReady}
-use Rattle.signal_commands.specs.declared.path_sound.PathSound.{PathSound}
-use Rattle.signal_commands.specs.PcmPath.{path_header}
+-- What the engine of each command that reads sound keeps: a container, which makes samples of bytes, and a front, which
+-- makes intervals of samples. No promise speaks of it.
+use Rattle.std.specs.Prelude.{◌≡◌, ℕ, ◌<◌, ◌≤◌, Bool, true, false, ℤ, List, [], ◌++◌, length}
+use Rattle.std.specs.Prelude.{take, Option, Some, None}
+use Rattle.tc_command.specs.declared.halt.Halt.{Halt}
+use Rattle.tc_command.specs.declared.halt.Halt.TheVariants as halts
+use Rattle.tc_command.specs.declared.input_fault.InputFault.{InputFault}
+use Rattle.tc_command.specs.Meaning.{Meaning, Shows}
+use Rattle.tc_io.specs.Verdict.{Verdict, good, refused, past_limit}
+use Rattle.wave_file.specs.declared.format.WaveFormat.{WaveFormat}
+use Rattle.signal_commands.specs.declared.brought.Brought.{Brought}
+use Rattle.signal_commands.specs.declared.brought.TheConstants.{ROOM}
+use Rattle.signal_commands.specs.declared.brought.Brought.TheVariants.{Samples, Begin, Halt as Halts}
 
--- how many samples it was given
-abbrev pub samples_heard : PathSound → ℕ
-samples_heard s = s.front.judging.cells.steps.clip.count
+-- what bytes say of a sound: its format, where they tell it, and whether samples may come; the samples within the limit,
+-- and all of them; and whether the bytes are good
+pub record Said : Type 0 where
+  pub format : Option WaveFormat
+  pub begun : Bool
+  pub samples : List ℤ
+  pub all : List ℤ
+  pub verdict : Verdict InputFault
 
--- the front is that of the words
-pub record IsOfWords (s : PathSound) : Type 0 where
-  pub grid : s.front.judging.cells.steps.grid ≡ s.path.grid
-  pub ticks : s.front.ticks ≡ s.path.ticks
-  pub least : s.front.judging.cells.steps.hold.least ≡ s.path.least
+-- a container: what is asked of it; what bytes say then, and the fault of their end; how many samples there are at
+-- most, and in which formats; for which bytes it stands, and how many it still takes at most
+pub record Way (C A : Type 0) : Type 1 where
+  pub asked : C → A
+  pub says : A → List ℕ → Said
+  pub ends : A → List ℕ → Option InputFault
+  pub most : A → ℕ
+  pub tells : A → WaveFormat → Type 0
+  pub holds : C → List ℕ → Type 0
+  pub left : C → ℕ
 
--- and it has given all that they bring
-pub record IsGoing (s : PathSound) : Type 0 where
-  pub words : IsOfWords s
-  pub ready : IsReady s.front
+-- a front: what is written of samples before their end and of all of them, by the words and the format that is told;
+-- the formats that it fits, and how many samples it takes; and for which samples it stands, and what it wrote of them
+pub record Play (F W : Type 0) : Type 1 where
+  pub so_far : W → Option WaveFormat → List ℤ → List ℕ → Type 0
+  pub whole : W → Option WaveFormat → List ℤ → List ℕ → Type 0
+  pub fits : W → Option WaveFormat → Type 0
+  pub most : ℕ
+  pub hears : F → W → Option WaveFormat → List ℤ → List ℕ → Type 0
 
--- all intervals that it has were given
-pub record HasGiven (front : FrontState) (samples : List ℤ) (given : List ℕ) : Type 0 where
-  pub stands : FrontStandsFor front samples given
-  pub all : IsAllGiven front samples given
-  pub so_far : IsGivenSoFar front samples given
+-- what a command takes and what it writes, by what is asked and by its words
+abbrev pub along_sound : {C A F W : Type 0} → Way C A → Play F W → A × W → Meaning
+along_sound way play choice = record {
+  reads = true;
+  verdict = λ bytes. (way.says choice.0 bytes).verdict;
+  end_fault = λ bytes. way.ends choice.0 bytes;
+  spent = λ bytes. ⊥;
+  part = λ bytes written. let s = way.says choice.0 bytes in play.so_far choice.1 s.format s.samples written;
+  output = λ bytes written. let s = way.says choice.0 bytes in play.whole choice.1 s.format s.all written;
+}
 
--- it was given these samples, in their order; what was written is the header and the intervals that they bring
-pub record HearsSamples (s : PathSound) (samples : List ℤ) (written : List ℕ) : Type 0 where
-  pub count : samples_heard s ≡ length samples
-  pub given : List ℕ
-  pub front : FrontStandsFor s.front (reverse samples) given
-  pub so_far : AreIntervalsSoFar s.path.grid s.path.ticks s.path.least (reverse samples) given
-  pub are : written ≡ file_of (path_header s.path) given
+-- ---- what a container brings
+
+-- so many of the bytes were taken
+pub record Takes {C A : Type 0} (way : Way C A) (old new : C) (bytes : List ℕ) (count : ℕ) : Type 0 where
+  pub some : 1 ≤ count
+  pub within : count ≤ length bytes
+  pub asked : way.asked new ≡ way.asked old
+  pub left : way.left new < way.left old
+  pub holds : (front : List ℕ) → way.holds old front → way.holds new (front ++ take count bytes)
+
+-- they bring these samples; none come before the format
+pub record Adds (most : ℕ) (before now : Said) (more : List ℤ) : Type 0 where
+  pub format : now.format ≡ before.format
+  pub begun : now.begun ≡ before.begun
+  pub samples : now.samples ≡ before.samples ++ more
+  pub none : before.begun ≡ false → more ≡ []
+  pub few : length now.samples ≤ most
+
+-- or the format
+pub record Begins (before now : Said) (is : WaveFormat) : Type 0 where
+  pub waited : before.begun ≡ false
+  pub begun : now.begun ≡ true
+  pub format : now.format ≡ Some is
+  pub samples : now.samples ≡ before.samples
+
+-- what bytes show where the work halts
+abbrev pub shown : Halt → Verdict InputFault
+shown (halts.Refused fault) = refused fault
+shown halts.Limit = past_limit
+
+-- or they end it, behind the samples before them
+pub record Ends (before now : Said) (halt : Halt) : Type 0 where
+  pub format : now.format ≡ before.format
+  pub samples : now.samples ≡ before.samples
+  pub verdict : now.verdict ≡ shown halt
+
+-- what is said of the bytes so far and of those with more of them
+abbrev pub From : {C A : Type 0} → Way C A → C → List ℕ → (Said → Said → Type 0) → Type 0
+From way old more says = (front : List ℕ) → way.holds old front
+    → says (way.says (way.asked old) front) (way.says (way.asked old) (front ++ more))
+
+abbrev pub IsBrought : {C A : Type 0} → Way C A → C → C → List ℕ → List ℤ → Brought → Type 0
+IsBrought way old new bytes room (Samples count samples) =
+    Takes way old new bytes count × (samples ≤ ROOM)
+    × From way old (take count bytes) (λ before now. Adds (way.most (way.asked old)) before now (take samples room))
+IsBrought way old new bytes room (Begin count format) =
+    Takes way old new bytes count × way.tells (way.asked old) format
+    × From way old (take count bytes) (λ before now. Begins before now format)
+IsBrought way old new bytes room (Halts halt) =
+    (way.asked new ≡ way.asked old) × From way old bytes (λ before now. Ends before now halt)
+
+-- ---- a front, or none before the samples begin
+
+-- nothing is said, and nothing is written of that
+pub record Waits {F W : Type 0} (play : Play F W) (words : W) (said : Said) (written : List ℕ) : Type 0 where
+  pub waits : said.begun ≡ false
+  pub format : said.format ≡ None
+  pub samples : said.samples ≡ []
+  pub are : written ≡ []
+  pub so_far : play.so_far words None [] []
+  pub whole : play.whole words None [] []
+
+-- the front was given the samples
+pub record Hears {F W : Type 0} (play : Play F W) (words : W) (front : F) (said : Said) (written : List ℕ) : Type 0
+  where
+    pub begun : said.begun ≡ true
+    pub hears : play.hears front words said.format said.samples written
+
+abbrev pub HearsIfAny : {F W : Type 0} → Play F W → W → Option F → Said → List ℕ → Type 0
+HearsIfAny play words None said written = Waits play words said written
+HearsIfAny play words (Some front) said written = Hears play words front said written
+
+-- ---- the engine
+
+-- it was given these bytes, and its front their samples
+pub record Stands {C A F W : Type 0} (way : Way C A) (play : Play F W) (container : C) (front : Option F) (words : W)
+    (bytes written : List ℕ) : Type 0 where
+  pub holds : way.holds container bytes
+  pub hears : HearsIfAny play words front (way.says (way.asked container) bytes) written
+
+-- the front takes as many samples as the container gives, in each of its formats
+pub record Suits {C A F W : Type 0} (way : Way C A) (play : Play F W) (asked : A) (words : W) : Type 0 where
+  pub most : way.most asked ≤ play.most
+  pub fits : (format : WaveFormat) → way.tells asked format → play.fits words (Some format)
+
+-- and there are bytes for which it stands
+pub record IsGoing {C A F W : Type 0} (way : Way C A) (play : Play F W) (container : C) (front : Option F) (words : W)
+    : Type 0 where
+  pub suits : Suits way play (way.asked container) words
+  pub bytes : List ℕ
+  pub written : List ℕ
+  pub stands : Stands way play container front words bytes written
+
+-- what a front writes well
+abbrev pub PlaysWell : {F W : Type 0} → Play F W → Type 0
+PlaysWell {F = F} {W = W} play = (front : F) (words : W) (format : Option WaveFormat) (samples : List ℤ)
+    (written : List ℕ) → play.hears front words format samples written → play.so_far words format samples written
+
+-- what was written is what the samples bring so far
+pub so_far_is : {F W : Type 0} (play : Play F W) → PlaysWell play → (words : W) (front : Option F) (said : Said)
+    (written : List ℕ) → HearsIfAny play words front said written
+    → play.so_far words said.format said.samples written
+so_far_is play well words None said written waits =
+    rw (waits.format, waits.samples, waits.are) waits.so_far
+so_far_is play well words (Some front) said written hears =
+    well front words said.format said.samples written hears.hears
+
+pub stands_well : {C A F W : Type 0} (way : Way C A) (play : Play F W)
+    → ((container : C) (bytes : List ℕ) → way.holds container bytes
+    → (way.says (way.asked container) bytes).verdict ≡ good)
+    → PlaysWell play → (container : C) (front : Option F) (words : W) (bytes written : List ℕ)
+    → Stands way play container front words bytes written
+    → Shows (along_sound way play (way.asked container, words)) good bytes
+    × Meaning.part (along_sound way play (way.asked container, words)) bytes written
+stands_well way play is_good well container front words bytes written stands = (
+  record { is = is_good container bytes stands.holds; unspent = λ spent. spent },
+  so_far_is play well words front (way.says (way.asked container) bytes) written stands.hears,
+)

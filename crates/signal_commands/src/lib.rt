@@ -21,6 +21,9 @@
 //! `wav_path`.
 #![tactic(auto)]
 
+mod brought;
+mod container;
+mod front;
 pub mod laws;
 mod luma_lines;
 mod luma_vitc;
@@ -28,6 +31,10 @@ mod mtc_read;
 mod path_sound;
 mod pcm_ltc;
 mod pcm_path;
+mod raw_samples;
+mod sliced;
+mod sound;
+mod sound_file;
 mod spelling;
 mod vitc_read;
 mod wav_ltc;
