@@ -14,10 +14,10 @@ use Rattle.wave_file.specs.StandsFor.{bytes_taken, format_in_decoding, AddsBlock
 use Rattle.wave_file.specs.StandsFor.{StopsAt}
 use Rattle.wave_file.specs.Wave.{reading_of}
 use Rattle.signal_commands.specs.declared.sound_file.SoundFile.{SoundFile}
-use Rattle.signal_commands.specs.KeptFile.{file_said, file_way, is_known, HoldsFile}
+use Rattle.signal_commands.specs.KeptFile.{file_said, file_kind, is_known, HoldsFile}
 use Rattle.signal_commands.specs.declared.brought.Brought.{Brought}
 use Rattle.signal_commands.specs.declared.brought.Brought.TheVariants.{Samples, Begin, Halt}
-use Rattle.signal_commands.specs.KeptSound.{Adds, Begins, Ends, IsBrought, Takes, Way}
+use Rattle.signal_commands.specs.KeptListening.{Adds, Begins, Ends, IsBrought, Takes, ContainerKind}
 
 -- what holds of whatever bytes say
 abbrev pub Reads : Type 0
@@ -164,7 +164,7 @@ limit_ends s front bytes holds stops =
 
 pub takes_on : (s next : SoundFile) (bytes : List ℕ) (count : ℕ) (samples : List ℤ)
     → Decodes s.decoder next.decoder (take count bytes) samples → 1 ≤ count → count ≤ length bytes
-    → bytes_taken next.decoder ≡ bytes_taken s.decoder + count → Takes file_way s next bytes count
+    → bytes_taken next.decoder ≡ bytes_taken s.decoder + count → Takes file_kind s next bytes count
 takes_on s next bytes count samples decodes some within taken = record {
   some = some;
   within = within;
@@ -173,11 +173,11 @@ takes_on s next bytes count samples decodes some within taken = record {
   holds = λ front holds. holds_on s next front (take count bytes) samples decodes holds;
 }
 
-takes_behind : {C A : Type 0} (way : Way C A) (s mid new : C) (bytes : List ℕ) (count : ℕ)
-    → way.asked mid ≡ way.asked s → way.left mid ≡ way.left s
-    → ((front : List ℕ) → way.holds s front → way.holds mid front)
-    → Takes way mid new bytes count → Takes way s new bytes count
-takes_behind way s mid new bytes count asked left holds t = record {
+takes_behind : {C A : Type 0} (holding : ContainerKind C A) (s mid new : C) (bytes : List ℕ) (count : ℕ)
+    → holding.asked mid ≡ holding.asked s → holding.left mid ≡ holding.left s
+    → ((front : List ℕ) → holding.holds s front → holding.holds mid front)
+    → Takes holding mid new bytes count → Takes holding s new bytes count
+takes_behind holding s mid new bytes count asked left holds t = record {
   some = t.some;
   within = t.within;
   asked = t.asked ∙ asked;
@@ -186,26 +186,26 @@ takes_behind way s mid new bytes count asked left holds t = record {
 }
 
 -- where nothing was taken before, it is the same
-pub behind_none : {C A : Type 0} (way : Way C A) (s mid new : C) (bytes : List ℕ) (room : List ℤ) (b : Brought)
-    → way.asked mid ≡ way.asked s → way.left mid ≡ way.left s
-    → ((front : List ℕ) → way.holds s front → way.holds mid front)
-    → IsBrought way mid new bytes room b → IsBrought way s new bytes room b
-behind_none {A = A} way s mid new bytes room (Samples count samples) asked left holds b = (
-  takes_behind way s mid new bytes count asked left holds b.0,
+pub behind_none : {C A : Type 0} (holding : ContainerKind C A) (s mid new : C) (bytes : List ℕ) (room : List ℤ) (b : Brought)
+    → holding.asked mid ≡ holding.asked s → holding.left mid ≡ holding.left s
+    → ((front : List ℕ) → holding.holds s front → holding.holds mid front)
+    → IsBrought holding mid new bytes room b → IsBrought holding s new bytes room b
+behind_none {A = A} holding s mid new bytes room (Samples count samples) asked left holds b = (
+  takes_behind holding s mid new bytes count asked left holds b.0,
   b.1,
   λ front h.
-      subst (λ (a : A). Adds (way.most a) (way.says a front) (way.says a (front ++ take count bytes))
+      subst (λ (a : A). Adds (holding.most a) (holding.says a front) (holding.says a (front ++ take count bytes))
       (take samples room)) asked (b.2 front (holds front h)),
 )
-behind_none {A = A} way s mid new bytes room (Begin count format) asked left holds b = (
-  takes_behind way s mid new bytes count asked left holds b.0,
-  subst (λ (a : A). way.tells a format) asked b.1,
+behind_none {A = A} holding s mid new bytes room (Begin count format) asked left holds b = (
+  takes_behind holding s mid new bytes count asked left holds b.0,
+  subst (λ (a : A). holding.tells a format) asked b.1,
   λ front h.
-      subst (λ (a : A). Begins (way.says a front) (way.says a (front ++ take count bytes)) format) asked
+      subst (λ (a : A). Begins (holding.says a front) (holding.says a (front ++ take count bytes)) format) asked
       (b.2 front (holds front h)),
 )
-behind_none {A = A} way s mid new bytes room (Halt halt) asked left holds b = (
+behind_none {A = A} holding s mid new bytes room (Halt halt) asked left holds b = (
   b.0 ∙ asked,
   λ front h.
-      subst (λ (a : A). Ends (way.says a front) (way.says a (front ++ bytes)) halt) asked (b.1 front (holds front h)),
+      subst (λ (a : A). Ends (holding.says a front) (holding.says a (front ++ bytes)) halt) asked (b.1 front (holds front h)),
 )

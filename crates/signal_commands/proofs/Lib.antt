@@ -4,13 +4,13 @@ mod Examples
 mod FileOn
 mod FieldsGrow
 mod FieldsTold
+mod ListeningOn
 mod LumaIsCommand
 mod LumaLines
 mod LumaOn
 mod LumaTold
 mod MidiGrows
 mod MidiLimit
-mod Outcomes
 mod PathEnds
 mod PathIsCommand
 mod PathLasts
@@ -21,7 +21,6 @@ mod SamplesWithin
 mod SentIsRead
 mod SlicedOn
 mod SoundCovered
-mod SoundOn
 mod TrackGoesOn
 mod TrackOfAFile
 mod TrackPathIsCommand

@@ -13,7 +13,7 @@ use Rattle.signal_commands.specs.declared.pcm_ltc.TheConstants.{MAX_SAMPLES}
 use Rattle.signal_commands.specs.declared.raw_samples.RawSamples.{RawSamples}
 use Rattle.signal_commands.specs.KeptRaw.{few_samples, length-samples, no_sample, raw_said, samples_of-append}
 use Rattle.signal_commands.specs.KeptRaw.{whole_samples, HoldsRaw}
-use Rattle.signal_commands.specs.KeptSound.{Adds, Ends, Hears, Play}
+use Rattle.signal_commands.specs.KeptListening.{Adds, Ends, Hears, ListenerKind}
 use Rattle.signal_commands.specs.PcmLtc.{odd_fault}
 use Rattle.signal_commands.proofs.SamplesWithin.{is_past, some_samples}
 
@@ -37,13 +37,13 @@ samples_read (low ∷ high ∷ bytes) (x ∷ samples) long read =
 said_all : (s : RawSamples) (bytes : List ℕ) → HoldsRaw s bytes → take MAX_SAMPLES (samples_of bytes) ≡ samples_of bytes
 said_all s bytes holds = take_all MAX_SAMPLES (samples_of bytes) (few_samples s bytes holds)
 
--- of no bytes there are none: a front that begins stands for them
-pub raw_begins : {F W : Type 0} (play : Play F W) (words : W) (front : F) (header : List ℕ)
-    → play.hears front words None [] header → Hears play words front (raw_said []) header
-raw_begins play words front header hears =
+-- of no bytes there are none: a listener that begins stands for them
+pub raw_begins : {F W : Type 0} (hearing : ListenerKind F W) (words : W) (listener : F) (header : List ℕ)
+    → hearing.hears listener words None [] header → Hears hearing words listener (raw_said []) header
+raw_begins hearing words listener header hears =
     let none : take MAX_SAMPLES (samples_of []) ≡ [] =
     ap (take MAX_SAMPLES) (no_sample None) ∙ take_all MAX_SAMPLES [] (omega arith) in
-    record { begun = refl; hears = subst (λ (l : List ℤ). play.hears front words None l header) (sym none) hears }
+    record { begun = refl; hears = subst (λ (l : List ℤ). hearing.hears listener words None l header) (sym none) hears }
 
 -- these came behind the whole ones
 pub raw_adds : (s next : RawSamples) (front all more : List ℕ) (holds : HoldsRaw s front) (then : HoldsRaw next all)

@@ -11,7 +11,7 @@ use Rattle.wave_file.specs.Format.{IsTakenFor}
 use Rattle.wave_file.specs.StandsFor.{StandsFor, IsTold, bytes_taken, format_in_decoding}
 use Rattle.wave_file.specs.Wave.{end_fault_of, reading_of}
 use Rattle.signal_commands.specs.declared.sound_file.SoundFile.{SoundFile}
-use Rattle.signal_commands.specs.KeptSound.{Said, Way}
+use Rattle.signal_commands.specs.KeptListening.{Said, ContainerKind}
 
 -- it was given these bytes, and gave their samples
 pub record HoldsFile (s : SoundFile) (bytes : List ℕ) : Type 0 where
@@ -35,8 +35,8 @@ file_said asked bytes = let r = reading_of asked bytes in record {
   verdict = verdict_as Sound r.verdict;
 }
 
-abbrev pub file_way : Way SoundFile Asked
-file_way = record {
+abbrev pub file_kind : ContainerKind SoundFile Asked
+file_kind = record {
   asked = λ s. s.decoder.asked;
   says = file_said;
   ends = λ asked bytes. option_map Sound (end_fault_of asked bytes);

@@ -1,4 +1,4 @@
--- What a sound keeps as a front that looks for its best path. No promise speaks of it.
+-- What a sound keeps as a listener that looks for its best path. No promise speaks of it.
 use Rattle.std.specs.Prelude.{◌≡◌, ⊤, ℕ, ◌^◌, ◌≤◌, ℤ, List, length, reverse, Option, Some, None}
 use Rattle.std.proofs.Common.{subst, sym}
 use Rattle.interval_file.specs.Grammar.{file_of}
@@ -10,7 +10,7 @@ use Rattle.wave_file.specs.declared.format.WaveFormat.{WaveFormat}
 use Rattle.signal_commands.specs.declared.path_sound.PathSound.{PathSound}
 use Rattle.signal_commands.specs.declared.path_sound.PathWords.{PathWords}
 use Rattle.signal_commands.specs.declared.path_sound.PathWords.TheVariants.{Raw, Track}
-use Rattle.signal_commands.specs.KeptSound.{Play}
+use Rattle.signal_commands.specs.KeptListening.{ListenerKind}
 use Rattle.signal_commands.specs.PcmPath.{path_header, IsPathFile, IsPathFileSoFar}
 use Rattle.signal_commands.specs.WavPath.{WritesPath, WritesPathSoFar}
 
@@ -78,7 +78,7 @@ abbrev pub IsWhole : PathWords → Option WaveFormat → List ℤ → List ℕ �
 IsWhole (Raw path) format samples written = IsPathFile path samples written
 IsWhole (Track track) format samples written = WritesPath track format samples written
 
--- ---- the front
+-- ---- the listener
 
 pub record HearsPath (s : PathSound) (words : PathWords) (format : Option WaveFormat) (samples : List ℤ)
     (written : List ℕ) : Type 0 where
@@ -86,8 +86,8 @@ pub record HearsPath (s : PathSound) (words : PathWords) (format : Option WaveFo
   pub going : IsGoing s
   pub hears : HearsSamples s samples written
 
-abbrev pub path_play : Play PathSound PathWords
-path_play = record { so_far = IsSoFar; whole = IsWhole; fits = FitsPath; most = 2 ^ 37; hears = HearsPath }
+abbrev pub path_kind : ListenerKind PathSound PathWords
+path_kind = record { so_far = IsSoFar; whole = IsWhole; fits = FitsPath; most = 2 ^ 37; hears = HearsPath }
 
 pub path_well : (s : PathSound) (words : PathWords) (format : Option WaveFormat) (samples : List ℤ) (written : List ℕ)
     → HearsPath s words format samples written → IsSoFar words format samples written

@@ -9,7 +9,7 @@ use Rattle.pcm_front.specs.Samples.{sample_in, samples_of}
 use Rattle.tc_io.specs.Verdict.{good, past_limit}
 use Rattle.signal_commands.specs.declared.raw_samples.RawSamples.{RawSamples}
 use Rattle.signal_commands.specs.declared.pcm_ltc.TheConstants.{MAX_SAMPLES}
-use Rattle.signal_commands.specs.KeptSound.{Said, Way}
+use Rattle.signal_commands.specs.KeptListening.{Said, ContainerKind}
 use Rattle.signal_commands.specs.PcmLtc.{odd_fault, samples_within}
 
 -- it was given these bytes: whole samples, and half a sample where it keeps one
@@ -29,8 +29,8 @@ raw_said bytes = record {
   verdict = samples_within MAX_SAMPLES bytes;
 }
 
-abbrev pub raw_way : Way RawSamples (Unit {0})
-raw_way = record {
+abbrev pub raw_kind : ContainerKind RawSamples (Unit {0})
+raw_kind = record {
   asked = λ s. record {};
   says = λ asked. raw_said;
   ends = λ asked. odd_fault;

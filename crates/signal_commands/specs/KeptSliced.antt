@@ -1,4 +1,4 @@
--- What a sliced sound keeps as a front. No promise speaks of it.
+-- What a sliced sound keeps as a listener. No promise speaks of it.
 use Rattle.std.specs.Prelude.{◌≡◌, ⊤, ℕ, ◌^◌, ◌≤◌, ℤ, List, ◌++◌, Option, Some, None}
 use Rattle.std.proofs.Common.{◌∙◌, ap₂, refl, sym}
 use Rattle.interval_file.specs.declared.header.FileVersion.TheVariants.{One}
@@ -15,7 +15,7 @@ use Rattle.wave_file.specs.declared.format.WaveFormat.{WaveFormat}
 use Rattle.signal_commands.specs.declared.sliced.Cut.{Cut}
 use Rattle.signal_commands.specs.declared.sliced.Cut.TheVariants.{Raw, Track}
 use Rattle.signal_commands.specs.declared.sliced.SlicedSound.{SlicedSound}
-use Rattle.signal_commands.specs.KeptSound.{Play}
+use Rattle.signal_commands.specs.KeptListening.{ListenerKind}
 use Rattle.signal_commands.specs.PcmLtc.{pace_for, settings_for, sliced, sliced_header}
 use Rattle.signal_commands.specs.WavLtc.{track_file, track_header, track_settings}
 
@@ -61,7 +61,7 @@ cut_file_is (Raw s) format samples fits = refl
 cut_file_is (Track w) (Some format) samples fits = refl
 cut_file_is (Track w) None samples fits = absurd fits
 
--- ---- the front
+-- ---- the listener
 
 -- it was given these samples, and wrote the file of their intervals
 pub record HearsCut (s : SlicedSound) (cut : Cut) (format : Option WaveFormat) (samples : List ℤ) (written : List ℕ)
@@ -74,8 +74,8 @@ pub record HearsCut (s : SlicedSound) (cut : Cut) (format : Option WaveFormat) (
   pub stands : pcm.StandsFor s.slicer samples
   pub are : written ≡ header_bytes (cut_header cut format) ++ spelled s.pace (settings_of s.slicer) samples
 
-abbrev pub sliced_play : Play SlicedSound Cut
-sliced_play = record {
+abbrev pub sliced_kind : ListenerKind SlicedSound Cut
+sliced_kind = record {
   so_far = λ cut format samples written. written ≡ cut_file cut format samples;
   whole = λ cut format samples written. written ≡ cut_file cut format samples;
   fits = FitsCut;

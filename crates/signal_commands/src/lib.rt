@@ -23,8 +23,9 @@
 
 mod brought;
 mod container;
-mod front;
 pub mod laws;
+mod listener;
+mod listening;
 mod luma_lines;
 mod luma_vitc;
 mod mtc_read;
@@ -33,7 +34,6 @@ mod pcm_ltc;
 mod pcm_path;
 mod raw_samples;
 mod sliced;
-mod sound;
 mod sound_file;
 mod spelling;
 mod vitc_read;

@@ -9,9 +9,9 @@ ghost use Rattle.std.specs.Prelude.{Some};
 ghost use Rattle.signal_commands.specs.KeptPath.{path_of, samples_heard, FitsPath, HasGiven, HearsSamples, IsGoing};
 ghost use Rattle.signal_commands.specs.PcmPath.{path_header, IsPathFile};
 
-use crate::front::Front;
+use crate::listener::Listener;
 use interval_file::{FileVersion, IntervalHeader, four_bytes, interval_header};
-use path_front::Front as PathFront;
+use path_front::Front;
 use tc_command::Output;
 use tc_job::laws::a_sound_file_has_steps_from_its_least_rate_on;
 use tc_job::{PathSlicing, TrackPath};
@@ -59,7 +59,7 @@ fn header(path: &PathSlicing) -> [u8; 12]
 #[derive(Drop)]
 pub(crate) struct PathSound {
     pub(crate) path: PathSlicing,
-    pub(crate) front: PathFront,
+    pub(crate) front: Front,
 }
 
 impl PathSound {
@@ -72,7 +72,7 @@ impl PathSound {
     {
         PathSound {
             path: *path,
-            front: PathFront::new(path.grid(), path.ticks(), path.least()),
+            front: Front::new(path.grid(), path.ticks(), path.least()),
         }
     }
 
@@ -132,14 +132,14 @@ impl PathSound {
     }
 }
 
-impl Front for PathSound {
-    ghost use Rattle.signal_commands.specs.KeptPath.{path_play, path_well};
+impl Listener for PathSound {
+    ghost use Rattle.signal_commands.specs.KeptPath.{path_kind, path_well};
 
     type Words = PathWords;
 
-    ghost play = { path_play };
+    ghost kind = { path_kind };
 
-    ghost plays_well = { λ s words format samples written hears. path_well s words format samples written hears };
+    ghost hears_well = { λ s words format samples written hears. path_well s words format samples written hears };
 
     fn begin(words: &PathWords, format: Option<WaveFormat>) -> (PathSound, [u8; 12]) {
         let path = words.sound(format);

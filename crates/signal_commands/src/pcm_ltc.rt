@@ -1,12 +1,12 @@
-//! `pcm-ltc`: an interval file of the crossings of sound. Read next: `raw_samples`, `sliced`, and then `sound`.
+//! `pcm-ltc`: an interval file of the crossings of sound. Read next: `raw_samples`, `sliced`, and then `listening`.
 ghost use Rattle.signal_commands.specs.PcmLtc.{told_pcm_ltc};
 ghost use Rattle.tc_command.specs.Told.{IsTold, WorksAsTold};
 
-use crate::front::Front;
 use crate::laws::sliced_sound_is_lawful;
+use crate::listener::Listener;
+use crate::listening::Listening;
 use crate::raw_samples::RawSamples;
 use crate::sliced::{Cut, SlicedSound};
-use crate::sound::Sound;
 use pcm_front::laws::{bytes_are_those_of_their_samples, intervals_tell_the_crossings};
 use tc_command::{Stop, run_behind};
 use tc_io::{Sink, Source};
@@ -26,9 +26,9 @@ pub fn slice_sound<S: Source, K: Sink>(
 {
     a_sliced_sound_is_told(slicing);
     let cut = Cut::Raw(*slicing);
-    let (front, header) = SlicedSound::begin(&cut, None);
-    let mut sound = Sound::begun(RawSamples::new(), cut, front);
-    run_behind(&header, &mut sound, source, out)
+    let (listener, header) = SlicedSound::begin(&cut, None);
+    let mut listening = Listening::begun(RawSamples::new(), cut, listener);
+    run_behind(&header, &mut listening, source, out)
 }
 
 /// What is claimed of `pcm-ltc` holds: the intervals give the crossings of all samples that there are.

@@ -1,13 +1,13 @@
 //! `pcm-ltc .. path`: an interval file of the cells of the best path through a sound. Read next: `raw_samples`,
-//! `path_sound`, and then `sound`.
+//! `path_sound`, and then `listening`.
 ghost use Rattle.signal_commands.specs.PcmPath.{told_pcm_path};
 ghost use Rattle.tc_command.specs.Told.{IsTold, WorksAsTold};
 
-use crate::front::Front;
 use crate::laws::paths_are_lawful;
+use crate::listener::Listener;
+use crate::listening::Listening;
 use crate::path_sound::{PathSound, PathWords};
 use crate::raw_samples::RawSamples;
-use crate::sound::Sound;
 use path_front::laws::{a_sound_has_one_list_of_intervals, the_intervals_of_a_sound_last_as_long};
 use pcm_front::laws::bytes_are_those_of_their_samples;
 use tc_command::{Stop, run_behind};
@@ -27,9 +27,9 @@ pub fn hear_path<S: Source, K: Sink>(
 {
     a_path_is_told(path);
     let words = PathWords::Raw(*path);
-    let (front, header) = PathSound::begin(&words, None);
-    let mut sound = Sound::begun(RawSamples::new(), words, front);
-    run_behind(&header, &mut sound, source, out)
+    let (listener, header) = PathSound::begin(&words, None);
+    let mut listening = Listening::begun(RawSamples::new(), words, listener);
+    run_behind(&header, &mut listening, source, out)
 }
 
 /// What is claimed of `pcm-ltc .. path` holds: the intervals last as long as the steps of the samples.

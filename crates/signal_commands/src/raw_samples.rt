@@ -2,8 +2,8 @@
 //! Read next: `pcm_ltc`.
 ghost use Rattle.std.specs.Prelude.{◌≡◌, ◌≤◌, ◌<◌, ◌+◌, ◌*◌, [], length, take, IfSome, IfNone};
 ghost use Rattle.pcm_front.specs.Samples.{samples_of};
-ghost use Rattle.signal_commands.specs.KeptRaw.{raw_way};
-ghost use Rattle.signal_commands.specs.KeptSound.{Way};
+ghost use Rattle.signal_commands.specs.KeptRaw.{raw_kind};
+ghost use Rattle.signal_commands.specs.KeptListening.{ContainerKind};
 
 use crate::brought::{Brought, ROOM, Room};
 use crate::container::Container;
@@ -23,7 +23,7 @@ pub(crate) struct RawSamples {
 impl RawSamples {
     /// Before the first byte.
     pub(crate) fn new() -> RawSamples
-        ensures { Way.holds raw_way result [] }
+        ensures { ContainerKind.holds raw_kind result [] }
     {
         RawSamples {
             samples: 0,
@@ -80,11 +80,11 @@ fn read_samples(bytes: &[u8], places: &mut [i16])
 }
 
 impl Container for RawSamples {
-    ghost use Rattle.signal_commands.specs.KeptRaw.{raw_is_good, raw_way};
+    ghost use Rattle.signal_commands.specs.KeptRaw.{raw_is_good, raw_kind};
 
     type Asked = ();
 
-    ghost way = { raw_way };
+    ghost kind = { raw_kind };
 
     ghost is_good = { λ s bytes holds. raw_is_good s bytes holds };
 

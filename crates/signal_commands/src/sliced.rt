@@ -8,7 +8,7 @@ ghost use Rattle.pcm_front.specs.StandsFor as pcm;
 ghost use Rattle.pcm_front.specs.StandsFor.{settings_of, tick_of};
 ghost use Rattle.signal_commands.specs.KeptSliced.{AreDue, cut_header, cut_pace, cut_settings, FitsCut};
 
-use crate::front::Front;
+use crate::listener::Listener;
 use crate::spelling::spell;
 use interval_file::{FileVersion, IntervalHeader, interval_header};
 use pcm_front::{Pace, Slicer};
@@ -106,14 +106,14 @@ fn slice<O: Output>(slicer: &mut Slicer, pace: Pace, samples: &[i16], out: &mut 
     }
 }
 
-impl Front for SlicedSound {
-    ghost use Rattle.signal_commands.specs.KeptSliced.{sliced_play, sliced_well};
+impl Listener for SlicedSound {
+    ghost use Rattle.signal_commands.specs.KeptSliced.{sliced_kind, sliced_well};
 
     type Words = Cut;
 
-    ghost play = { sliced_play };
+    ghost kind = { sliced_kind };
 
-    ghost plays_well = { λ s cut format samples written hears. sliced_well s cut format samples written hears };
+    ghost hears_well = { λ s cut format samples written hears. sliced_well s cut format samples written hears };
 
     fn begin(words: &Cut, format: Option<WaveFormat>) -> (SlicedSound, [u8; 12]) {
         let header = words.header(format);

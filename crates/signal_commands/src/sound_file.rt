@@ -1,8 +1,8 @@
 //! A sound file as a container: the samples of one of its tracks. Read next: `wave_file/src/decoder.rt`.
 ghost use Rattle.std.specs.Prelude.{◌≡◌, ◌≤◌, ◌<◌, ℕ, List, [], length};
 ghost use Rattle.wave_file.specs.Format.{IsAsked};
-ghost use Rattle.signal_commands.specs.KeptFile.{file_way};
-ghost use Rattle.signal_commands.specs.KeptSound.{IsBrought, Way};
+ghost use Rattle.signal_commands.specs.KeptFile.{file_kind};
+ghost use Rattle.signal_commands.specs.KeptListening.{IsBrought, ContainerKind};
 
 use crate::brought::{Brought, Room};
 use crate::container::Container;
@@ -22,7 +22,7 @@ impl SoundFile {
         requires asked { IsAsked asked }
         requires most { asked.track ≤ 64 }
         ensures asked { result.decoder.asked ≡ asked }
-        ensures holds { Way.holds file_way result [] }
+        ensures holds { ContainerKind.holds file_kind result [] }
     {
         let decoder = WaveDecoder::new(asked);
         let _told = decoder.format();
@@ -32,8 +32,8 @@ impl SoundFile {
     /// Takes a piece of the file at the front of the bytes, or some of it.
     fn take_piece(&mut self, bytes: &[u8], room: &mut Room) -> Brought
         requires some { 0 < length bytes.now }
-        requires going { (front : List ℕ) × Way.holds file_way self.old front }
-        ensures { IsBrought file_way self.old self.new bytes.now room.new result }
+        requires going { (front : List ℕ) × ContainerKind.holds file_kind self.old front }
+        ensures { IsBrought file_kind self.old self.new bytes.now room.new result }
     {
         samples_are_few_and_behind_a_format();
         let taken = self.decoder.take(bytes);
@@ -58,11 +58,11 @@ impl SoundFile {
 }
 
 impl Container for SoundFile {
-    ghost use Rattle.signal_commands.specs.KeptFile.{file_is_good, file_way};
+    ghost use Rattle.signal_commands.specs.KeptFile.{file_is_good, file_kind};
 
     type Asked = Asked;
 
-    ghost way = { file_way };
+    ghost kind = { file_kind };
 
     ghost is_good = { λ s bytes holds. file_is_good s bytes holds };
 

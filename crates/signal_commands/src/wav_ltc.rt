@@ -1,5 +1,5 @@
 //! `wav-ltc`: an interval file of the crossings of a track of a sound file. Read next: `sound_file`, `sliced`, and
-//! then `sound`.
+//! then `listening`.
 ghost use Rattle.std.specs.Prelude.{◌≡◌, ◌≤◌};
 ghost use Rattle.signal_commands.specs.WavLtc.{asked_by, told_wav_ltc};
 ghost use Rattle.tc_command.specs.Told.{IsLawful, IsTold, WorksAsTold};
@@ -7,8 +7,8 @@ ghost use Rattle.tc_job.specs.WaveSlicing.{SlicesWave};
 ghost use Rattle.wave_file.specs.Format.{IsAsked};
 
 use crate::laws::each_signal_makes_a_command;
+use crate::listening::Listening;
 use crate::sliced::{Cut, SlicedSound};
-use crate::sound::Sound;
 use crate::sound_file::SoundFile;
 use pcm_front::laws::intervals_tell_the_crossings;
 use tc_command::{Stop, run};
@@ -28,8 +28,11 @@ pub fn slice_track<S: Source, K: Sink>(
 {
     a_sliced_track_is_told(slicing);
     let file = SoundFile::new(asked(slicing));
-    let mut sound: Sound<SoundFile, SlicedSound> = Sound::before(file, Cut::Track(*slicing));
-    run(&mut sound, source, out)
+    let mut listening: Listening<SoundFile, SlicedSound> = Listening::before(
+        file,
+        Cut::Track(*slicing),
+    );
+    run(&mut listening, source, out)
 }
 
 /// What is claimed of `wav-ltc` holds: a sound file that was made is read as it was made, and the intervals give the

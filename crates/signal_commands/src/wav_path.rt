@@ -1,13 +1,13 @@
 //! `wav-ltc .. path`: an interval file of the cells of the best path through a track of a sound file. Read next:
-//! `sound_file`, `path_sound`, and then `sound`.
+//! `sound_file`, `path_sound`, and then `listening`.
 ghost use Rattle.std.specs.Prelude.{◌≡◌, ◌≤◌};
 ghost use Rattle.signal_commands.specs.WavPath.{asked_for_path, told_wav_path};
 ghost use Rattle.tc_command.specs.Told.{WorksAsTold};
 ghost use Rattle.wave_file.specs.Format.{IsAsked};
 
 use crate::laws::each_signal_makes_a_command;
+use crate::listening::Listening;
 use crate::path_sound::{PathSound, PathWords};
-use crate::sound::Sound;
 use crate::sound_file::SoundFile;
 use tc_command::{Stop, run};
 use tc_io::{Sink, Source};
@@ -30,8 +30,11 @@ pub fn hear_track<S: Source, K: Sink>(
 {
     each_signal_makes_a_command();
     let file = SoundFile::new(asked(path));
-    let mut sound: Sound<SoundFile, PathSound> = Sound::before(file, PathWords::Track(*path));
-    run(&mut sound, source, out)
+    let mut listening: Listening<SoundFile, PathSound> = Listening::before(
+        file,
+        PathWords::Track(*path),
+    );
+    run(&mut listening, source, out)
 }
 
 /// What is asked of the sound file.

@@ -5,8 +5,8 @@ pub returns : goal.returns
 returns g c = record {
   told = c.a_sliced_track_is_told.ensures;
   worked = rw (
-    c.before-sound.ensures.words,
-    c.before-sound.ensures.asked,
+    c.before-listening.ensures.words,
+    c.before-listening.ensures.asked,
     c.new-file.ensures.asked,
     c.asked.ensures.value,
   ) at c.run.ensures;

@@ -6,7 +6,7 @@ use Rattle.lemmas.specs.Lists.{first_only}
 use Rattle.pcm_front.specs.Samples.{samples_of}
 use Rattle.signal_commands.specs.declared.pcm_ltc.TheConstants.{MAX_SAMPLES}
 use Rattle.signal_commands.specs.KeptRaw.{no_sample, raw_said, HoldsRaw}
-use Rattle.signal_commands.specs.KeptSound.{Adds}
+use Rattle.signal_commands.specs.KeptListening.{Adds}
 use Rattle.signal_commands.proofs.RawOn.{falls, falls_by_half, half_first, half_then, no_half, raw_adds, raw_ends}
 use Rattle.signal_commands.proofs.raw_samples.RawSamplesContainer.take.Goals as goal
 

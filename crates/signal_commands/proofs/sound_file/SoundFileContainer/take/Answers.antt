@@ -1,7 +1,7 @@
 use Rattle.std.proofs.Common.{◌≡◌, ◌-◌, ℕ, ap, arith}
 use Rattle.wave_file.specs.declared.stage.TheConstants.{MAX_BYTES}
 use Rattle.wave_file.specs.StandsFor.{bytes_taken}
-use Rattle.signal_commands.specs.KeptFile.{file_way}
+use Rattle.signal_commands.specs.KeptFile.{file_kind}
 use Rattle.signal_commands.proofs.FileOn.{adds_on, behind_none, decodes_blocks, none_held, takes_on}
 use Rattle.signal_commands.proofs.sound_file.SoundFileContainer.take.Goals as goal
 
@@ -24,7 +24,7 @@ returns-then-count-eq0 c =
     let next = record s { decoder = c.samples-count.new.self } in
     let decodes = decodes_blocks s.decoder next.decoder _ _ _ _ e.adds f.within f.value f.told in
     let left : bytes_taken next.decoder ≡ bytes_taken s.decoder = omega (arith, e.adds.taken, c.if-count-eq0.true) in
-    behind_none file_way s next c.take_piece.new.self c.args.bytes.now c.take_piece.new.room c.take_piece.result
+    behind_none file_kind s next c.take_piece.new.self c.args.bytes.now c.take_piece.new.room c.take_piece.result
     e.adds.asked (ap (λ (n : ℕ). MAX_BYTES - n) left) (none_held s next _ _ _ decodes c.if-count-eq0.true)
     c.take_piece.ensures
 

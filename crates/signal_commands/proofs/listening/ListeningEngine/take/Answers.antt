@@ -1,7 +1,7 @@
 use Rattle.std.proofs.Common.{[], ◌++◌, ap, take}
-use Rattle.signal_commands.specs.KeptSound.{so_far_is}
-use Rattle.signal_commands.proofs.SoundOn.{halts_as}
-use Rattle.signal_commands.proofs.sound.SoundEngine.take.Goals as goal
+use Rattle.signal_commands.specs.KeptListening.{so_far_is}
+use Rattle.signal_commands.proofs.ListeningOn.{halts_as}
+use Rattle.signal_commands.proofs.listening.ListeningEngine.take.Goals as goal
 
 -- the samples were heard
 pub returns-in-Samples-clause-works : goal.returns-in-Samples-clause-works
@@ -29,7 +29,7 @@ pub returns-in-Halt-clause-halts : goal.returns-in-Halt-clause-halts
 returns-in-Halt-clause-halts g c = λ front written stands. (
   [],
   g.O.Output.given_none c.args.out.now,
-  halts_as g.C.Container.way g.F.Front.play _ c.args.self.now.words c.in-Halt.halt front c.args.bytes.now written
+  halts_as g.C.Container.kind g.L.Listener.kind _ c.args.self.now.words c.in-Halt.halt front c.args.bytes.now written
       (c.in-Halt.ensures.1 front stands.holds)
-      (so_far_is g.F.Front.play g.F.Front.plays_well c.args.self.now.words c.args.self.now.front _ written stands.hears),
+      (so_far_is g.L.Listener.kind g.L.Listener.hears_well c.args.self.now.words c.args.self.now.listener _ written stands.hears),
 )

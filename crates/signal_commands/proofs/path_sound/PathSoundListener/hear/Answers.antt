@@ -1,5 +1,5 @@
 use Rattle.std.proofs.Common.{Some, ap, sym, ◌∙◌}
-use Rattle.signal_commands.proofs.path_sound.PathSoundFront.hear.Goals as goal
+use Rattle.signal_commands.proofs.path_sound.PathSoundListener.hear.Goals as goal
 
 pub returns : goal.returns
 returns g c = λ words format before written hears.

@@ -1,6 +1,6 @@
 use Rattle.std.proofs.Common.{length, refl}
 use Rattle.signal_commands.proofs.SlicedOn.{sliced_on, ticks_fit}
-use Rattle.signal_commands.proofs.sliced.SlicedSoundFront.hear.Goals as goal
+use Rattle.signal_commands.proofs.sliced.SlicedSoundListener.hear.Goals as goal
 
 pub slice-requires-clause-room : goal.slice-requires-clause-room
 slice-requires-clause-room g c =

@@ -1,6 +1,6 @@
 use Rattle.std.proofs.Common.{◌++◌}
 use Rattle.signal_commands.proofs.PathEnds.{whole_is}
-use Rattle.signal_commands.proofs.path_sound.PathSoundFront.finish.Goals as goal
+use Rattle.signal_commands.proofs.path_sound.PathSoundListener.finish.Goals as goal
 
 pub returns : goal.returns
 returns g c = λ words format samples written hears.

@@ -1,6 +1,6 @@
 use Rattle.std.proofs.Common.{[], append-nil, ◌∙◌}
 use Rattle.signal_commands.specs.KeptSliced.{sliced_well}
-use Rattle.signal_commands.proofs.sliced.SlicedSoundFront.finish.Goals as goal
+use Rattle.signal_commands.proofs.sliced.SlicedSoundListener.finish.Goals as goal
 
 -- all was written
 pub returns : goal.returns
