@@ -173,11 +173,11 @@ takes_on s next bytes count samples decodes some within taken = record {
   holds = λ front holds. holds_on s next front (take count bytes) samples decodes holds;
 }
 
-takes_behind : {C A : Type 0} (holding : ContainerKind C A) (s mid new : C) (bytes : List ℕ) (count : ℕ)
-    → holding.asked mid ≡ holding.asked s → holding.left mid ≡ holding.left s
-    → ((front : List ℕ) → holding.holds s front → holding.holds mid front)
-    → Takes holding mid new bytes count → Takes holding s new bytes count
-takes_behind holding s mid new bytes count asked left holds t = record {
+takes_behind : {C A : Type 0} (held : ContainerKind C A) (s mid new : C) (bytes : List ℕ) (count : ℕ)
+    → held.asked mid ≡ held.asked s → held.left mid ≡ held.left s
+    → ((front : List ℕ) → held.holds s front → held.holds mid front)
+    → Takes held mid new bytes count → Takes held s new bytes count
+takes_behind held s mid new bytes count asked left holds t = record {
   some = t.some;
   within = t.within;
   asked = t.asked ∙ asked;
@@ -186,26 +186,27 @@ takes_behind holding s mid new bytes count asked left holds t = record {
 }
 
 -- where nothing was taken before, it is the same
-pub behind_none : {C A : Type 0} (holding : ContainerKind C A) (s mid new : C) (bytes : List ℕ) (room : List ℤ) (b : Brought)
-    → holding.asked mid ≡ holding.asked s → holding.left mid ≡ holding.left s
-    → ((front : List ℕ) → holding.holds s front → holding.holds mid front)
-    → IsBrought holding mid new bytes room b → IsBrought holding s new bytes room b
-behind_none {A = A} holding s mid new bytes room (Samples count samples) asked left holds b = (
-  takes_behind holding s mid new bytes count asked left holds b.0,
+pub behind_none : {C A : Type 0} (held : ContainerKind C A) (s mid new : C) (bytes : List ℕ) (room : List ℤ)
+    (b : Brought)
+    → held.asked mid ≡ held.asked s → held.left mid ≡ held.left s
+    → ((front : List ℕ) → held.holds s front → held.holds mid front)
+    → IsBrought held mid new bytes room b → IsBrought held s new bytes room b
+behind_none {A = A} held s mid new bytes room (Samples count samples) asked left holds b = (
+  takes_behind held s mid new bytes count asked left holds b.0,
   b.1,
   λ front h.
-      subst (λ (a : A). Adds (holding.most a) (holding.says a front) (holding.says a (front ++ take count bytes))
+      subst (λ (a : A). Adds (held.most a) (held.says a front) (held.says a (front ++ take count bytes))
       (take samples room)) asked (b.2 front (holds front h)),
 )
-behind_none {A = A} holding s mid new bytes room (Begin count format) asked left holds b = (
-  takes_behind holding s mid new bytes count asked left holds b.0,
-  subst (λ (a : A). holding.tells a format) asked b.1,
+behind_none {A = A} held s mid new bytes room (Begin count format) asked left holds b = (
+  takes_behind held s mid new bytes count asked left holds b.0,
+  subst (λ (a : A). held.tells a format) asked b.1,
   λ front h.
-      subst (λ (a : A). Begins (holding.says a front) (holding.says a (front ++ take count bytes)) format) asked
+      subst (λ (a : A). Begins (held.says a front) (held.says a (front ++ take count bytes)) format) asked
       (b.2 front (holds front h)),
 )
-behind_none {A = A} holding s mid new bytes room (Halt halt) asked left holds b = (
+behind_none {A = A} held s mid new bytes room (Halt halt) asked left holds b = (
   b.0 ∙ asked,
   λ front h.
-      subst (λ (a : A). Ends (holding.says a front) (holding.says a (front ++ bytes)) halt) asked (b.1 front (holds front h)),
+      subst (λ (a : A). Ends (held.says a front) (held.says a (front ++ bytes)) halt) asked (b.1 front (holds front h)),
 )

@@ -1,6 +1,7 @@
 -- Two bytes are a sample: raw samples as they come, and past the limit nothing more of them.
-use Rattle.std.proofs.Common.{◌≡◌, ℕ, ◌+◌, ◌-◌, ◌*◌, ◌%◌, ◌==◌, ◌<◌, ◌≤◌, cond, ℤ, List, [], ◌∷◌, ◌++◌, length, take, drop}
-use Rattle.std.proofs.Common.{get_or, Option, Some, None, refl, sym, ◌∙◌, ap, ap₂, append_assoc, append-nil, arith, subst, suc}
+use Rattle.std.proofs.Common.{◌≡◌, ℕ, ◌+◌, ◌-◌, ◌*◌, ◌%◌, ◌==◌, ◌<◌, ◌≤◌, cond, ℤ, List, [], ◌∷◌, ◌++◌, length, take}
+use Rattle.std.proofs.Common.{drop, get_or, Option, Some, None, refl, sym, ◌∙◌, ap, ap₂, append_assoc, append-nil}
+use Rattle.std.proofs.Common.{arith, subst, suc}
 use Rattle.std.specs.Int.{w16, cast_signed}
 use Rattle.std.specs.Option.{option_to_list}
 use Rattle.std.proofs.lemmas.List.{length-append, take-append-le, take_all}
@@ -28,7 +29,8 @@ samples_read (low ∷ high ∷ bytes) [] long read = absurd (omega (arith, long)
 samples_read (low ∷ high ∷ bytes) (x ∷ samples) long read =
     let rest = samples_read bytes samples (omega (arith, long)) (λ d k less.
     let step : 2 * suc k ≡ suc (suc (2 * k)) = omega arith in
-    read d (suc k) (omega (arith, less)) ∙ ap (λ n. cast_signed w16 (little_number 2 (drop n (low ∷ high ∷ bytes)))) step)
+    read d (suc k) (omega (arith, less))
+    ∙ ap (λ n. cast_signed w16 (little_number 2 (drop n (low ∷ high ∷ bytes)))) step)
     in ap₂ (λ (y : ℤ) (ys : List ℤ). y ∷ ys) (read x 0 (omega arith)) rest
 
 -- ---- samples that come
@@ -38,12 +40,12 @@ said_all : (s : RawSamples) (bytes : List ℕ) → HoldsRaw s bytes → take MAX
 said_all s bytes holds = take_all MAX_SAMPLES (samples_of bytes) (few_samples s bytes holds)
 
 -- of no bytes there are none: a listener that begins stands for them
-pub raw_begins : {F W : Type 0} (hearing : ListenerKind F W) (words : W) (listener : F) (header : List ℕ)
-    → hearing.hears listener words None [] header → Hears hearing words listener (raw_said []) header
-raw_begins hearing words listener header hears =
+pub raw_begins : {F W : Type 0} (heard : ListenerKind F W) (words : W) (listener : F) (header : List ℕ)
+    → heard.hears listener words None [] header → Hears heard words listener (raw_said []) header
+raw_begins heard words listener header hears =
     let none : take MAX_SAMPLES (samples_of []) ≡ [] =
     ap (take MAX_SAMPLES) (no_sample None) ∙ take_all MAX_SAMPLES [] (omega arith) in
-    record { begun = refl; hears = subst (λ (l : List ℤ). hearing.hears listener words None l header) (sym none) hears }
+    record { begun = refl; hears = subst (λ (l : List ℤ). heard.hears listener words None l header) (sym none) hears }
 
 -- these came behind the whole ones
 pub raw_adds : (s next : RawSamples) (front all more : List ℕ) (holds : HoldsRaw s front) (then : HoldsRaw next all)

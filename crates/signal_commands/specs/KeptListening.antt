@@ -9,11 +9,10 @@ use Rattle.tc_command.specs.Meaning.{Meaning, Shows}
 use Rattle.tc_io.specs.Verdict.{Verdict, good, refused, past_limit}
 use Rattle.wave_file.specs.declared.format.WaveFormat.{WaveFormat}
 use Rattle.signal_commands.specs.declared.brought.Brought.{Brought}
-use Rattle.signal_commands.specs.declared.brought.TheConstants.{ROOM}
 use Rattle.signal_commands.specs.declared.brought.Brought.TheVariants.{Samples, Begin, Halt as Halts}
 
--- what bytes say of a sound: its format, where they tell it, and whether samples may come; the samples within the limit,
--- and all of them; and whether the bytes are good
+-- what bytes say of a sound: its format, where they tell it, and whether samples may come; the samples within the
+-- limit, and all of them; and whether the bytes are good
 pub record Said : Type 0 where
   pub format : Option WaveFormat
   pub begun : Bool
@@ -43,24 +42,24 @@ pub record ListenerKind (F W : Type 0) : Type 1 where
 
 -- what a command takes and what it writes, by what is asked and by its words
 abbrev pub along_sound : {C A F W : Type 0} → ContainerKind C A → ListenerKind F W → A × W → Meaning
-along_sound holding hearing choice = record {
+along_sound held heard choice = record {
   reads = true;
-  verdict = λ bytes. (holding.says choice.0 bytes).verdict;
-  end_fault = λ bytes. holding.ends choice.0 bytes;
+  verdict = λ bytes. (held.says choice.0 bytes).verdict;
+  end_fault = λ bytes. held.ends choice.0 bytes;
   spent = λ bytes. ⊥;
-  part = λ bytes written. let s = holding.says choice.0 bytes in hearing.so_far choice.1 s.format s.samples written;
-  output = λ bytes written. let s = holding.says choice.0 bytes in hearing.whole choice.1 s.format s.all written;
+  part = λ bytes written. let s = held.says choice.0 bytes in heard.so_far choice.1 s.format s.samples written;
+  output = λ bytes written. let s = held.says choice.0 bytes in heard.whole choice.1 s.format s.all written;
 }
 
 -- ---- what a container brings
 
 -- so many of the bytes were taken
-pub record Takes {C A : Type 0} (holding : ContainerKind C A) (old new : C) (bytes : List ℕ) (count : ℕ) : Type 0 where
+pub record Takes {C A : Type 0} (held : ContainerKind C A) (old new : C) (bytes : List ℕ) (count : ℕ) : Type 0 where
   pub some : 1 ≤ count
   pub within : count ≤ length bytes
-  pub asked : holding.asked new ≡ holding.asked old
-  pub left : holding.left new < holding.left old
-  pub holds : (front : List ℕ) → holding.holds old front → holding.holds new (front ++ take count bytes)
+  pub asked : held.asked new ≡ held.asked old
+  pub left : held.left new < held.left old
+  pub holds : (front : List ℕ) → held.holds old front → held.holds new (front ++ take count bytes)
 
 -- they bring these samples; none come before the format
 pub record Adds (most : ℕ) (before now : Said) (more : List ℤ) : Type 0 where
@@ -90,83 +89,84 @@ pub record Ends (before now : Said) (halt : Halt) : Type 0 where
 
 -- what is said of the bytes so far and of those with more of them
 abbrev pub From : {C A : Type 0} → ContainerKind C A → C → List ℕ → (Said → Said → Type 0) → Type 0
-From holding old more says = (front : List ℕ) → holding.holds old front
-    → says (holding.says (holding.asked old) front) (holding.says (holding.asked old) (front ++ more))
+From held old more says = (front : List ℕ) → held.holds old front
+    → says (held.says (held.asked old) front) (held.says (held.asked old) (front ++ more))
 
 abbrev pub IsBrought : {C A : Type 0} → ContainerKind C A → C → C → List ℕ → List ℤ → Brought → Type 0
-IsBrought holding old new bytes room (Samples count samples) =
-    Takes holding old new bytes count × (samples ≤ ROOM)
-    × From holding old (take count bytes) (λ before now. Adds (holding.most (holding.asked old)) before now (take samples room))
-IsBrought holding old new bytes room (Begin count format) =
-    Takes holding old new bytes count × holding.tells (holding.asked old) format
-    × From holding old (take count bytes) (λ before now. Begins before now format)
-IsBrought holding old new bytes room (Halts halt) =
-    (holding.asked new ≡ holding.asked old) × From holding old bytes (λ before now. Ends before now halt)
+IsBrought held old new bytes room (Samples count samples) =
+    Takes held old new bytes count × (samples ≤ 2_048)
+    × From held old (take count bytes) (λ before now. Adds (held.most (held.asked old)) before now (take samples room))
+IsBrought held old new bytes room (Begin count format) =
+    Takes held old new bytes count × held.tells (held.asked old) format
+    × From held old (take count bytes) (λ before now. Begins before now format)
+IsBrought held old new bytes room (Halts halt) =
+    (held.asked new ≡ held.asked old) × From held old bytes (λ before now. Ends before now halt)
 
 -- ---- a listener, or none before the samples begin
 
 -- nothing is said, and nothing is written of that
-pub record Waits {F W : Type 0} (hearing : ListenerKind F W) (words : W) (said : Said) (written : List ℕ) : Type 0 where
+pub record Waits {F W : Type 0} (heard : ListenerKind F W) (words : W) (said : Said) (written : List ℕ) : Type 0 where
   pub waits : said.begun ≡ false
   pub format : said.format ≡ None
   pub samples : said.samples ≡ []
   pub are : written ≡ []
-  pub so_far : hearing.so_far words None [] []
-  pub whole : hearing.whole words None [] []
+  pub so_far : heard.so_far words None [] []
+  pub whole : heard.whole words None [] []
 
 -- the listener was given the samples
-pub record Hears {F W : Type 0} (hearing : ListenerKind F W) (words : W) (listener : F) (said : Said) (written : List ℕ) : Type 0
-  where
-    pub begun : said.begun ≡ true
-    pub hears : hearing.hears listener words said.format said.samples written
+pub record Hears {F W : Type 0} (heard : ListenerKind F W) (words : W) (listener : F) (said : Said)
+    (written : List ℕ) : Type 0 where
+  pub begun : said.begun ≡ true
+  pub hears : heard.hears listener words said.format said.samples written
 
 abbrev pub HearsIfAny : {F W : Type 0} → ListenerKind F W → W → Option F → Said → List ℕ → Type 0
-HearsIfAny hearing words None said written = Waits hearing words said written
-HearsIfAny hearing words (Some listener) said written = Hears hearing words listener said written
+HearsIfAny heard words None said written = Waits heard words said written
+HearsIfAny heard words (Some listener) said written = Hears heard words listener said written
 
 -- ---- the engine
 
 -- it was given these bytes, and its listener their samples
-pub record Stands {C A F W : Type 0} (holding : ContainerKind C A) (hearing : ListenerKind F W) (container : C) (listener : Option F) (words : W)
-    (bytes written : List ℕ) : Type 0 where
-  pub holds : holding.holds container bytes
-  pub hears : HearsIfAny hearing words listener (holding.says (holding.asked container) bytes) written
+pub record Stands {C A F W : Type 0} (held : ContainerKind C A) (heard : ListenerKind F W) (container : C)
+    (listener : Option F) (words : W) (bytes written : List ℕ) : Type 0 where
+  pub holds : held.holds container bytes
+  pub hears : HearsIfAny heard words listener (held.says (held.asked container) bytes) written
 
 -- the listener takes as many samples as the container gives, in each of its formats
-pub record Suits {C A F W : Type 0} (holding : ContainerKind C A) (hearing : ListenerKind F W) (asked : A) (words : W) : Type 0 where
-  pub most : holding.most asked ≤ hearing.most
-  pub fits : (format : WaveFormat) → holding.tells asked format → hearing.fits words (Some format)
+pub record Suits {C A F W : Type 0} (held : ContainerKind C A) (heard : ListenerKind F W) (asked : A) (words : W)
+    : Type 0 where
+  pub most : held.most asked ≤ heard.most
+  pub fits : (format : WaveFormat) → held.tells asked format → heard.fits words (Some format)
 
 -- and there are bytes for which it stands
-pub record IsGoing {C A F W : Type 0} (holding : ContainerKind C A) (hearing : ListenerKind F W) (container : C) (listener : Option F) (words : W)
-    : Type 0 where
-  pub suits : Suits holding hearing (holding.asked container) words
+pub record IsGoing {C A F W : Type 0} (held : ContainerKind C A) (heard : ListenerKind F W) (container : C)
+    (listener : Option F) (words : W) : Type 0 where
+  pub suits : Suits held heard (held.asked container) words
   pub bytes : List ℕ
   pub written : List ℕ
-  pub stands : Stands holding hearing container listener words bytes written
+  pub stands : Stands held heard container listener words bytes written
 
 -- what a listener writes is what the samples bring so far
 abbrev pub HearsWell : {F W : Type 0} → ListenerKind F W → Type 0
-HearsWell {F = F} {W = W} hearing = (listener : F) (words : W) (format : Option WaveFormat) (samples : List ℤ)
-    (written : List ℕ) → hearing.hears listener words format samples written → hearing.so_far words format samples written
+HearsWell {F = F} {W = W} heard = (listener : F) (words : W) (format : Option WaveFormat) (samples : List ℤ)
+    (written : List ℕ) → heard.hears listener words format samples written → heard.so_far words format samples written
 
 -- so it is of one that may not have begun
-pub so_far_is : {F W : Type 0} (hearing : ListenerKind F W) → HearsWell hearing → (words : W) (listener : Option F) (said : Said)
-    (written : List ℕ) → HearsIfAny hearing words listener said written
-    → hearing.so_far words said.format said.samples written
-so_far_is hearing well words None said written waits =
+pub so_far_is : {F W : Type 0} (heard : ListenerKind F W) → HearsWell heard → (words : W) (listener : Option F)
+    (said : Said) (written : List ℕ) → HearsIfAny heard words listener said written
+    → heard.so_far words said.format said.samples written
+so_far_is heard well words None said written waits =
     rw (waits.format, waits.samples, waits.are) waits.so_far
-so_far_is hearing well words (Some listener) said written hears =
+so_far_is heard well words (Some listener) said written hears =
     well listener words said.format said.samples written hears.hears
 
-pub stands_well : {C A F W : Type 0} (holding : ContainerKind C A) (hearing : ListenerKind F W)
-    → ((container : C) (bytes : List ℕ) → holding.holds container bytes
-    → (holding.says (holding.asked container) bytes).verdict ≡ good)
-    → HearsWell hearing → (container : C) (listener : Option F) (words : W) (bytes written : List ℕ)
-    → Stands holding hearing container listener words bytes written
-    → Shows (along_sound holding hearing (holding.asked container, words)) good bytes
-    × Meaning.part (along_sound holding hearing (holding.asked container, words)) bytes written
-stands_well holding hearing is_good well container listener words bytes written stands = (
+pub stands_well : {C A F W : Type 0} (held : ContainerKind C A) (heard : ListenerKind F W)
+    → ((container : C) (bytes : List ℕ) → held.holds container bytes
+    → (held.says (held.asked container) bytes).verdict ≡ good)
+    → HearsWell heard → (container : C) (listener : Option F) (words : W) (bytes written : List ℕ)
+    → Stands held heard container listener words bytes written
+    → Shows (along_sound held heard (held.asked container, words)) good bytes
+    × Meaning.part (along_sound held heard (held.asked container, words)) bytes written
+stands_well held heard is_good well container listener words bytes written stands = (
   record { is = is_good container bytes stands.holds; unspent = λ spent. spent },
-  so_far_is hearing well words listener (holding.says (holding.asked container) bytes) written stands.hears,
+  so_far_is heard well words listener (held.says (held.asked container) bytes) written stands.hears,
 )

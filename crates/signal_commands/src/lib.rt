@@ -18,7 +18,8 @@
 //!
 //! The four commands of sound are one engine (`listening`): a container makes samples of bytes (`raw_samples`,
 //! `sound_file`), and a listener makes intervals of samples (`sliced`, `path_sound`). Read `brought`, `container`,
-//! `listener` and `listening`, in this order, then these four, and then `pcm_ltc`, `pcm_path`, `wav_ltc` and `wav_path`.
+//! `listener` and `listening`, in this order, then these four, and then `pcm_ltc`, `pcm_path`, `wav_ltc` and
+//! `wav_path`.
 //! `mtc_read`, `vitc_read` and `luma_vitc` stand each by itself.
 #![tactic(auto)]
 

@@ -5,16 +5,16 @@ use Rattle.signal_commands.proofs.pcm_path.hear_path.Goals as goal
 
 -- the listener has begun
 pub begun-listening-requires-clause-hears : goal.begun-listening-requires-clause-hears
-begun-listening-requires-clause-hears g c = (
-  c.begin-listener.result.1,
-  raw_begins path_kind (Raw c.args.path.now) c.begin-listener.result.0 c.begin-listener.result.1 c.begin-listener.ensures,
-)
+begun-listening-requires-clause-hears g c =
+    let b = c.begin-listener in
+    (b.result.1, raw_begins path_kind (Raw c.args.path.now) b.result.0 b.result.1 b.ensures)
 
 -- and wrote the header
 pub run_behind-requires-clause-new : goal.run_behind-requires-clause-new
 run_behind-requires-clause-new g c =
-    c.begun-listening.ensures.stands c.begin-listener.result.1
-    (raw_begins path_kind (Raw c.args.path.now) c.begin-listener.result.0 c.begin-listener.result.1 c.begin-listener.ensures)
+    let b = c.begin-listener in
+    c.begun-listening.ensures.stands b.result.1
+    (raw_begins path_kind (Raw c.args.path.now) b.result.0 b.result.1 b.ensures)
 
 -- the choice of the engine is that of the words
 pub returns : goal.returns

@@ -31,5 +31,6 @@ returns-in-Halt-clause-halts g c = λ front written stands. (
   g.O.Output.given_none c.args.out.now,
   halts_as g.C.Container.kind g.L.Listener.kind _ c.args.self.now.words c.in-Halt.halt front c.args.bytes.now written
       (c.in-Halt.ensures.1 front stands.holds)
-      (so_far_is g.L.Listener.kind g.L.Listener.hears_well c.args.self.now.words c.args.self.now.listener _ written stands.hears),
+      (so_far_is g.L.Listener.kind g.L.Listener.hears_well c.args.self.now.words c.args.self.now.listener _ written
+      stands.hears),
 )
