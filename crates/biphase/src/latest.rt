@@ -1,4 +1,4 @@
-//! What a tolerance keeps of the cells so far. Read next: `tolerance`, whose tests compare with it.
+//! What a tolerance keeps of the cells so far. Read next: `profile`.
 ghost use Rattle.std.specs.Prelude.{◌≡◌, ℕ, ◌*◌, ◌≤◌};
 ghost use Rattle.limits.specs.declared.recording.TheConstants.{MAX_INTERVAL};
 ghost use Rattle.biphase.specs.Tolerance.{latest_with, sum_of, kept_at_lock, kept_next, reference_of, kept_by};

@@ -1,4 +1,4 @@
-//! The tolerance profiles, and all their numbers. Read next: `tolerance`.
+//! The tolerance profiles, and all their numbers. Read next: `cell`.
 ghost use Rattle.std.specs.Prelude.{◌≡◌, ◌*◌, ◌<◌, ◌^◌, ◌↔◌, IsTrue};
 ghost use Rattle.biphase.specs.Profile.{equal_of, unequal_of, IsAtLeast, IsAtMost, IsWithin};
 

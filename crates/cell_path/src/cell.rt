@@ -1,4 +1,4 @@
-//! Cells, and how they follow one another. Read next: `four`.
+//! Cells, and how they follow one another. Read next: `end`.
 ghost use Rattle.std.specs.Prelude.{◌≡◌, ◌^◌};
 ghost use Rattle.cell_path.specs.Path.{opposite, sign_before, signed};
 ghost use Rattle.cell_path.specs.Within.{IsWithin};

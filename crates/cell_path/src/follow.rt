@@ -1,4 +1,4 @@
-//! Following the best path back to what was decided before. Read next: `decisions`.
+//! Following the best path back to what was decided before. Read next: `placed`.
 ghost use Rattle.std.specs.Prelude.{◌≡◌, ◌+◌, ◌^◌, ◌<◌, ◌≤◌, List, drop, length};
 ghost use Rattle.cell_path.specs.declared.cell.Cell.{Cell};
 ghost use Rattle.cell_path.specs.declared.cell.Step.{Step};

@@ -1,4 +1,4 @@
-//! What 32 bits keep of the numbers of four steps in a row. Read next: `ring`.
+//! What 32 bits keep of the numbers of four steps in a row. Read next: `lengths`.
 ghost use Rattle.std.specs.Prelude.{◌≡◌, ◌⊎◌, ℕ, ◌*◌, ◌^◌, ◌<◌, ℤ, pos, ◌+ℤ◌, ◌-ℤ◌, ◌≤ℤ◌, ◌<ℤ◌, true, false};
 ghost use Rattle.cell_path.specs.Four.{at_step, low, AreNear};
 

@@ -1,4 +1,4 @@
-//! What the best paths lack of the sizes of the sound. Read next: `scores`.
+//! What the best paths lack of the sizes of the sound. Read next: `start`.
 ghost use Rattle.std.specs.Prelude.{◌≡◌, ℕ, ◌+◌, ◌%◌, ◌<◌, ◌≤◌, List, [], ◌∷◌, length};
 ghost use Rattle.cell_path.specs.declared.cell.Step.{Step};
 ghost use Rattle.cell_path.specs.Kept.{lack_ago};

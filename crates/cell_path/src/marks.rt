@@ -1,4 +1,4 @@
-//! The marks of the latest steps, and following a best path back by them. Read next: `paths`.
+//! The marks of the latest steps, and following a best path back by them. Read next: `point`.
 ghost use Rattle.std.specs.Prelude.{◌≡◌, ℕ, ◌+◌, ◌-◌, ◌^◌, ◌<◌, ◌≤◌, ℤ, IfSome, None, List, [], ◌∷◌, drop, length};
 ghost use Rattle.cell_path.specs.declared.cell.Cell.{Cell};
 ghost use Rattle.cell_path.specs.declared.cell.Step.{Step};

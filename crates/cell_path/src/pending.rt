@@ -1,4 +1,4 @@
-//! Steps that wait until there are four. Read next: `decisions`.
+//! Steps that wait until there are four. Read next: `paths`.
 ghost use Rattle.std.specs.Prelude.{◌≡◌, ◌+◌, ◌%◌, ◌^◌, ◌≤◌, List, ◌∷◌};
 ghost use Rattle.cell_path.specs.declared.cell.Step.{Step};
 ghost use Rattle.cell_path.specs.Paths.{PathsStandFor};

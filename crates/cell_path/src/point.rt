@@ -1,4 +1,4 @@
-//! The end of a cell on a path. Read next: `marks`.
+//! The end of a cell on a path. Read next: `follow`.
 ghost use Rattle.std.specs.Prelude.{◌≡◌, ◌+◌, ◌^◌, ◌<◌, ◌≤◌};
 ghost use Rattle.cell_path.specs.KeptMarks.{point_before};
 

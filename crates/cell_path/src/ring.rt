@@ -1,4 +1,4 @@
-//! A ring of numbers, from which four in a row are read. Read next: `sums`.
+//! A ring of numbers, from which four in a row are read. Read next: `four`.
 ghost use Rattle.std.specs.Prelude.{◌≡◌, ◌⊎◌, ℕ, ◌+◌, ◌%◌, ◌<◌, ◌≤◌, get_or};
 ghost use Rattle.cell_path.specs.Four.{at_step};
 ghost use Rattle.cell_path.specs.Kept.{IsRing};

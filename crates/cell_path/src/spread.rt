@@ -1,4 +1,4 @@
-//! The marks of each of four steps, from those of each length. Read next: `scores`.
+//! The marks of each of four steps, from those of each length. Read next: `mark`.
 ghost use Rattle.std.specs.Prelude.{◌≡◌, ◌≢◌, ℕ, ◌/◌, ◌%◌, ◌<◌};
 ghost use Rattle.cell_path.specs.Four.{at_step};
 ghost use Rattle.cell_path.specs.Marks.{sign_from};

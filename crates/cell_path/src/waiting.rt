@@ -1,4 +1,4 @@
-//! The cells that are decided and not given yet. Read next: `follow`.
+//! The cells that are decided and not given yet.
 ghost use Rattle.std.specs.Prelude.{◌≡◌, ◌<◌, ◌≤◌, [], ◌∷◌, ◌++◌, length, IfSome};
 ghost use Rattle.cell_path.specs.Decided.{end_behind, TakesEarliest};
 

@@ -1,4 +1,4 @@
-//! What a frame comes to in each mode, by the error of that frame. Read next: `chase`.
+//! What a frame comes to in each mode, by the error of that frame. Read next: `report`.
 ghost use Rattle.std.specs.Prelude.{◌≡◌, ◌≤◌, pos, ◌+ℤ◌, None, unsigned_abs};
 ghost use Rattle.chase_core.specs.Step.{held, motion_of, table_row, located, pulled, kept, is_near};
 

@@ -1,4 +1,4 @@
-//! What a chase says of a frame. Read next: `mode`.
+//! What a chase says of a frame. Read next: `transport_model/src/transport.rt`.
 
 /// What a chase does.
 #[derive(Clone, Copy)]

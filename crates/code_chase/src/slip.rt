@@ -1,4 +1,4 @@
-//! How far the transport slips in a step. Read next: `code_loop`.
+//! How far the transport slips in a step. Read next: `generator/src/generator.rt`.
 ghost use Rattle.std.specs.Prelude.{◌≡◌, ◌≤◌, unsigned_abs};
 ghost use Rattle.code_chase.specs.CodeTrace.{slip_of};
 

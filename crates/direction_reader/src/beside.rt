@@ -1,4 +1,4 @@
-//! What is beside a window: the latest 96 bits of a stretch. Read next: `firm_cells`.
+//! What is beside a window: the latest 96 bits of a stretch. Read next: `waiting`.
 ghost use Rattle.std.specs.Prelude.{◌≡◌};
 ghost use Rattle.direction_reader.specs.Beside.{none_beside, beside_with, is_firm_before, is_sync_behind};
 

@@ -1,4 +1,4 @@
-//! How a command is typed. Read next: `table`, which has the form of each command.
+//! How a command is typed. Read next: `choices`.
 ghost use Rattle.std.specs.Prelude.{◌≡◌, ◌≤◌, length, map, true};
 ghost use Rattle.forms.specs.Form.{Row, are_met, is_met, takes};
 

@@ -1,4 +1,4 @@
-//! A number that is written in digits. Read next: `slot`.
+//! A number that is written in digits. Read next: `value`.
 ghost use Rattle.std.specs.Prelude.{◌≡◌, ◌≤◌, IfSome};
 ghost use Rattle.forms.specs.Number.{between, is_number, number_spelled};
 

@@ -1,4 +1,4 @@
-//! What a word behind a command is read as. Read next: `form`.
+//! What a word behind a command is read as. Read next: `number`.
 ghost use Rattle.std.specs.Prelude.{◌≡◌, ◌≤◌, IfSome, option_map, position};
 ghost use Rattle.std.specs.Str.{bytes_eq};
 ghost use Rattle.forms.specs.Choice.{said_by};

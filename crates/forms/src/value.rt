@@ -1,4 +1,4 @@
-//! The values of words. Read next: `choices`, which has the words that say something.
+//! The values of words. Read next: `reading`.
 use biphase::Profile;
 use interval_file::FileVersion;
 use tc_address::{Count, Direction, Label, System};

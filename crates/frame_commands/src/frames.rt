@@ -1,4 +1,4 @@
-//! The frames of the words that are heard: a flywheel invents those that are missing. Read next: `words`, and then
+//! The frames of the words that are heard: a flywheel invents those that are missing. Read next:
 //! `flywheel/src/wheel.rt`.
 ghost use Rattle.std.specs.Prelude.{◌≡◌, ◌≤◌, ◌<◌, ◌^◌, ◌*◌, ◌+◌, ℕ, List, [], IsTrue, IfSome};
 ghost use Rattle.std.specs.Option.{option_to_list};

@@ -1,4 +1,4 @@
-//! A count together with the rate at which its frames run. Read next: `forms`.
+//! A count together with the rate at which its frames run. Read next: `real_time/src/rate.rt`.
 ghost use Rattle.std.specs.Prelude.{◌≡◌};
 ghost use Rattle.label_lines.specs.Timebase.{count_of, rate_of};
 

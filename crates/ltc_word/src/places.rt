@@ -1,5 +1,5 @@
-//! Where each field is in the 80 bits of a word (SMPTE 12M, the table of the linear time code word).
-//! Bit 0 is the first in time, and each field has its least significant bit first. Read next: `reading`.
+//! Where each field is in the 80 bits of a word (SMPTE 12M, the table of the linear time code word). Bit 0 is the
+//! first in time, and each field has its least significant bit first. Read next: `balance`.
 
 ghost use Rattle.std.specs.Prelude.{◌≡◌, ◌^◌, ◌<◌};
 ghost use Rattle.ltc_word.specs.Places.{polarity_bit, table_of};

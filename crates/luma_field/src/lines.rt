@@ -1,4 +1,4 @@
-//! The lines that rows say, one after another, up to twenty. Read next: `field`.
+//! The lines that rows say, one after another, up to twenty.
 ghost use Rattle.std.specs.Prelude.{◌≡◌, ◌^◌, ◌≤◌, ◌++◌, take};
 ghost use Rattle.std.specs.List.{flat_map};
 ghost use Rattle.luma_row.specs.KeptLevels.{AreLevels};

@@ -1,4 +1,4 @@
-//! The best of some, tried one after another. Read next: `coarse`.
+//! The best of some, tried one after another. Read next: `place`.
 ghost use Rattle.std.specs.Prelude.{◌≡◌, ℕ, ◌+◌, ◌<◌, ◌≤◌};
 ghost use Rattle.luma_row.specs.KeptBest.{IsBestOf};
 

@@ -1,4 +1,4 @@
-//! The darkest and the lightest pixel of a row. Read next: `light`.
+//! The darkest and the lightest pixel of a row. Read next: `edges`.
 ghost use Rattle.std.specs.Prelude.{◌≡◌, ◌+◌, ◌-◌, ◌/◌, min, max};
 ghost use Rattle.std.specs.List.{fold};
 ghost use Rattle.luma_row.specs.KeptExtremes.{AreExtremes};

@@ -1,4 +1,4 @@
-//! A place of a word in a row, and the sum of its falls. Read next: `coarse`.
+//! A place of a word in a row, and the sum of its falls. Read next: `climb`.
 ghost use Rattle.std.specs.Prelude.{◌≡◌, ℕ, ◌+◌, ◌*◌, ◌^◌, ◌<◌, ◌≤◌, length};
 ghost use Rattle.luma_row.specs.KeptLight.{AreSums};
 ghost use Rattle.luma_row.specs.Light.{IsRow};

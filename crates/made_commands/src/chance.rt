@@ -1,4 +1,4 @@
-//! The cells of the load run: their length changes by chance. Read next: `ltc_load`.
+//! The cells of the load run: their length changes by chance. Read next: `divisors`.
 ghost use Rattle.std.specs.Prelude.{◌≡◌, ◌≤◌, ◌<◌};
 ghost use Rattle.biphase.specs.Chain.{intervals_of};
 ghost use Rattle.generator.specs.Draw.{drawn};

@@ -1,5 +1,5 @@
-//! Remainders by a product in place of a quotient: each cell of the load run waits for the remainder before it,
-//! and a division takes longer. Read next: `chance`.
+//! Remainders by a product in place of a quotient: each cell of the load run waits for the remainder before it, and
+//! a division takes longer. Read next: `about`.
 ghost use Rattle.std.specs.Prelude.{◌≡◌, ◌<◌, ◌≤◌, ◌+◌, ◌*◌, ◌%◌, ◌^◌};
 ghost use Rattle.made_commands.specs.KeptDivisors.{AreFactors, factor_of};
 

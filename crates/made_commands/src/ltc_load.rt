@@ -1,5 +1,4 @@
-//! `ltc-load`: a recording made by chance, and read interval after interval as it is made. Read next: `labels`,
-//! which has its line.
+//! `ltc-load`: a recording made by chance, and read interval after interval as it is made. Read next: `chance`.
 ghost use Rattle.std.specs.Prelude.{◌≡◌, ◌≤◌, ◌<◌, ◌+◌, ◌*◌, ◌/◌, ◌%◌, ◌^◌, ◌++◌, [], ◌∷◌, List, ℕ, decimal, fold};
 ghost use Rattle.std.specs.Prelude.{length, Some};
 ghost use Rattle.arrayvec.specs.ArrayVec.{array_vec_len};

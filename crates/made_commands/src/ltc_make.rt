@@ -1,4 +1,4 @@
-//! `ltc-make`: a recording made of labels. Read next: `tc_command/src/making.rt`.
+//! `ltc-make`: a recording made of labels. Read next: `biphase/src/shaper.rt`.
 ghost use Rattle.std.specs.Prelude.{◌≡◌, ◌+◌, ◌^◌, ◌<◌, ◌≤◌, Bool, false, true, List, [], ◌∷◌, ◌++◌, length, None};
 ghost use Rattle.arrayvec.specs.ArrayVec.{array_vec_len};
 ghost use Rattle.biphase.specs.Chain.{intervals_of};

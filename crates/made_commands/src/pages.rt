@@ -1,5 +1,5 @@
-//! The pages of help: what it says of one command (`help COMMAND`), and of the exit numbers (`help statuses`).
-//! Read next: `tc_command/src/making.rt`.
+//! The pages of help: what it says of one command (`help COMMAND`), and of the exit numbers (`help statuses`). Read
+//! next: `tc_job/src/pages.rt`.
 ghost use Rattle.std.specs.Prelude.{◌≡◌, ◌+◌, ◌-◌, ◌<◌, ◌≤◌, ◌++◌, [], true, false, length, drop, map};
 ghost use Rattle.arrayvec.specs.ArrayVec.{array_vec_len};
 ghost use Rattle.made_commands.specs.Pages.{examples, line_of, page_in, page_lines, page_text, row_of, said};

@@ -1,4 +1,4 @@
-//! `vitc-make`: a line file made of labels. Read next: `tc_command/src/making.rt`.
+//! `vitc-make`: a line file made of labels. Read next: `vitc_line/src/writing.rt`.
 ghost use Rattle.std.specs.Prelude.{◌≡◌, ◌+◌, ◌*◌, ◌<◌, ◌≤◌, ◌++◌, length, None};
 ghost use Rattle.std.specs.List.{flat_map};
 ghost use Rattle.arrayvec.specs.ArrayVec.{array_vec_len};

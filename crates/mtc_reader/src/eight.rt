@@ -1,4 +1,4 @@
-//! Eight quarter frames at once. Read next: `row`, with those that came.
+//! Eight quarter frames at once. Read next: `address`.
 ghost use Rattle.std.specs.Prelude.{◌≡◌, ◌≤◌, ◌+◌, ◌%◌, ◌++◌, ℕ, List, [], ◌∷◌, true, bytes_eq, length, map};
 ghost use Rattle.std.specs.Prelude.{take, IfSome};
 ghost use Rattle.std.specs.Int.{to_be_bytes, w64};

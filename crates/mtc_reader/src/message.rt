@@ -1,4 +1,4 @@
-//! The messages of MIDI Time Code among all MIDI messages. Read next: `current`.
+//! The messages of MIDI Time Code among all MIDI messages. Read next: `row`.
 ghost use Rattle.std.specs.Prelude.{◌≡◌};
 ghost use Rattle.mtc_reader.specs.Messages.{kind_with};
 

@@ -1,4 +1,4 @@
-//! The cells of a sound, from its samples. Read next: `judging`.
+//! The cells of a sound, from its samples. Read next: `clip`.
 ghost use Rattle.std.specs.Prelude.{◌≡◌, ◌+◌, ◌^◌, ◌<◌, ◌≤◌, ℤ, true, false, IfSome, IfNone, OnSome, List, [], ◌∷◌};
 ghost use Rattle.cell_path.specs.declared.placed.Placed.{Placed};
 ghost use Rattle.path_front.specs.Cells.{cell_behind, cells_left, sounds_in, CellsEndFor, CellsStandFor, GivesCell};

@@ -1,4 +1,4 @@
-//! The cells of a sound, judged. Read next: `front`.
+//! The cells of a sound, judged. Read next: `cells`.
 ghost use Rattle.std.specs.Prelude.{◌≡◌, ◌+◌, ◌^◌, ◌<◌, ◌≤◌, ℤ, IfSome, IfNone, List, [], ◌∷◌, length};
 ghost use Rattle.path_front.specs.Cells.{IsIdle, SameSound};
 ghost use Rattle.step_grid.specs.Grid.{IsGrid};

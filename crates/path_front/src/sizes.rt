@@ -1,4 +1,4 @@
-//! The sizes of the latest sounds, and their mean. Read next: `clip`.
+//! The sizes of the latest sounds, and their mean. Read next: `hold`.
 ghost use Rattle.std.specs.Prelude.{◌≡◌, ℕ, ◌+◌, ◌*◌, ◌/◌, ◌^◌, ◌<◌, ◌≤◌, min, List, [], ◌∷◌};
 ghost use Rattle.path_front.specs.Sizes.{mean_size};
 ghost use Rattle.path_front.specs.KeptSizes.{SizesStandFor};

@@ -1,4 +1,4 @@
-//! The intervals of cells. Read next: `cells`.
+//! The intervals of cells.
 ghost use Rattle.std.specs.Prelude.{◌≡◌, ◌^◌, ◌<◌, ◌≤◌, ◌∷◌, length};
 ghost use Rattle.std.specs.Option.{option_to_list};
 ghost use Rattle.path_front.specs.Measured.{IsMeasured};

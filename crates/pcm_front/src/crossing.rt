@@ -1,4 +1,4 @@
-//! The tick of a crossing in the step to its sample. Read next: `still`.
+//! The tick of a crossing in the step to its sample. Read next: `pace`.
 ghost use Rattle.std.specs.Prelude.{◌≡◌, ◌≤◌, ◌^◌, Some, pos, ◌≤ℤ◌};
 ghost use Rattle.pcm_front.specs.Level.{IsSum};
 ghost use Rattle.pcm_front.specs.Side.{side_of};

@@ -1,4 +1,4 @@
-//! The crossings in a list of sums. Read next: `slicer`.
+//! The crossings in a list of sums. Read next: `side`.
 ghost use Rattle.std.specs.Prelude.{◌≡◌, ◌+◌, ◌-◌, ◌*◌, ◌<◌, ◌≤◌, ◌^◌, true, false, Some, None, length, slice_range};
 ghost use Rattle.std.specs.Prelude.{IfSome};
 ghost use Rattle.std.specs.List.{fold};

@@ -1,4 +1,4 @@
-//! The intervals of a distance. Read next: `pace`.
+//! The intervals of a distance.
 ghost use Rattle.std.specs.Prelude.{◌≡◌, ◌+◌, ◌*◌, ◌≤◌, ◌^◌, [], ◌∷◌, ◌++◌, replicate};
 ghost use Rattle.pcm_front.specs.Distance.{pieces_in, IsInterval};
 

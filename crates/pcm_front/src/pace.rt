@@ -1,4 +1,4 @@
-//! When the intervals of a distance are written. Read next: `paced`.
+//! When the intervals of a distance are written. Read next: `interval`.
 ghost use Rattle.std.specs.Prelude.{◌≡◌, ◌≤◌, ◌^◌, ◌++◌, is_some, IfSome};
 ghost use Rattle.std.specs.List.{flat_map};
 ghost use Rattle.std.specs.Option.{option_to_list};

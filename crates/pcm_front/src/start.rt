@@ -1,4 +1,4 @@
-//! Where the first distance begins. Read next: `samples`.
+//! Where the first distance begins. Read next: `quiet`.
 
 /// Where the first distance begins.
 #[derive(Clone, Copy)]

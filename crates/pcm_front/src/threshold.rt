@@ -1,4 +1,4 @@
-//! The threshold that a crossing passes. Read next: `level`.
+//! The threshold that a crossing passes. Read next: `finder`.
 ghost use Rattle.std.specs.Prelude.{◌≡◌, ◌≤◌, length, slice_range};
 ghost use Rattle.std.specs.List.{fold};
 ghost use Rattle.pcm_front.specs.Level.{least_of, next_level, threshold_by, IsInRange, IsSum};

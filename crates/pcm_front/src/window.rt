@@ -1,4 +1,4 @@
-//! The sums of the latest samples. Read next: `quiet`.
+//! The sums of the latest samples. Read next: `still`.
 ghost use Rattle.std.specs.Prelude.{◌≡◌, ◌≤◌, ◌+◌, ◌*◌, ◌==◌, true, false, cond, unsigned_abs, ◌+ℤ◌, ◌-ℤ◌, ◌++◌, []};
 ghost use Rattle.std.specs.Prelude.{◌∷◌, length};
 ghost use Rattle.pcm_front.specs.KeptRuns.{PassesTo};

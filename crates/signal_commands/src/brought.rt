@@ -1,4 +1,4 @@
-//! What bytes bring on their way into samples. Read next: `container`.
+//! What bytes bring on their way into samples. Read next: `sound_file`.
 use tc_command::Halt;
 use wave_file::WaveFormat;
 

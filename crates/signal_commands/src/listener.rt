@@ -1,4 +1,4 @@
-//! Samples on their way into the intervals of a file: sliced, or by their best path. Read next: `listening`.
+//! Samples on their way into the intervals of a file: sliced, or by their best path. Read next: `sliced`.
 ghost use Rattle.std.specs.Prelude.{◌≡◌, ◌≤◌, ◌+◌, ◌++◌, ℕ, ℤ, List, [], length, Option};
 ghost use Rattle.wave_file.specs.declared.format.WaveFormat.{WaveFormat};
 ghost use Rattle.signal_commands.specs.KeptListening.{ListenerKind};

@@ -1,5 +1,5 @@
-//! Raw samples: two bytes each, the less significant one first. Here alone a pull may end inside a sample.
-//! Read next: `pcm_ltc`.
+//! Raw samples: two bytes each, the less significant one first. Here alone a pull may end inside a sample. Read
+//! next: `listener`.
 ghost use Rattle.std.specs.Prelude.{◌≡◌, ◌≤◌, ◌<◌, ◌+◌, ◌*◌, [], length, take, IfSome, IfNone};
 ghost use Rattle.pcm_front.specs.Samples.{samples_of};
 ghost use Rattle.signal_commands.specs.KeptRaw.{raw_kind};

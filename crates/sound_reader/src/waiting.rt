@@ -1,4 +1,4 @@
-//! Intervals that are found, and not read yet. Read next: `reader`.
+//! Intervals that are found, and not read yet. Read next: `direction_reader/src/witness.rt`.
 ghost use Rattle.std.specs.Prelude.{◌≡◌, ◌<◌, ◌++◌, [], ◌∷◌, IfSome, None};
 ghost use Rattle.std.specs.Option.{option_to_list};
 ghost use Rattle.pcm_front.specs.Distance.{IsInterval};

@@ -1,4 +1,4 @@
-//! What lies between two spans. Read next: `tape`.
+//! What lies between two spans. Read next: `texts`.
 ghost use Rattle.std.specs.Prelude.{◌≡◌, ◌≤◌, unsigned_abs};
 ghost use Rattle.tape_spans.specs.Gap.{gap_between, relation_of, step_between};
 

@@ -1,4 +1,4 @@
-//! Where a tape is: before its first span, within one, or behind one. Read next: `tape`.
+//! Where a tape is: before its first span, within one, or behind one. Read next: `span`.
 ghost use Rattle.std.specs.Prelude.{◌≡◌, ◌+◌, ◌<◌, ◌≤◌, ◌^◌};
 ghost use Rattle.tape_spans.specs.Tape.{begun_at, ended_at, gap_at, joined_by, with_invented, IsOpen, IsTapePlace};
 

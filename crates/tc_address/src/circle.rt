@@ -1,4 +1,4 @@
-//! Places on a circle, as a day is one: steps, and the shortest way. Read next: `digits`.
+//! Places on a circle, as a day is one: steps, and the shortest way.
 ghost use Rattle.std.specs.Prelude.{◌≡◌, ◌+◌, ◌*◌, ◌%◌, ◌<◌, ◌≤◌, ◌⊎◌};
 ghost use Rattle.tc_address.specs.Circle.{moved, ahead, shortest_way, IsShortest};
 

@@ -1,4 +1,4 @@
-//! Two decimal digits at once. Read next: `spelling`, with the text of a label.
+//! Two decimal digits at once. Read next: `count`.
 ghost use Rattle.std.specs.Prelude.{◌≡◌, ◌<◌};
 ghost use Rattle.tc_address.specs.Spelling.{two_digits};
 

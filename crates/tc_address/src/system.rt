@@ -1,4 +1,4 @@
-//! How many frames a second has. Read next: `count`.
+//! How many frames a second has. Read next: `direction`.
 ghost use Rattle.std.specs.Prelude.{◌≡◌};
 ghost use Rattle.tc_address.specs.Count.{rate_of};
 

@@ -1,4 +1,4 @@
-//! A frame address in numbers. Read next: `label_exports`.
+//! A frame address in numbers. Read next: `word_exports`.
 ghost use Rattle.std.specs.Prelude.{◌≡◌, ◌↔◌, IsTrue, Some, IfSome};
 ghost use Rattle.tc_address.specs.declared.count.Count.{Count};
 ghost use Rattle.tc_address.specs.Label.{Address, IsLabel};

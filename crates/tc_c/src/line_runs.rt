@@ -1,4 +1,4 @@
-//! The word of a line in numbers, and its runs. Read next: `line_exports`.
+//! The word of a line in numbers, and its runs.
 ghost use Rattle.std.specs.Prelude.{◌≡◌, ◌≤◌, ◌↔◌, IsTrue, Some, IfSome, length, take, drop};
 ghost use Rattle.tc_address.specs.Count.{system_with};
 ghost use Rattle.vitc_line.specs.declared.word.VitcWord.{VitcWord};

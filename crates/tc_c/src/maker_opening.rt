@@ -1,4 +1,4 @@
-//! The first maker of cells of a handle. Read next: `maker_exports`.
+//! The first maker of cells of a handle. Read next: `sound_exports`.
 ghost use Rattle.std.specs.Borrow.{sem};
 ghost use Rattle.biphase.specs.Shape.{IsShape};
 ghost use Rattle.tc_c.specs.Opening.{HasMaker, HasMakerRoom};

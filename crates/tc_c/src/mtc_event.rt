@@ -1,4 +1,4 @@
-//! An event of MIDI Time Code in numbers. Read next: `mtc_writer_kept`.
+//! An event of MIDI Time Code in numbers. Read next: `mtc_reader_kept`.
 ghost use Rattle.std.specs.Prelude.{◌≡◌};
 ghost use Rattle.tc_c.specs.CMtc.{c_mtc_event, label_fault_number};
 

@@ -1,4 +1,4 @@
-//! A reader of MIDI Time Code as it lies in memory of the caller's. Read next: `mtc_read`.
+//! A reader of MIDI Time Code as it lies in memory of the caller's. Read next: `mtc_reader_handle`.
 use mtc_reader::MtcReader;
 use std::marker::Model;
 

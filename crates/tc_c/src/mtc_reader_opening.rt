@@ -1,4 +1,4 @@
-//! The first reader of MIDI Time Code of a handle. Read next: `mtc_reader_exports`.
+//! The first reader of MIDI Time Code of a handle. Read next: `maker_exports`.
 ghost use Rattle.std.specs.Prelude.{[]};
 ghost use Rattle.std.specs.Borrow.{sem};
 ghost use Rattle.tc_c.specs.CMtc.{HasTold};

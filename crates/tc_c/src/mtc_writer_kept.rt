@@ -1,4 +1,4 @@
-//! A writer of MIDI Time Code as it lies in memory of the caller's. Read next: `mtc_write`.
+//! A writer of MIDI Time Code as it lies in memory of the caller's. Read next: `mtc_writer_handle`.
 use quarter_frame::QuarterWriter;
 use std::marker::Model;
 

@@ -1,4 +1,4 @@
-//! The first writer of MIDI Time Code of a handle. Read next: `mtc_writer_exports`.
+//! The first writer of MIDI Time Code of a handle. Read next: `mtc_reader_exports`.
 ghost use Rattle.std.specs.Prelude.{[]};
 ghost use Rattle.std.specs.Borrow.{sem};
 ghost use Rattle.quarter_frame.specs.StandsFor.{StandsFor};

@@ -1,4 +1,4 @@
-//! The first reader of a handle. Read next: `exports`.
+//! The first reader of a handle. Read next: `kept`.
 ghost use Rattle.std.specs.Prelude.{[]};
 ghost use Rattle.std.specs.Borrow.{sem};
 ghost use Rattle.sound_reader.specs.Sound.{StandsFor};

@@ -1,4 +1,4 @@
-//! Settings in numbers. Read next: `kept`.
+//! Settings in numbers. Read next: `write`.
 ghost use Rattle.std.specs.Prelude.{◌≡◌, ◌≤◌, Some, IfSome};
 ghost use Rattle.biphase.specs.declared.profile.Profile.{Profile};
 ghost use Rattle.pcm_front.specs.declared.pace.Pace.{Pace};

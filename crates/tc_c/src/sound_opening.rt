@@ -1,4 +1,4 @@
-//! The first maker of sound of a handle. Read next: `sound_exports`.
+//! The first maker of sound of a handle. Read next: `label_exports`.
 ghost use Rattle.std.specs.Prelude.{[]};
 ghost use Rattle.std.specs.Borrow.{sem};
 ghost use Rattle.code_maker.specs.Sound.{StandsFor};

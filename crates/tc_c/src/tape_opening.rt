@@ -1,4 +1,4 @@
-//! The first reader of a tape of a handle. Read next: `tape_exports`.
+//! The first reader of a tape of a handle. Read next: `wheel_exports`.
 ghost use Rattle.std.specs.Prelude.{[]};
 ghost use Rattle.std.specs.Borrow.{sem};
 ghost use Rattle.tape_reader.specs.Tape.{StandsFor};

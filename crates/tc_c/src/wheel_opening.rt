@@ -1,4 +1,4 @@
-//! The first flywheel of a handle. Read next: `wheel_exports`.
+//! The first flywheel of a handle. Read next: `mtc_writer_exports`.
 ghost use Rattle.std.specs.Prelude.{[]};
 ghost use Rattle.std.specs.Borrow.{sem};
 ghost use Rattle.frame_wheel.specs.Wheel.{StandsFor};

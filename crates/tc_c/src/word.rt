@@ -1,4 +1,4 @@
-//! A word in numbers, and its 80 bits. Read next: `word_exports`.
+//! A word in numbers, and its 80 bits. Read next: `line_exports`.
 ghost use Rattle.std.specs.Prelude.{◌≡◌, ◌^◌, ◌<◌, ◌≤◌, Some, None, IfSome};
 ghost use Rattle.tc_bits.specs.Fields.{IsFields};
 ghost use Rattle.ltc_word.specs.declared.word.LtcWord.{LtcWord};

@@ -1,4 +1,4 @@
-//! Samples in, and events out in numbers. Read next: `handle`.
+//! Samples in, and events out in numbers. Read next: `sound_reader/src/settings.rt`.
 ghost use Rattle.std.specs.Prelude.{◌≡◌, ◌+◌, ◌≤◌, ◌<◌, ◌++◌, length, take, drop, map, false};
 ghost use Rattle.direction_reader.specs.Events.{listed};
 ghost use Rattle.sound_reader.specs.Sound.{is_full, IsSettled};

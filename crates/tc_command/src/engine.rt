@@ -1,5 +1,5 @@
 //! What every command that reads an input is: an engine that takes what was pulled, and writes what that brings. It
-//! knows no source and no sink, and no fault of theirs. Read next: `running`, which gives it the bytes.
+//! knows no source and no sink, and no fault of theirs. Read next: `status`.
 ghost use Rattle.std.specs.Prelude.{◌≡◌, ℕ, ◌<◌, ◌≤◌, List, ◌++◌, length, take, Some, OnOk, IfOk, IfErr};
 ghost use Rattle.tc_io.specs.Verdict.{good};
 ghost use Rattle.tc_command.specs.Halt.{IsHalt};

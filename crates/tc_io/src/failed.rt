@@ -1,4 +1,4 @@
-//! Why a pull or a push gave nothing. Read next: `source`.
+//! Why a pull or a push gave nothing. Read next: `memory_source`.
 
 /// A pull or a push failed by a fault of the source or the sink, which counts it.
 #[derive(Clone, Copy)]

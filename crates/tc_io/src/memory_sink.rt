@@ -1,4 +1,4 @@
-//! A sink into memory whose room is taken at the making. Read next: `adapters`.
+//! A sink into memory whose room is taken at the making.
 ghost use Rattle.std.specs.Prelude.{◌≡◌, ℕ, ◌≤◌, List, length, vec_capacity, Some, IfOk};
 ghost use Rattle.std.specs.Io.{WritesAtMost};
 ghost use Rattle.std.specs.Io.KnownBytes.{WriteAppends};

@@ -1,4 +1,4 @@
-//! Fixed room, in which bytes wait between a source and a sink. Read next: `memory_source`.
+//! Fixed room, in which bytes wait between a source and a sink. Read next: `sink`.
 ghost use Rattle.std.specs.Prelude.{◌≡◌, ◌+◌, ◌≤◌, ◌++◌, length};
 ghost use Rattle.arrayvec.specs.ArrayVec.{array_vec_len};
 

@@ -1,4 +1,4 @@
-//! What is pushed bytes, and the call that pushes all of them. Read next: `adapters`.
+//! What is pushed bytes, and the call that pushes all of them. Read next: `memory_sink`.
 ghost use Rattle.std.specs.Prelude.{◌≡◌, ℕ, List, [], Option, None, OnOk, OnErr, IsOk};
 ghost use Rattle.std.specs.Io.{WritesAtMost};
 ghost use Rattle.std.specs.Io.KnownBytes.{Appends, WriteAppends};

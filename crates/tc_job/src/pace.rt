@@ -1,5 +1,5 @@
-//! When the intervals of a distance are written: when it has ended, or as it passes, in quarters of a frame. Read next:
-//! `slicing` and `wave_slicing`.
+//! When the intervals of a distance are written: when it has ended, or as it passes, in quarters of a frame. Read
+//! next: `path_slicing`.
 ghost use Rattle.std.specs.Prelude.{◌≡◌};
 ghost use Rattle.pcm_front.specs.Distance.{IsInterval};
 ghost use Rattle.pcm_front.specs.Pace.{IsPace};

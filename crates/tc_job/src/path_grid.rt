@@ -1,4 +1,4 @@
-//! How the samples of a sound become steps. Read next: `path_slicing`.
+//! How the samples of a sound become steps.
 ghost use Rattle.std.specs.Prelude.{◌≡◌, ◌≤◌, ◌*◌, ◌^◌, IfSome};
 ghost use Rattle.limits.specs.declared.recording.TheConstants.{MAX_TICK_RATE};
 ghost use Rattle.step_grid.specs.Grid.{IsGrid};

@@ -1,5 +1,5 @@
-//! Where each field is in the 90 bits of a line (SMPTE 12M, the table of the vertical interval time
-//! code). Bit 0 is the first in time, and each field has its least significant bit first. Read next: `reading`.
+//! Where each field is in the 90 bits of a line (SMPTE 12M, the table of the vertical interval time code). Bit 0 is
+//! the first in time, and each field has its least significant bit first. Read next: `check_bits`.
 
 ghost use Rattle.std.specs.Prelude.{◌≡◌, ◌<◌};
 ghost use Rattle.vitc_line.specs.Places.{field_mark_bit, sync_pair_place, table_of};

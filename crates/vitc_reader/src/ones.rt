@@ -1,5 +1,5 @@
-//! The bits of some cells, all of them 1. They are in a table, since a shift of 128 bits by a number that
-//! isn't known takes longer than to look there. Read next: `reading`.
+//! The bits of some cells, all of them 1. They are in a table, since a shift of 128 bits by a number that isn't
+//! known takes longer than to look there. Read next: `fault`.
 
 ghost use Rattle.std.specs.Prelude.{◌≡◌, ◌≤◌, ◌-◌, ◌^◌};
 

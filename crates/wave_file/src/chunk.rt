@@ -1,4 +1,4 @@
-//! What the letters and the size of a chunk begin. Read next: `stage`.
+//! What the letters and the size of a chunk begin. Read next: `format`.
 ghost use Rattle.std.specs.Prelude.{◌≡◌, ℕ, IfOk};
 ghost use Rattle.wave_file.specs.Chunk.{chunk_of, data_in, extent_of, form_of, is_open, is_open_size};
 ghost use Rattle.wave_file.specs.Chunk.{IsChunkFor, IsNoted};

@@ -1,4 +1,4 @@
-//! The sample of a track in a block. Read next: `chunk`.
+//! The sample of a track in a block. Read next: `fault`.
 ghost use Rattle.std.specs.Prelude.{◌≡◌, ◌≤◌, length};
 ghost use Rattle.wave_file.specs.Format.{sample_in, IsTakenFor};
 

@@ -1,4 +1,4 @@
-//! How far a decoder has come, and what a whole piece brings. Read next: `decoder`.
+//! How far a decoder has come, and what a whole piece brings. Read next: `chunk`.
 ghost use Rattle.std.specs.Prelude.{◌≡◌, ℕ, ◌≤◌, ◌<◌, ◌^◌, length, drop, None, IfSome};
 ghost use Rattle.wave_file.specs.Format.{IsAsked, IsTakenFor};
 ghost use Rattle.wave_file.specs.Stage.{data_stage, extent_behind, up_to_end, width_of, HasBlock};
