@@ -6,7 +6,21 @@ _tc() {
         values=$commands
     else
         case $command:$COMP_CWORD in
-            number:2 | label:2 | labels:2 | ltc-make:2 | chase:2 | ltc-chase:2) values="24 25 30 30d" ;;
+            # made by tools/make_completions of the table of forms
+            ltc-rough:2 | ltc-fly:4 | ltc-spans:4 | ltc-mtc:4 | ltc-jam:6 | ltc-chase:8) values="firm consecutive" ;;
+            ltc-fly:3 | ltc-spans:3 | ltc-mtc:3 | ltc-jam:5 | ltc-chase:7) values="worn rough" ;;
+            ltc-convert:2) values="1 2" ;;
+            pcm-ltc:2 | wav-ltc:2) values="24 25 30" ;;
+            pcm-ltc:6) values="path follow deep live" ;;
+            pcm-ltc:5 | pcm-ltc:7) values="live" ;;
+            pcm-ltc:8 | wav-ltc:7) values="live" ;;
+            wav-ltc:5) values="path live" ;;
+            wav-ltc:6) values="deep live" ;;
+            ltc-make:2 | chase:2 | ltc-chase:2 | number:2 | label:2 | labels:2) values="24 25 30 30d" ;;
+            ltc-make:3) values="forward backward" ;;
+            luma-vitc:2) values="25 30" ;;
+            vitc-make:2) values="25 30 30d" ;;
+            # by hand
             labels:3) values="number label seconds plus minus since to ntsc" ;;
             labels:4 | labels:5 | labels:6)
                 case ${COMP_WORDS[COMP_CWORD-1]} in
@@ -14,20 +28,6 @@ _tc() {
                     ntsc) values="number label seconds plus minus since to" ;;
                     24 | 30) values="ntsc" ;;
                 esac ;;
-            luma-vitc:2) values="25 30" ;;
-            vitc-make:2) values="25 30 30d" ;;
-            ltc-make:3) values="forward backward" ;;
-            ltc-convert:2) values="1 2" ;;
-            pcm-ltc:2) values="24 25 30" ;;
-            pcm-ltc:5 | pcm-ltc:7 | pcm-ltc:8) values="live" ;;
-            pcm-ltc:6) values="path follow deep live" ;;
-            ltc-rough:2) values="firm consecutive" ;;
-            ltc-fly:3 | ltc-spans:3 | ltc-mtc:3 | ltc-jam:5 | ltc-chase:7) values="worn rough" ;;
-            ltc-fly:4 | ltc-spans:4 | ltc-mtc:4 | ltc-jam:6 | ltc-chase:8) values="firm consecutive" ;;
-            wav-ltc:2) values="24 25 30" ;;
-            wav-ltc:5) values="path live" ;;
-            wav-ltc:7) values="live" ;;
-            wav-ltc:6) values="deep live" ;;
             help:2) values="$commands statuses" ;;
         esac
     fi

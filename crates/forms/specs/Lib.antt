@@ -1,6 +1,7 @@
 pub mod Choice
 pub mod Form
 pub mod Held
+pub mod Help
 pub mod Lines
 pub mod Made
 pub mod Named

@@ -1,6 +1,7 @@
 //! What reading is, what lines of words name, and the ends of the ranges that the table holds.
-ghost use Rattle.std.specs.Prelude.{◌≡◌, ◌+◌, ℕ, List, length, None, Ok, Err};
+ghost use Rattle.std.specs.Prelude.{◌≡◌, ◌+◌, ℕ, List, length, true, None, Ok, Err};
 ghost use Rattle.forms.specs.Form.{SlotRow};
+ghost use Rattle.forms.specs.Help.{are_listed_so, are_typed_so};
 ghost use Rattle.forms.specs.Lines.{AreNamed, AreRefused, AreTaken, named_lines, refused_lines, taken_lines};
 ghost use Rattle.forms.specs.Number.{Word};
 ghost use Rattle.forms.specs.Reading.{AreValues, read, value_at};
@@ -23,6 +24,13 @@ pub fn words_are_read_from_the_left()
     ensures fault { (slots : List SlotRow) (words : List Word) (place : ℕ) → read slots words ≡ Err place
         → (values : List Value) × (length values + 1 ≡ place) × AreValues slots words values
         × (value_at slots words values (length values) ≡ None) }
+{}
+
+/// Help prints what is read: of a command that is typed in one way its line, and of each but `help` the lines of its
+/// values, are those of its slots.
+pub fn each_page_lists_what_is_taken()
+    ensures typed { are_typed_so ≡ true }
+    ensures listed { are_listed_so ≡ true }
 {}
 
 /// The longest form, that of `ltc-make`, has eight words behind its command.

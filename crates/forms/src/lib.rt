@@ -10,13 +10,15 @@
 //! - `read` answers the values of the words, from the left, or the place of the first one that has none
 //!   (`specs/Reading.antt`, `read`).
 //! - `made` makes the task of a command and its values (`specs/Made.antt`, `task_in`).
+//! - What help prints of a value is made of the slot that takes it (`specs/Help.antt`; `laws`).
 //!
 //! Read `value`, `choices`, `slot` and `form`, then `table`, which has a row for each way of each command; `number`
 //! and `reading`, with `specs/` beside them; `held`, how values are taken from their list; and `made`, with
-//! `made_labels`, `made_sound` and `made_stripe`. The jobs themselves are in `tc_job`. Nothing here allocates or fails.
+//! `made_labels`, `made_sound` and `made_stripe`; and `names`, what help calls the values. The jobs themselves are in
+//! `tc_job`. Nothing here allocates or fails.
 //!
-//! A later command joins in these places, once it is in `tc_job`: its row in `FORMS`, its variant of `Command`, and how
-//! its job is made of its values, in `made` and `specs/Made.antt`.
+//! A later command joins in these places, once it is in `tc_job`: its row in `FORMS` with one in `NAMES`, its variant
+//! of `Command`, and how its job is made of its values, in `made` and `specs/Made.antt`.
 #![tactic(auto)]
 
 pub mod choices;
@@ -29,6 +31,7 @@ mod made_labels;
 mod made_sound;
 mod made_stripe;
 mod named;
+pub mod names;
 mod number;
 mod reading;
 mod slot;

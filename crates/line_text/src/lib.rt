@@ -14,7 +14,7 @@
 //!   word exactly.
 //!
 //! Read `line`, then `numbers` and `named`, with `specs/Line.antt` beside them. `report_text`, `line_file`,
-//! `mtc_reader`, `chase_script` and `tc_top` write with this crate, and `chase_script` and `tc_words` read with it.
+//! `mtc_reader`, `chase_script` and `tc_top` write with this crate, and `chase_script` and `forms` read with it.
 //! Nothing here allocates or fails.
 #![tactic(auto)]
 

@@ -1,5 +1,5 @@
 //! What follows from the definitions alone: from a clean drawing to its word.
-ghost use Rattle.std.specs.Prelude.{◌≡◌, ℕ, ◌+◌, ◌*◌, ◌<◌, ◌≤◌, true, List, ◌∷◌, ◌++◌, length};
+ghost use Rattle.std.specs.Prelude.{◌≡◌, ℕ, ◌+◌, ◌*◌, ◌^◌, ◌<◌, ◌≤◌, true, false, List, ◌∷◌, ◌++◌, length};
 ghost use Rattle.luma_field.specs.Parts.{whole_parts};
 ghost use Rattle.luma_field.specs.Raster.{RasterSize};
 ghost use Rattle.luma_field.specs.Rows.{looked_at, SaysLines};
@@ -10,7 +10,7 @@ ghost use Rattle.luma_row.specs.Levels.{number_of, says_bits};
 ghost use Rattle.luma_row.specs.Light.{IsRow};
 ghost use Rattle.luma_row.specs.Row.{IsCode, LiesAt};
 ghost use Rattle.luma_truth.specs.Clean.{IsClean};
-ghost use Rattle.luma_truth.specs.Drawing.{rounded, Drawing, FitsARow, IsDrawn};
+ghost use Rattle.luma_truth.specs.Drawing.{edge, has_bit, rounded, Drawing, FitsARow, IsDrawn};
 ghost use Rattle.luma_truth.specs.Inside.{core, HasMargin, IsEnough, LiesInside};
 ghost use Rattle.luma_truth.specs.Near.{IsNear};
 ghost use Rattle.luma_truth.specs.Worked.{ten_hours};
@@ -41,6 +41,20 @@ pub fn a_clean_drawing_is_read()
     a_row_is_sharp_or_not();
     a_row_says_one_thing();
 }
+
+/// The premise in numbers: 720 pixels or more, noise of at most a 22nd of the swing (it is counted in halves of a
+/// level), a word of 90 bits with its nine sync pairs, levels 12 or more apart among those of a pixel, cells within 5
+/// percent of a 96th of the row, and a last cell that ends in it.
+pub fn a_clean_drawing_in_numbers()
+    ensures clean { (drawing : Drawing) (width : ℕ) → 720 ≤ width → 11 * drawing.noise ≤ drawing.swing
+        → IsClean drawing width }
+    ensures fits { (drawing : Drawing) (width : ℕ) → drawing.word < 2 ^ 90
+        → ((pair : ℕ) → pair < 9 → has_bit drawing.word (10 * pair) ≡ true)
+        → ((pair : ℕ) → pair < 9 → has_bit drawing.word (10 * pair + 1) ≡ false)
+        → 12 ≤ drawing.swing → drawing.dark + drawing.swing ≤ 255
+        → 95 * (10240 * width) ≤ 9600 * drawing.cell → 9600 * drawing.cell ≤ 105 * (10240 * width)
+        → edge drawing 90 ≤ 10240 * width → FitsARow drawing width }
+{}
 
 /// A row that is drawn says the word of its drawing, at a place inside.
 pub fn a_clean_drawing_says_its_word()

@@ -17,8 +17,7 @@ use Rattle.std.proofs.lemmas.Option.{get_or_from_slice_get, slice_get-get_or, sl
 use Rattle.std.proofs.lemmas.Option.{slice_get_within}
 use Rattle.made_commands.specs.About.{Usage, usage_line, usages}
 use Rattle.made_commands.specs.Pages.{Row, examples, exit_numbers, line_of, page_at, page_in, page_lines, page_text}
-use Rattle.made_commands.specs.Pages.{said, statuses_text, text_of, value_lines}
-use Rattle.made_commands.specs.Pages.{values_of_labels, values_of_recordings, values_of_signals}
+use Rattle.made_commands.specs.Pages.{said, statuses_text, text_of, values}
 
 pub a_row_fits : {X : Type 0} (topic : List ℕ) (bytes : X → Row) (rows : List X) (index : ℕ) (d : X)
     → index < length rows
@@ -44,30 +43,16 @@ page_of_none bytes rows page past =
 
 -- ---- the parts of a page
 
-pub three_long : (a b c : List ℕ) → length (a ++ b ++ c) ≡ length a + length b + length c
-three_long a b c = omega (arith, length-append a b, length-append (a ++ b) c)
-
 pub four_long : (a b c d : List ℕ) → length (a ++ b ++ c ++ d) ≡ length a + length b + length c + length d
 four_long a b c d = omega (arith, length-append a b, length-append (a ++ b) c, length-append (a ++ b ++ c) d)
 
 pub parts_long : (usage : Usage) → length (text_of usage)
-    ≡ length (usage_line usage) + length (page_lines usage.0 said) + length (value_lines usage.0)
+    ≡ length (usage_line usage) + length (page_lines usage.0 said) + length (page_lines usage.0 values)
     + length (page_lines usage.0 examples)
 parts_long usage =
-    four_long (usage_line usage) (page_lines usage.0 said) (value_lines usage.0) (page_lines usage.0 examples)
-
-pub values_long : (command : List ℕ) → length (value_lines command)
-    ≡ length (page_lines command values_of_recordings) + length (page_lines command values_of_signals)
-    + length (page_lines command values_of_labels)
-values_long command = three_long (page_lines command values_of_recordings) (page_lines command values_of_signals)
-    (page_lines command values_of_labels)
+    four_long (usage_line usage) (page_lines usage.0 said) (page_lines usage.0 values) (page_lines usage.0 examples)
 
 -- parts that are put one after the other are the whole
-pub three_joined : (start a b c first second last : List ℕ) → first ≡ start ++ a → second ≡ first ++ b
-    → last ≡ second ++ c → last ≡ start ++ (a ++ b ++ c)
-three_joined start a b c first second last one two three =
-    rw (three, two, one) (rw (append_assoc start a b, append_assoc start (a ++ b) c) refl)
-
 pub joined : (start a b c d first second third last : List ℕ) → first ≡ start ++ a → second ≡ first ++ b
     → third ≡ second ++ c → last ≡ third ++ d → last ≡ start ++ (a ++ b ++ c ++ d)
 joined start a b c d first second third last one two three four =
@@ -103,17 +88,9 @@ said_short : nat_le (sum_by row_long said) 4096 ≡ true
 unfolding said
 said_short = refl
 
-recordings_short : nat_le (sum_by row_long values_of_recordings) 2048 ≡ true
-unfolding values_of_recordings
-recordings_short = refl
-
-signals_short : nat_le (sum_by row_long values_of_signals) 2048 ≡ true
-unfolding values_of_signals
-signals_short = refl
-
-labels_short : nat_le (sum_by row_long values_of_labels) 3072 ≡ true
-unfolding values_of_labels
-labels_short = refl
+values_short : nat_le (sum_by row_long values) 7168 ≡ true
+unfolding values
+values_short = refl
 
 examples_short : nat_le (sum_by row_long examples) 2048 ≡ true
 unfolding examples
@@ -145,11 +122,8 @@ text_within usage within = omega (
   arith,
   within,
   parts_long usage,
-  values_long usage.0,
   table_within usage.0 said 4096 said_short,
-  table_within usage.0 values_of_recordings 2048 recordings_short,
-  table_within usage.0 values_of_signals 2048 signals_short,
-  table_within usage.0 values_of_labels 3072 labels_short,
+  table_within usage.0 values 7168 values_short,
   table_within usage.0 examples 2048 examples_short,
 )
 

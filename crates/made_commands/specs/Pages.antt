@@ -2,8 +2,8 @@
 use Rattle.std.specs.Prelude.{ℕ, List, [], ◌++◌, codes, map, slice_get, if◌then◌else◌, Option, Some, None}
 use Rattle.std.specs.List.{flat_map}
 use Rattle.std.specs.Str.{bytes_eq}
-use Rattle.tc_job.specs.declared.pages.TheConstants.{EXAMPLES, EXIT_NUMBERS, SAID, VALUES_OF_LABELS}
-use Rattle.tc_job.specs.declared.pages.TheConstants.{VALUES_OF_RECORDINGS, VALUES_OF_SIGNALS}
+use Rattle.tc_job.specs.declared.pages.TheConstants.{EXAMPLES, EXIT_NUMBERS, SAID}
+use Rattle.tc_job.specs.declared.values.TheConstants.{VALUES}
 use Rattle.tc_command.specs.Told.{Told, told_text}
 use Rattle.made_commands.specs.About.{Usage, usage_line, usages}
 
@@ -30,14 +30,8 @@ page_lines topic rows = flat_map (line_of topic) rows
 unfoldable pub said : List Row
 said = map (λ row. row_of row.0.now row.1.0.now row.1.1.now row.1.2.now) SAID
 
-unfoldable pub values_of_recordings : List Row
-values_of_recordings = map (λ row. row_of row.0.now row.1.0.now row.1.1.now row.1.2.now) VALUES_OF_RECORDINGS
-
-unfoldable pub values_of_signals : List Row
-values_of_signals = map (λ row. row_of row.0.now row.1.0.now row.1.1.now row.1.2.now) VALUES_OF_SIGNALS
-
-unfoldable pub values_of_labels : List Row
-values_of_labels = map (λ row. row_of row.0.now row.1.0.now row.1.1.now row.1.2.now) VALUES_OF_LABELS
+unfoldable pub values : List Row
+values = map (λ row. row_of row.0.now row.1.0.now row.1.1.now row.1.2.now) VALUES
 
 unfoldable pub examples : List Row
 examples = map (λ row. row_of row.0.now row.1.0.now row.1.1.now row.1.2.now) EXAMPLES
@@ -45,15 +39,10 @@ examples = map (λ row. row_of row.0.now row.1.0.now row.1.1.now row.1.2.now) EX
 unfoldable pub exit_numbers : List Row
 exit_numbers = map (λ row. row_of row.0.now row.1.0.now row.1.1.now row.1.2.now) EXIT_NUMBERS
 
--- the values of the words of a command
-abbrev pub value_lines : List ℕ → List ℕ
-value_lines command =
-    page_lines command values_of_recordings ++ page_lines command values_of_signals
-    ++ page_lines command values_of_labels
-
 -- how a command is typed, what it does, the values of its words, and its examples
 abbrev pub text_of : Usage → List ℕ
-text_of usage = usage_line usage ++ page_lines usage.0 said ++ value_lines usage.0 ++ page_lines usage.0 examples
+text_of usage =
+    usage_line usage ++ page_lines usage.0 said ++ page_lines usage.0 values ++ page_lines usage.0 examples
 
 -- the page of a row of the table of usages, if there is one
 abbrev pub page_at : Option Usage → List ℕ

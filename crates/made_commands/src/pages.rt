@@ -3,8 +3,7 @@
 ghost use Rattle.std.specs.Prelude.{◌≡◌, ◌+◌, ◌-◌, ◌<◌, ◌≤◌, ◌++◌, [], true, false, length, drop, map};
 ghost use Rattle.arrayvec.specs.ArrayVec.{array_vec_len};
 ghost use Rattle.made_commands.specs.Pages.{examples, line_of, page_in, page_lines, page_text, row_of, said};
-ghost use Rattle.made_commands.specs.Pages.{statuses_text, text_of, value_lines};
-ghost use Rattle.made_commands.specs.Pages.{values_of_labels, values_of_recordings, values_of_signals};
+ghost use Rattle.made_commands.specs.Pages.{statuses_text, text_of, values};
 ghost use Rattle.made_commands.specs.Pages.{told_page, told_statuses};
 ghost use Rattle.tc_command.specs.Told.{WorksAsTold};
 
@@ -13,10 +12,9 @@ use arrayvec::ArrayVec;
 use tc_command::{Maker, PIECE, Piece, Stop, make};
 use tc_io::{Sink, Source, put_bytes};
 use tc_job::PageLine;
-use tc_job::pages::{
-    EXAMPLES, EXIT_NUMBERS, SAID, VALUES_OF_LABELS, VALUES_OF_RECORDINGS, VALUES_OF_SIGNALS,
-};
+use tc_job::pages::{EXAMPLES, EXIT_NUMBERS, SAID};
 use tc_job::usages::USAGES;
+use tc_job::values::VALUES;
 
 /// How many bytes a page has at most: its lines are out of the tables, and all their lines together have fewer.
 const PAGE: usize = 16_384;
@@ -142,43 +140,11 @@ fn push_said(command: &str, room: &mut Room)
 
 /// The values of its words.
 fn push_values(command: &str, room: &mut Room)
-    requires { array_vec_len room.old + length (value_lines command.now) ≤ PAGE }
-    ensures items { room.new.items ≡ room.old.items ++ value_lines command.now }
-    ensures len { array_vec_len room.new ≡ array_vec_len room.old + length (value_lines command.now) }
+    requires { array_vec_len room.old + length (page_lines command.now values) ≤ PAGE }
+    ensures items { room.new.items ≡ room.old.items ++ page_lines command.now values }
+    ensures len { array_vec_len room.new ≡ array_vec_len room.old + length (page_lines command.now values) }
 {
-    push_recording_values(command, room);
-    push_signal_values(command, room);
-    push_label_values(command, room);
-}
-
-/// Those of a command along a recording.
-fn push_recording_values(command: &str, room: &mut Room)
-    requires { array_vec_len room.old + length (page_lines command.now values_of_recordings) ≤ PAGE }
-    ensures items { room.new.items ≡ room.old.items ++ page_lines command.now values_of_recordings }
-    ensures len { array_vec_len room.new
-        ≡ array_vec_len room.old + length (page_lines command.now values_of_recordings) }
-{
-    push_lines(command, &VALUES_OF_RECORDINGS, room);
-}
-
-/// Those of a command of sound or of pixels.
-fn push_signal_values(command: &str, room: &mut Room)
-    requires { array_vec_len room.old + length (page_lines command.now values_of_signals) ≤ PAGE }
-    ensures items { room.new.items ≡ room.old.items ++ page_lines command.now values_of_signals }
-    ensures len { array_vec_len room.new
-        ≡ array_vec_len room.old + length (page_lines command.now values_of_signals) }
-{
-    push_lines(command, &VALUES_OF_SIGNALS, room);
-}
-
-/// Those of a command that makes or takes labels.
-fn push_label_values(command: &str, room: &mut Room)
-    requires { array_vec_len room.old + length (page_lines command.now values_of_labels) ≤ PAGE }
-    ensures items { room.new.items ≡ room.old.items ++ page_lines command.now values_of_labels }
-    ensures len { array_vec_len room.new
-        ≡ array_vec_len room.old + length (page_lines command.now values_of_labels) }
-{
-    push_lines(command, &VALUES_OF_LABELS, room);
+    push_lines(command, &VALUES, room);
 }
 
 /// Its examples.
@@ -218,7 +184,7 @@ fn push_lines(topic: &str, rows: &[(&str, PageLine)], room: &mut Room)
         (map (λ row. row_of row.0.now row.1.0.now row.1.1.now row.1.2.now) rows.now)) }
 {
     'rows: for (told, line) in rows {
-        let (before, words, behind, _, _) = *line;
+        let (before, words, behind) = *line;
         push_row(topic, told, before, words, behind, room);
     }
 }

@@ -32,7 +32,7 @@ use Rattle.signal_commands.specs.PcmLtc.{along_samples, pace_for, settings_for, 
 use Rattle.signal_commands.specs.VitcRead.{along_fields, answer_lines, field_report, last_field_line}
 use Rattle.signal_commands.proofs.MidiLimit.{never_refused, past_within}
 use Rattle.signal_commands.proofs.PutMore.{is_pace}
-use Rattle.signal_commands.proofs.SlicedOn.{never_refused as no_fault_yet, past_within as past_samples}
+use Rattle.signal_commands.proofs.SamplesWithin.{never_refused as no_fault_yet, past_within as past_samples}
 use Rattle.tc_io.specs.VerdictLemmas.{fault_stays, limit_stays}
 use Rattle.tc_command.specs.declared.input_fault.InputFault.TheVariants.{Lines}
 

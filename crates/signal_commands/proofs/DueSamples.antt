@@ -11,7 +11,7 @@ use Rattle.pcm_front.specs.Settings.{Settings}
 use Rattle.interval_file.specs.declared.header.FileVersion.TheVariants.{One}
 use Rattle.interval_file.specs.Grammar.{intervals_bytes}
 use Rattle.interval_file.specs.Piece.{spelling}
-use Rattle.signal_commands.specs.KeptTrack.{AreDue, spelled}
+use Rattle.signal_commands.specs.KeptSliced.{AreDue, spelled}
 
 -- what intervals bring
 abbrev pub due_at : Intervals → List ℕ

@@ -1,8 +1,8 @@
 -- Bytes past the limit stay past it whatever follows, and within it all of them count.
 use Rattle.std.proofs.Common.{◌≡◌, ℕ, List, ◌++◌, ◌<◌, ◌≤◌, ◌∙◌, length, nat_lt, cond, Bool, true, false, refl, ap}
-use Rattle.std.proofs.Common.{arith}
+use Rattle.std.proofs.Common.{arith, take}
 use Rattle.std.proofs.lemmas.Bool.{ltb-true, lt-ltb}
-use Rattle.std.proofs.lemmas.List.{length-append, take_all, take-append-le}
+use Rattle.std.proofs.lemmas.List.{length-append, length-take, take_all, take-append-le, take-take}
 use Rattle.tc_command.specs.declared.input_fault.InputFault.{InputFault}
 use Rattle.tc_io.specs.Verdict.{Verdict, good, refused, past_limit}
 use Rattle.mtc_reader.specs.Events.{events_in}
@@ -45,3 +45,9 @@ pub lines_at_limit : (most : ℕ) (front more : List ℕ) → length front ≡ m
 lines_at_limit most front more is =
     ap (λ (l : List ℕ). event_lines (events_in l)) (take-append-le most front more (omega (arith, is))
     ∙ take_all most front (omega (arith, is)))
+
+-- what is taken of the first bytes is taken of all
+pub same_front : (n count : ℕ) (bytes inner : List ℕ) → inner ≡ take n bytes → count ≤ length inner
+    → take count inner ≡ take count bytes
+same_front n count bytes inner is within =
+    ap (take count) is ∙ take-take count n bytes (omega (arith, within, ap length is, length-take n bytes))

@@ -1,4 +1,9 @@
 -- When a sound has ended, the file of its best path is written whole.
+use Rattle.std.proofs.Common.{Option, Some, None}
+use Rattle.wave_file.specs.declared.format.WaveFormat.{WaveFormat}
+use Rattle.signal_commands.specs.declared.path_sound.PathWords.{PathWords}
+use Rattle.signal_commands.specs.declared.path_sound.PathWords.TheVariants.{Raw, Track}
+use Rattle.signal_commands.specs.KeptPath.{path_of, IsWhole}
 use Rattle.std.proofs.Common.{◌≡◌, ℕ, ℤ, List, ◌++◌, reverse, refl, ap, subst, sym, ◌∙◌}
 use Rattle.interval_file.specs.declared.header.FileVersion.TheVariants.{One}
 use Rattle.interval_file.specs.Grammar.{intervals_bytes}
@@ -9,7 +14,7 @@ use Rattle.path_front.specs.Front.{FrontState, GoesOn, IsFrontSettled}
 use Rattle.path_front.specs.Judging.{IsSettled}
 use Rattle.tc_job.specs.PathSlicing.{SlicesPath}
 use Rattle.signal_commands.specs.declared.path_sound.PathSound.{PathSound}
-use Rattle.signal_commands.specs.KeptSound.{HasGiven, HearsSamples, IsOfWords}
+use Rattle.signal_commands.specs.KeptPath.{HasGiven, HearsSamples, IsOfWords}
 use Rattle.signal_commands.specs.PcmPath.{IsPathFile}
 use Rattle.signal_commands.proofs.PathOn.{grown_file, whole_by}
 
@@ -51,3 +56,12 @@ ends_of_words s next ended words same ticks goes path =
 -- the end of a sound is no part of it
 pub is_over : (phase : Phase) → phase ≡ Rest → phase ≡ Sound → ⊥
 is_over phase rest sound = cc
+
+-- the file of the path is what is written by the words
+pub whole_is : (words : PathWords) (format : Option WaveFormat) (path : SlicesPath) (samples : List ℤ)
+    (written : List ℕ) → path_of words format ≡ Some path → IsPathFile path samples written
+    → IsWhole words format samples written
+whole_is (Raw own) format path samples written is file =
+    let same : path ≡ own = cc in subst (λ (p : SlicesPath). IsPathFile p samples written) same file
+whole_is (Track track) None path samples written is file = absurd cc
+whole_is (Track track) (Some format) path samples written is file = record { path = path; sound = is; file = file }

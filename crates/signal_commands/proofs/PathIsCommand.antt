@@ -14,7 +14,7 @@ use Rattle.tc_job.specs.PathSlicing.{SlicesPath}
 use Rattle.signal_commands.specs.declared.pcm_ltc.TheConstants.{MAX_SAMPLES}
 use Rattle.signal_commands.specs.PcmPath.{along_path, path_header, IsPathFile, IsPathFileSoFar}
 use Rattle.signal_commands.proofs.AreCommands.{samples_first}
-use Rattle.signal_commands.proofs.SlicedOn.{never_refused, past_within}
+use Rattle.signal_commands.proofs.SamplesWithin.{never_refused, past_within}
 
 -- what is known of the intervals of a path
 pub record PathLaws : Type 0 where

@@ -17,7 +17,7 @@ use Rattle.path_front.specs.Grid.{on_grid}
 use Rattle.path_front.specs.Steps.{path_steps, with_held}
 use Rattle.tc_job.specs.PathSlicing.{SlicesPath}
 use Rattle.signal_commands.specs.declared.path_sound.PathSound.{PathSound}
-use Rattle.signal_commands.specs.KeptSound.{samples_heard, HasGiven, HearsSamples, IsOfWords}
+use Rattle.signal_commands.specs.KeptPath.{samples_heard, HasGiven, HearsSamples, IsOfWords}
 use Rattle.signal_commands.specs.PcmPath.{path_header}
 
 -- ---- nothing yet

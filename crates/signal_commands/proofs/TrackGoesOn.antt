@@ -16,7 +16,7 @@ use Rattle.wave_file.specs.declared.format.WaveFormat.{WaveFormat}
 use Rattle.wave_file.specs.GoesOn.{GoesOn}
 use Rattle.wave_file.specs.Wave.{Reading, reading_of}
 use Rattle.tc_command.specs.Command.{IsCommand}
-use Rattle.signal_commands.specs.KeptTrack.{AreDue, spelled}
+use Rattle.signal_commands.specs.KeptSliced.{AreDue, spelled}
 use Rattle.signal_commands.specs.WavLtc.{along_sound_file, track_file, track_header, track_of, track_pace}
 use Rattle.signal_commands.specs.WavLtc.{track_settings}
 use Rattle.signal_commands.proofs.PutMore.{is_pace}

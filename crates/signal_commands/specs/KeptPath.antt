@@ -1,61 +1,101 @@
--- What the engine of `pcm-ltc .. path` keeps. No promise speaks of it.
-use Rattle.std.specs.Prelude.{◌≡◌, ℕ, ◌*◌, ◌≤◌, Bool, cond, ℤ, List, ◌++◌, length, reverse, take}
-use Rattle.std.specs.Option.{option_to_list}
-use Rattle.std.proofs.Common.{ap, arith, subst, sym, ◌∙◌}
-use Rattle.std.proofs.lemmas.Bool.{le-ltb}
-use Rattle.std.proofs.lemmas.List.{take_all}
-use Rattle.path_front.specs.Front.{AreIntervalsSoFar}
-use Rattle.pcm_front.specs.Samples.{samples_of}
-use Rattle.tc_command.specs.Meaning.{Shows}
-use Rattle.tc_io.specs.Verdict.{good, past_limit}
-use Rattle.signal_commands.specs.declared.pcm_ltc.TheConstants.{MAX_SAMPLES}
-use Rattle.signal_commands.specs.declared.pcm_path.PcmSound.{PcmSound}
-use Rattle.signal_commands.specs.KeptSlices.{half_is_none, length-samples}
-use Rattle.signal_commands.specs.KeptSound as sound
-use Rattle.signal_commands.specs.KeptSound.{samples_heard, HearsSamples}
-use Rattle.signal_commands.specs.PcmPath.{along_path, IsPathFileSoFar}
+-- What a sound keeps as a listener that looks for its best path. No promise speaks of it.
+use Rattle.std.specs.Prelude.{◌≡◌, ⊤, ℕ, ◌^◌, ◌≤◌, ℤ, List, length, reverse, Option, Some, None}
+use Rattle.std.proofs.Common.{subst, sym}
+use Rattle.interval_file.specs.Grammar.{file_of}
+use Rattle.path_front.specs.Front.{AreIntervalsSoFar, FrontState, FrontStandsFor, IsAllGiven, IsGivenSoFar}
+use Rattle.path_front.specs.Front.{IsReady}
+use Rattle.tc_job.specs.PathSlicing.{SlicesPath}
+use Rattle.tc_job.specs.TrackPath.{least_rate_of, sound_of}
+use Rattle.wave_file.specs.declared.format.WaveFormat.{WaveFormat}
+use Rattle.signal_commands.specs.declared.path_sound.PathSound.{PathSound}
+use Rattle.signal_commands.specs.declared.path_sound.PathWords.{PathWords}
+use Rattle.signal_commands.specs.declared.path_sound.PathWords.TheVariants.{Raw, Track}
+use Rattle.signal_commands.specs.KeptListening.{ListenerKind}
+use Rattle.signal_commands.specs.PcmPath.{path_header, IsPathFile, IsPathFileSoFar}
+use Rattle.signal_commands.specs.WavPath.{WritesPath, WritesPathSoFar}
 
--- the sound goes on, and its samples are counted
-pub record IsGoing (s : PcmSound) : Type 0 where
-  pub within : s.samples ≤ MAX_SAMPLES
-  pub count : samples_heard s.sound ≡ s.samples
-  pub sound : sound.IsGoing s.sound
+-- how many samples it was given
+abbrev pub samples_heard : PathSound → ℕ
+samples_heard s = s.front.judging.cells.steps.clip.count
 
--- it was given the samples of these whole bytes
-pub record Hears (s : PcmSound) (whole written : List ℕ) : Type 0 where
-  pub within : s.samples ≤ MAX_SAMPLES
-  pub count : length whole ≡ 2 * s.samples
-  pub sound : HearsSamples s.sound (samples_of whole) written
+-- the front is that of the words
+pub record IsOfWords (s : PathSound) : Type 0 where
+  pub grid : s.front.judging.cells.steps.grid ≡ s.path.grid
+  pub ticks : s.front.ticks ≡ s.path.ticks
+  pub least : s.front.judging.cells.steps.hold.least ≡ s.path.least
 
--- it was given these bytes: those, and half a sample where it keeps one
-pub record Stands (s : PcmSound) (bytes written : List ℕ) : Type 0 where
-  pub whole : List ℕ
-  pub hears : Hears s whole written
-  pub are : bytes ≡ whole ++ option_to_list s.half
+-- and it has given all that they bring
+pub record IsGoing (s : PathSound) : Type 0 where
+  pub words : IsOfWords s
+  pub ready : IsReady s.front
 
--- what was written is the part of the bytes
-pub stands_well : (s : PcmSound) (bytes written : List ℕ) → Stands s bytes written
-    → Shows (along_path s.sound.path) good bytes
-    × IsPathFileSoFar s.sound.path (take MAX_SAMPLES (samples_of bytes)) written
-stands_well s bytes written stands =
-    let hears = stands.hears in
-    let path = s.sound.path in
-    let same : samples_of bytes ≡ samples_of stands.whole =
-    ap samples_of stands.are ∙ half_is_none s.samples stands.whole s.half hears.count in
-    let long : length (samples_of bytes) ≡ s.samples =
-    ap length same ∙ length-samples s.samples stands.whole hears.count in
-    let within : length (samples_of bytes) ≤ MAX_SAMPLES = omega (arith, long, hears.within) in
-    let all : samples_of stands.whole ≡ take MAX_SAMPLES (samples_of bytes) =
-    sym same ∙ sym (take_all MAX_SAMPLES (samples_of bytes) within) in (
-      record {
-        is = ap (λ (b : Bool). cond b past_limit good) (le-ltb MAX_SAMPLES (length (samples_of bytes)) within);
-        unspent = λ spent. spent;
-      },
-      record {
-        intervals = hears.sound.given;
-        are = subst (λ (s_of : List ℤ). AreIntervalsSoFar path.grid path.ticks path.least (reverse s_of)
-            hears.sound.given)
-            all hears.sound.so_far;
-        file = hears.sound.are;
-      },
-    )
+-- all intervals that it has were given
+pub record HasGiven (front : FrontState) (samples : List ℤ) (given : List ℕ) : Type 0 where
+  pub stands : FrontStandsFor front samples given
+  pub all : IsAllGiven front samples given
+  pub so_far : IsGivenSoFar front samples given
+
+-- it was given these samples, in their order; what was written is the header and the intervals that they bring
+pub record HearsSamples (s : PathSound) (samples : List ℤ) (written : List ℕ) : Type 0 where
+  pub count : samples_heard s ≡ length samples
+  pub given : List ℕ
+  pub front : FrontStandsFor s.front (reverse samples) given
+  pub so_far : AreIntervalsSoFar s.path.grid s.path.ticks s.path.least (reverse samples) given
+  pub are : written ≡ file_of (path_header s.path) given
+
+-- what was written is the file of the intervals so far
+file_so_far : (s : PathSound) (samples : List ℤ) (written : List ℕ) → HearsSamples s samples written
+    → IsPathFileSoFar s.path samples written
+file_so_far s samples written hears =
+    record { intervals = hears.given; are = hears.so_far; file = hears.are }
+
+so_far_by : (s : PathSound) (path : SlicesPath) (samples : List ℤ) (written : List ℕ)
+    → Some path ≡ Some s.path → IsPathFileSoFar s.path samples written → IsPathFileSoFar path samples written
+so_far_by s path samples written same file =
+    let is : path ≡ s.path = cc in subst (λ (p : SlicesPath). IsPathFileSoFar p samples written) (sym is) file
+
+-- ---- the words
+
+-- the sound whose path is looked for
+abbrev pub path_of : PathWords → Option WaveFormat → Option SlicesPath
+path_of (Raw path) format = Some path
+path_of (Track track) None = None
+path_of (Track track) (Some format) = sound_of track format.rate
+
+-- a track has one from its least rate on
+abbrev pub FitsPath : PathWords → Option WaveFormat → Type 0
+FitsPath (Raw path) format = ⊤
+FitsPath (Track track) None = ⊥
+FitsPath (Track track) (Some format) =
+    (1 ≤ format.rate) × (least_rate_of track.system ≤ format.rate) × (format.rate ≤ 6_250_000)
+
+-- what is written of it before its end, and of all of it
+abbrev pub IsSoFar : PathWords → Option WaveFormat → List ℤ → List ℕ → Type 0
+IsSoFar (Raw path) format samples written = IsPathFileSoFar path samples written
+IsSoFar (Track track) format samples written = WritesPathSoFar track format samples written
+
+abbrev pub IsWhole : PathWords → Option WaveFormat → List ℤ → List ℕ → Type 0
+IsWhole (Raw path) format samples written = IsPathFile path samples written
+IsWhole (Track track) format samples written = WritesPath track format samples written
+
+-- ---- the listener
+
+pub record HearsPath (s : PathSound) (words : PathWords) (format : Option WaveFormat) (samples : List ℤ)
+    (written : List ℕ) : Type 0 where
+  pub path : path_of words format ≡ Some s.path
+  pub going : IsGoing s
+  pub hears : HearsSamples s samples written
+
+abbrev pub path_kind : ListenerKind PathSound PathWords
+path_kind = record { so_far = IsSoFar; whole = IsWhole; fits = FitsPath; most = 2 ^ 37; hears = HearsPath }
+
+pub path_well : (s : PathSound) (words : PathWords) (format : Option WaveFormat) (samples : List ℤ) (written : List ℕ)
+    → HearsPath s words format samples written → IsSoFar words format samples written
+path_well s (Raw path) format samples written hears =
+    so_far_by s path samples written hears.path (file_so_far s samples written hears.hears)
+path_well s (Track track) None samples written hears = let none = hears.path in absurd cc
+path_well s (Track track) (Some format) samples written hears = record {
+  path = s.path;
+  sound = hears.path;
+  file = file_so_far s samples written hears.hears;
+}

@@ -1,11 +1,11 @@
 pub mod KeptFields
+pub mod KeptFile
+pub mod KeptListening
 pub mod KeptLuma
 pub mod KeptMtc
 pub mod KeptPath
-pub mod KeptSlices
-pub mod KeptSound
-pub mod KeptTrack
-pub mod KeptTrackPath
+pub mod KeptRaw
+pub mod KeptSliced
 pub mod LumaVitc
 pub mod MtcRead
 pub mod PcmLtc

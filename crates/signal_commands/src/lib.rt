@@ -6,8 +6,7 @@
 //! - `pcm-ltc` writes the interval file of the distances between the crossings of the samples
 //!   (`specs/PcmLtc.antt`), `wav-ltc` the same of a track of a sound file, whose first interval runs from
 //!   the first sample (`specs/WavLtc.antt`), and with `path` both that of the cells of the best path through the
-//! sound (`specs/PcmPath.antt`, `specs/WavPath.antt`), the first two in pieces as they pass if the words say
-//! `live`,
+//!   sound (`specs/PcmPath.antt`, `specs/WavPath.antt`), the first two in pieces as they pass if the words say `live`,
 //!   `mtc-read` a line for each label in the bytes (`specs/MtcRead.antt`), and
 //!   `vitc-read` a line for each field of a line file (`specs/VitcRead.antt`).
 //! - `luma-vitc` writes the line file of what the fields of a picture say, row by row (`specs/LumaVitc.antt`).
@@ -17,17 +16,27 @@
 //! - Each is a command as any other (`laws`): what it writes comes first, there is one output of an input,
 //!   and what bytes show stays.
 //!
-//! Read `pcm_ltc`, `wav_ltc`, `mtc_read`, `vitc_read` and `luma_vitc`, each by itself, and `path_sound`, `pcm_path` and
+//! The four commands of sound are one engine (`listening`): a container makes samples of bytes (`raw_samples`,
+//! `sound_file`), and a listener makes intervals of samples (`sliced`, `path_sound`). Read `brought`, `container`,
+//! `listener` and `listening`, in this order, then these four, and then `pcm_ltc`, `pcm_path`, `wav_ltc` and
 //! `wav_path`.
+//! `mtc_read`, `vitc_read` and `luma_vitc` stand each by itself.
 #![tactic(auto)]
 
+mod brought;
+mod container;
 pub mod laws;
+mod listener;
+mod listening;
 mod luma_lines;
 mod luma_vitc;
 mod mtc_read;
 mod path_sound;
 mod pcm_ltc;
 mod pcm_path;
+mod raw_samples;
+mod sliced;
+mod sound_file;
 mod spelling;
 mod vitc_read;
 mod wav_ltc;

@@ -46,7 +46,23 @@ impl<'a, K: Sink> Outlet<'a, K> {
     }
 
     /// Pushes what is gathered, unless a push failed.
+    #[inline(always)]
     fn push_gathered(&mut self)
+        ensures same { self.new.sink.ghost_name ≡ self.old.sink.ghost_name }
+        ensures given { IsGiven (K.written self.old.sink.now) (K.written self.new.sink.now)
+            (K.faults self.old.sink.now) (K.faults self.new.sink.now) self.old.gathered.items self.new.gathered.items
+            self.old.has_failed self.new.has_failed [] }
+        ensures empty { self.new.gathered.items ≡ [] }
+    {
+        if !self.gathered.is_empty() {
+            self.push_room();
+        }
+    }
+
+    /// The same, where something is.
+    // Out of line: it is rare, and the loops that gather and write are short only without it.
+    #[inline(never)]
+    fn push_room(&mut self)
         ensures same { self.new.sink.ghost_name ≡ self.old.sink.ghost_name }
         ensures given { IsGiven (K.written self.old.sink.now) (K.written self.new.sink.now)
             (K.faults self.old.sink.now) (K.faults self.new.sink.now) self.old.gathered.items self.new.gathered.items

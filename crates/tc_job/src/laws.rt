@@ -45,7 +45,7 @@ pub fn each_command_is_typed_so()
         ∷ (codes "number", codes " COUNT LABEL")
         ∷ (codes "label", codes " COUNT NUMBER")
         ∷ (codes "labels", codes " COUNT [ntsc] WAY")
-        ∷ (codes "help", codes "")
+        ∷ (codes "help", codes " [COMMAND|statuses]")
         ∷ (codes "version", codes "")
         ∷ [] }
 {}

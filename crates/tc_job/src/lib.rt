@@ -9,12 +9,12 @@
 //! Read `fault`, `job`, `stripe`, `flight`, `jam`, `chase_run`, `label_run`, `line_stripe`, `load_run`, `luma_run`,
 //! `pace`, `slicing`, `path_grid`, `path_slicing`, `track_path`, `sound_level`, `wave_slicing` and `witness`, with
 //! `specs/` beside them; `usages`, the table that `help` prints; and `page_line`, `pages` and `values`, its pages.
-//! Nothing here allocates or fails.
+//! How the words are read, and that help says it, is in `forms`. Nothing here allocates or fails.
 //!
 //! A later command joins in these places:
 //! - its job, a variant of `Job` (`job`), whose doc line begins with its word;
 //! - its row in `USAGES` (`usages`); the law `each_command_has_its_usage` of `tc_words` misses none;
-//! - its rows in tables of `pages`; the law `each_page_tells_what_is_read` of `tc_words` misses no value.
+//! - its rows in tables of `pages`, and those of `values`, which tools/make_help_values makes of the table of forms.
 #![tactic(auto)]
 
 mod chase_run;

@@ -2,7 +2,6 @@
 //! The tables are `static`, since each proof about a function that names a `const` has the whole value in it.
 //! Read next: `values`, the lines of values.
 use crate::page_line::PageLine;
-use crate::values;
 
 /// What each command does.
 pub static SAID: [(&str, PageLine); 24] = [
@@ -14,8 +13,6 @@ pub static SAID: [(&str, PageLine); 24] = [
             Standard input is an interval file; a sound file goes through wav-ltc first.",
             "",
             "",
-            0,
-            0,
         ),
     ),
     (
@@ -26,8 +23,6 @@ pub static SAID: [(&str, PageLine); 24] = [
             Standard input is an interval file; a sound file goes through wav-ltc first.",
             "",
             "",
-            0,
-            0,
         ),
     ),
     (
@@ -38,8 +33,6 @@ pub static SAID: [(&str, PageLine); 24] = [
             Standard input is an interval file; a sound file goes through wav-ltc first.",
             "",
             "",
-            0,
-            0,
         ),
     ),
     (
@@ -50,8 +43,6 @@ pub static SAID: [(&str, PageLine); 24] = [
             Standard input is an interval file; a sound file goes through wav-ltc first.",
             "",
             "",
-            0,
-            0,
         ),
     ),
     (
@@ -62,8 +53,6 @@ pub static SAID: [(&str, PageLine); 24] = [
             Standard input is an interval file; a sound file goes through wav-ltc first.",
             "",
             "",
-            0,
-            0,
         ),
     ),
     (
@@ -74,8 +63,6 @@ pub static SAID: [(&str, PageLine); 24] = [
             Standard input is an interval file; a sound file goes through wav-ltc first.",
             "",
             "",
-            0,
-            0,
         ),
     ),
     (
@@ -86,8 +73,6 @@ pub static SAID: [(&str, PageLine); 24] = [
             Standard input is an interval file; a sound file goes through wav-ltc first.",
             "",
             "",
-            0,
-            0,
         ),
     ),
     (
@@ -98,8 +83,6 @@ pub static SAID: [(&str, PageLine); 24] = [
             Standard input is an interval file.",
             "",
             "",
-            0,
-            0,
         ),
     ),
     (
@@ -110,8 +93,6 @@ pub static SAID: [(&str, PageLine); 24] = [
             significant byte first. A sound file goes to wav-ltc.",
             "",
             "",
-            0,
-            0,
         ),
     ),
     (
@@ -123,8 +104,6 @@ pub static SAID: [(&str, PageLine); 24] = [
             to ltc-read.",
             "",
             "",
-            0,
-            0,
         ),
     ),
     (
@@ -134,8 +113,6 @@ pub static SAID: [(&str, PageLine); 24] = [
             Standard input is an interval file; a sound file goes through wav-ltc first.",
             "",
             "",
-            0,
-            0,
         ),
     ),
     (
@@ -144,8 +121,6 @@ pub static SAID: [(&str, PageLine); 24] = [
             "Writes an interval file of FRAMES frames, from LABEL on. Nothing is read.",
             "",
             "",
-            0,
-            0,
         ),
     ),
     (
@@ -155,8 +130,6 @@ pub static SAID: [(&str, PageLine); 24] = [
             about what was read. Nothing is read from standard input.",
             "",
             "",
-            0,
-            0,
         ),
     ),
     (
@@ -167,8 +140,6 @@ pub static SAID: [(&str, PageLine); 24] = [
             Standard input is MIDI bytes.",
             "",
             "",
-            0,
-            0,
         ),
     ),
     (
@@ -179,8 +150,6 @@ pub static SAID: [(&str, PageLine); 24] = [
             Standard input is the script, a text.",
             "",
             "",
-            0,
-            0,
         ),
     ),
     (
@@ -191,8 +160,6 @@ pub static SAID: [(&str, PageLine); 24] = [
             Standard input is an interval file; a sound file goes through wav-ltc first.",
             "",
             "",
-            0,
-            0,
         ),
     ),
     (
@@ -203,8 +170,6 @@ pub static SAID: [(&str, PageLine); 24] = [
             Standard input is a line file; a picture goes through luma-vitc first.",
             "",
             "",
-            0,
-            0,
         ),
     ),
     (
@@ -214,8 +179,6 @@ pub static SAID: [(&str, PageLine); 24] = [
             Standard input is fields of gray pixels, row after row; a byte of 255 is white.",
             "",
             "",
-            0,
-            0,
         ),
     ),
     (
@@ -225,8 +188,6 @@ pub static SAID: [(&str, PageLine); 24] = [
             of two equal lines each. Nothing is read.",
             "",
             "",
-            0,
-            0,
         ),
     ),
     (
@@ -235,8 +196,6 @@ pub static SAID: [(&str, PageLine); 24] = [
             "Writes how many labels of the count come before the label in a day.",
             "",
             "",
-            0,
-            0,
         ),
     ),
     (
@@ -245,8 +204,6 @@ pub static SAID: [(&str, PageLine); 24] = [
             "Writes the label of a number in the day of the count.",
             "",
             "",
-            0,
-            0,
         ),
     ),
     (
@@ -258,8 +215,6 @@ pub static SAID: [(&str, PageLine); 24] = [
             Standard input is the text. WAY is one of these words, with what follows it.",
             "",
             "",
-            0,
-            0,
         ),
     ),
     (
@@ -269,145 +224,35 @@ pub static SAID: [(&str, PageLine); 24] = [
             about a command, with its values and examples, or about the exit numbers.",
             "",
             "",
-            0,
-            0,
         ),
     ),
-    (
-        "version",
-        ("Writes which version of tc this is.", "", "", 0, 0),
-    ),
-];
-
-/// The values of its words, in the order of its form: of the commands along a recording. A function that names a
-/// longer table has no proof, so they are three.
-pub static VALUES_OF_RECORDINGS: [(&str, PageLine); 23] = [
-    ("ltc-rough", values::FIRM_ALONE),
-    ("ltc-fly", values::LIMIT),
-    ("ltc-fly", values::WORN_OR_ROUGH),
-    ("ltc-fly", values::FIRM),
-    ("ltc-spans", values::LIMIT),
-    ("ltc-spans", values::WORN_OR_ROUGH),
-    ("ltc-spans", values::FIRM),
-    ("ltc-mtc", values::LIMIT),
-    ("ltc-mtc", values::WORN_OR_ROUGH),
-    ("ltc-mtc", values::FIRM),
-    ("ltc-jam", values::LIMIT),
-    ("ltc-jam", values::CELL_OF_JAM),
-    ("ltc-jam", values::TICK_RATE_OF_JAM),
-    ("ltc-jam", values::WORN_OR_ROUGH_OF_JAM),
-    ("ltc-jam", values::FIRM_OF_JAM),
-    ("ltc-convert", values::VERSION),
-    ("ltc-chase", values::COUNT),
-    ("ltc-chase", values::LABEL_SECOND),
-    ("ltc-chase", values::LIMIT_OF_CHASE),
-    ("ltc-chase", values::SEED_OF_SLIPS),
-    ("ltc-chase", values::BOUND),
-    ("ltc-chase", values::WORN_OR_ROUGH_OF_CHASE),
-    ("ltc-chase", values::FIRM_OF_CHASE),
-];
-
-/// The same of the commands of sound and of pixels.
-pub static VALUES_OF_SIGNALS: [(&str, PageLine); 21] = [
-    ("pcm-ltc", values::SYSTEM),
-    ("pcm-ltc", values::RATE),
-    ("pcm-ltc", values::THRESHOLD),
-    ("pcm-ltc", values::FINENESS),
-    ("pcm-ltc", values::PATH),
-    ("pcm-ltc", values::FOLLOW_OR_DEEP),
-    ("pcm-ltc", values::SMOOTH),
-    ("pcm-ltc", values::LIVE),
-    ("wav-ltc", values::SYSTEM),
-    ("wav-ltc", values::TRACK),
-    ("wav-ltc", values::THRESHOLD_OF_TRACK),
-    ("wav-ltc", values::PATH_OF_TRACK),
-    ("wav-ltc", values::SMOOTH_OF_TRACK),
-    ("wav-ltc", values::DEEP),
-    ("wav-ltc", values::LIVE_OF_TRACK),
-    ("ltc-pcm", values::LEVEL),
-    ("luma-vitc", values::SYSTEM_WITH_LINES),
-    ("luma-vitc", values::WIDTH),
-    ("luma-vitc", values::HEIGHT),
-    ("luma-vitc", values::FIRST),
-    ("luma-vitc", values::ROWS),
-];
-
-/// The same of those that make or take labels, and of `help`.
-pub static VALUES_OF_LABELS: [(&str, PageLine); 35] = [
-    ("ltc-make", values::COUNT),
-    ("ltc-make", values::DIRECTION),
-    ("ltc-make", values::LABEL_THIRD),
-    ("ltc-make", values::FRAMES),
-    ("ltc-make", values::CELL),
-    ("ltc-make", values::TICK_RATE),
-    ("ltc-make", values::TO_CELL),
-    ("ltc-make", values::STEP),
-    ("ltc-load", values::SEED),
-    ("ltc-load", values::WORDS),
-    ("chase", values::COUNT),
-    ("chase", values::LABEL_SECOND),
-    ("vitc-make", values::COUNT_WITH_LINES),
-    ("vitc-make", values::LABEL_SECOND),
-    ("vitc-make", values::FRAMES_WITH_LINES),
-    ("vitc-make", values::LENGTH),
-    ("number", values::COUNT),
-    ("number", values::LABEL_SECOND),
-    ("label", values::COUNT),
-    ("label", values::NUMBER),
-    ("labels", values::COUNT),
-    ("labels", values::NTSC),
-    ("labels", values::WAY_ALONE),
-    ("labels", values::WAY_ALONG),
-    ("labels", values::N),
-    ("labels", values::WAY_SINCE),
-    ("labels", values::LABEL_SINCE),
-    ("labels", values::WAY_TO),
-    ("labels", values::COUNT_TO),
-    ("help", values::COMMAND_OF_WORDS),
-    ("help", values::COMMAND_OF_FRAMES),
-    ("help", values::COMMAND_OF_RECORDINGS),
-    ("help", values::COMMAND_OF_OTHERS),
-    ("help", values::COMMAND_OF_LABELS),
-    ("help", values::STATUSES),
+    ("version", ("Writes which version of tc this is.", "", "")),
 ];
 
 /// Its examples, with its words in the middle, each after a space.
 pub static EXAMPLES: [(&str, PageLine); 33] = [
-    (
-        "ltc-read",
-        ("Example: tc ltc-read", "", " < tape.ltci", 0, 0),
-    ),
+    ("ltc-read", ("Example: tc ltc-read", "", " < tape.ltci")),
     (
         "ltc-read",
         (
             "Example: tc wav-ltc 25 1 250 < tape.wav | tc ltc-read",
             "",
             "",
-            0,
-            0,
         ),
     ),
-    (
-        "ltc-worn",
-        ("Example: tc ltc-worn", "", " < tape.ltci", 0, 0),
-    ),
-    (
-        "ltc-rough",
-        ("Example: tc ltc-rough", "", " < tape.ltci", 0, 0),
-    ),
+    ("ltc-worn", ("Example: tc ltc-worn", "", " < tape.ltci")),
+    ("ltc-rough", ("Example: tc ltc-rough", "", " < tape.ltci")),
     (
         "ltc-rough",
         (
             "Example: tc wav-ltc 25 1 250 < tape.wav | tc ltc-rough",
             " firm",
             "",
-            0,
-            0,
         ),
     ),
     (
         "ltc-fly",
-        ("Example: tc ltc-fly", " 2 rough", " < tape.ltci", 0, 0),
+        ("Example: tc ltc-fly", " 2 rough", " < tape.ltci"),
     ),
     (
         "ltc-spans",
@@ -415,19 +260,11 @@ pub static EXAMPLES: [(&str, PageLine); 33] = [
             "Example: tc wav-ltc 25 1 250 < tape.wav | tc ltc-spans",
             " 2 rough",
             "",
-            0,
-            0,
         ),
     ),
     (
         "ltc-mtc",
-        (
-            "Example: tc ltc-mtc",
-            " 2 rough",
-            " < tape.ltci > tape.mtc",
-            0,
-            0,
-        ),
+        ("Example: tc ltc-mtc", " 2 rough", " < tape.ltci > tape.mtc"),
     ),
     (
         "ltc-jam",
@@ -435,19 +272,11 @@ pub static EXAMPLES: [(&str, PageLine); 33] = [
             "Example: tc ltc-jam",
             " 2 24 48000 rough",
             " < tape.ltci > clean.ltci",
-            0,
-            0,
         ),
     ),
     (
         "ltc-convert",
-        (
-            "Example: tc ltc-convert",
-            " 2",
-            " < tape.ltci > short.ltci",
-            0,
-            0,
-        ),
+        ("Example: tc ltc-convert", " 2", " < tape.ltci > short.ltci"),
     ),
     (
         "pcm-ltc",
@@ -455,8 +284,6 @@ pub static EXAMPLES: [(&str, PageLine); 33] = [
             "Example: tc pcm-ltc",
             " 25 48000 250 16 follow 2",
             " < tape.raw > tape.ltci",
-            0,
-            0,
         ),
     ),
     (
@@ -465,8 +292,6 @@ pub static EXAMPLES: [(&str, PageLine); 33] = [
             "Example: tc pcm-ltc",
             " 25 48000 250 16 path",
             " < tape.raw > tape.ltci",
-            0,
-            0,
         ),
     ),
     (
@@ -475,8 +300,6 @@ pub static EXAMPLES: [(&str, PageLine); 33] = [
             "Example: tc wav-ltc",
             " 25 1 250 2 deep",
             " < tape.wav > tape.ltci",
-            0,
-            0,
         ),
     ),
     (
@@ -485,19 +308,11 @@ pub static EXAMPLES: [(&str, PageLine); 33] = [
             "Example: tc wav-ltc",
             " 25 1 250",
             " < tape.wav | tc ltc-rough",
-            0,
-            0,
         ),
     ),
     (
         "ltc-pcm",
-        (
-            "Example: tc ltc-pcm",
-            " 8192",
-            " < tape.ltci > tape.raw",
-            0,
-            0,
-        ),
+        ("Example: tc ltc-pcm", " 8192", " < tape.ltci > tape.raw"),
     ),
     (
         "ltc-make",
@@ -505,8 +320,6 @@ pub static EXAMPLES: [(&str, PageLine); 33] = [
             "Example: tc ltc-make",
             " 25 forward 01:00:00:00 1500 24 48000",
             " > tape.ltci",
-            0,
-            0,
         ),
     ),
     (
@@ -515,24 +328,13 @@ pub static EXAMPLES: [(&str, PageLine); 33] = [
             "Example: tc ltc-make",
             " 25 forward 01:00:00:00 1500 24 48000 48 1",
             " > slower.ltci",
-            0,
-            0,
         ),
     ),
-    ("ltc-load", ("Example: tc ltc-load", " 53 100", "", 0, 0)),
-    (
-        "mtc-read",
-        ("Example: tc mtc-read", "", " < tape.mtc", 0, 0),
-    ),
+    ("ltc-load", ("Example: tc ltc-load", " 53 100", "")),
+    ("mtc-read", ("Example: tc mtc-read", "", " < tape.mtc")),
     (
         "chase",
-        (
-            "Example: tc chase",
-            " 25 01:00:00:00",
-            " < script.csv",
-            0,
-            0,
-        ),
+        ("Example: tc chase", " 25 01:00:00:00", " < script.csv"),
     ),
     (
         "ltc-chase",
@@ -540,22 +342,15 @@ pub static EXAMPLES: [(&str, PageLine); 33] = [
             "Example: tc ltc-chase",
             " 25 01:00:00:00 2 1 8 rough",
             " < tape.ltci",
-            0,
-            0,
         ),
     ),
-    (
-        "vitc-read",
-        ("Example: tc vitc-read", "", " < tape.vitl", 0, 0),
-    ),
+    ("vitc-read", ("Example: tc vitc-read", "", " < tape.vitl")),
     (
         "luma-vitc",
         (
             "Example: tc luma-vitc",
             " 25 720 288 0 40",
             " < fields.gray > tape.vitl",
-            0,
-            0,
         ),
     ),
     (
@@ -564,28 +359,17 @@ pub static EXAMPLES: [(&str, PageLine); 33] = [
             "Example: tc vitc-make",
             " 25 01:00:00:00 100 1728",
             " > tape.vitl",
-            0,
-            0,
         ),
     ),
-    (
-        "number",
-        ("Example: tc number", " 25 01:00:00:00", "", 0, 0),
-    ),
-    ("label", ("Example: tc label", " 25 90000", "", 0, 0)),
+    ("number", ("Example: tc number", " 25 01:00:00:00", "")),
+    ("label", ("Example: tc label", " 25 90000", "")),
     (
         "labels",
-        ("Example: tc labels", " 25 number", " < labels.txt", 0, 0),
+        ("Example: tc labels", " 25 number", " < labels.txt"),
     ),
     (
         "labels",
-        (
-            "Example: echo 10:00:00:00 | tc labels",
-            " 25 plus 250",
-            "",
-            0,
-            0,
-        ),
+        ("Example: echo 10:00:00:00 | tc labels", " 25 plus 250", ""),
     ),
     (
         "labels",
@@ -593,23 +377,15 @@ pub static EXAMPLES: [(&str, PageLine); 33] = [
             "Example: tc labels",
             " 25 since 01:00:00:00",
             " < labels.txt",
-            0,
-            0,
         ),
     ),
     (
         "labels",
-        (
-            "Example: tc labels",
-            " 30 ntsc to 24 ntsc",
-            " < labels.txt",
-            0,
-            0,
-        ),
+        ("Example: tc labels", " 30 ntsc to 24 ntsc", " < labels.txt"),
     ),
-    ("help", ("Example: tc help", " ltc-read", "", 0, 0)),
-    ("help", ("Example: tc help", " statuses", "", 0, 0)),
-    ("version", ("Example: tc version", "", "", 0, 0)),
+    ("help", ("Example: tc help", " ltc-read", "")),
+    ("help", ("Example: tc help", " statuses", "")),
+    ("version", ("Example: tc version", "", "")),
 ];
 
 /// Each exit number and what it means, with the beginning of its notes in the middle.
@@ -620,8 +396,6 @@ pub static EXIT_NUMBERS: [(&str, PageLine); 8] = [
             "0  ",
             "",
             "done: the input was read to its end, and the whole output was written.",
-            0,
-            0,
         ),
     ),
     (
@@ -632,8 +406,6 @@ pub static EXIT_NUMBERS: [(&str, PageLine); 8] = [
             "..  The words name no job; nothing was read or written.\n\
             \x20  Compare them with tc help COMMAND. Word 0 is the command. A file is not a\n\
             \x20  word: it is given with <, as in tc ltc-read < tape.ltci.",
-            0,
-            0,
         ),
     ),
     (
@@ -645,8 +417,6 @@ pub static EXIT_NUMBERS: [(&str, PageLine); 8] = [
             \x20  magic at byte 0: another kind of file; a sound file goes to wav-ltc, and an\n\
             \x20  interval file to ltc-read. truncated: the end is cut off. What came before\n\
             \x20  that byte was read and written; of a script nothing is written.",
-            0,
-            0,
         ),
     ),
     (
@@ -655,8 +425,6 @@ pub static EXIT_NUMBERS: [(&str, PageLine); 8] = [
             "4  ",
             "tc: read fault",
             "  Standard input failed: look at its disk or device.",
-            0,
-            0,
         ),
     ),
     (
@@ -666,8 +434,6 @@ pub static EXIT_NUMBERS: [(&str, PageLine); 8] = [
             "tc: write fault",
             "  Standard output failed: a full disk, or a closed pipe.\n\
             \x20  What was written is the beginning of the output.",
-            0,
-            0,
         ),
     ),
     (
@@ -676,8 +442,6 @@ pub static EXIT_NUMBERS: [(&str, PageLine); 8] = [
             "6  ",
             "tc: out of memory",
             "  There was no memory: see ulimit -v.",
-            0,
-            0,
         ),
     ),
     (
@@ -686,8 +450,6 @@ pub static EXIT_NUMBERS: [(&str, PageLine); 8] = [
             "7  ",
             "tc: limit",
             "  The input is longer than the command takes: cut it into files.",
-            0,
-            0,
         ),
     ),
     (
@@ -696,8 +458,6 @@ pub static EXIT_NUMBERS: [(&str, PageLine); 8] = [
             "8  ",
             "",
             "no note: an argument is not text in UTF-8. Look for a byte above 7f.",
-            0,
-            0,
         ),
     ),
 ];

@@ -41,6 +41,6 @@ pub static USAGES: [(&str, &str); 24] = [
     ("number", " COUNT LABEL"),
     ("label", " COUNT NUMBER"),
     ("labels", " COUNT [ntsc] WAY"),
-    ("help", ""),
+    ("help", " [COMMAND|statuses]"),
     ("version", ""),
 ];

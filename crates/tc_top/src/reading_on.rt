@@ -7,6 +7,7 @@ ghost use Rattle.signal_commands.specs.LumaVitc.{told_luma_vitc};
 ghost use Rattle.tc_top.specs.Promises.{IsReadOn};
 
 use direction_reader::laws::a_list_has_one_list_of_events;
+use forms::laws::each_page_lists_what_is_taken;
 use frame_commands::laws::what_is_heard_has_labels_of_its_system;
 use interval_file::laws::{a_file_is_read_as_it_was_written, bytes_are_read_as_the_text_says};
 use label_command::laws::answers_are_answered_again;
@@ -37,6 +38,7 @@ pub(crate) fn it_is_read_on(job: &Job)
     number_and_label_are_inverse();
     each_command_has_its_usage();
     each_form_is_taken();
+    each_page_lists_what_is_taken();
     each_page_tells_what_is_read();
     help_tells_of_each_status();
     bytes_are_read_as_the_text_says();

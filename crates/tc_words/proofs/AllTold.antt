@@ -5,6 +5,7 @@ use Rattle.std.specs.declared.option.Option.{Option}
 use Rattle.std.specs.declared.result.Result.{Result}
 use Rattle.std.specs.List.{find, list_all}
 use Rattle.std.specs.Result.{is_ok}
+use Rattle.std.specs.Fmt.{digits}
 use Rattle.std.specs.Str.{bytes_eq}
 use Rattle.std.proofs.lemmas.Bool.{and_parts}
 use Rattle.std.proofs.lemmas.Slice.Eq.{bytes_eq-Decides}
@@ -19,7 +20,8 @@ use Rattle.forms.specs.Reading.{read, read_on}
 use Rattle.forms.specs.Slot.{value_in}
 use Rattle.forms.specs.declared.value.Value.{Value}
 use Rattle.tc_words.specs.Forms.{between_bars}
-use Rattle.tc_words.specs.Pages.{AreNamed, are_told, between_spaces}
+use Rattle.forms.specs.Help.{range_text, ways, ways_by}
+use Rattle.tc_words.specs.Pages.{AreNamed, are_told, between_spaces, rows_from, slot_rows, value_rows}
 use Rattle.tc_words.proofs.SlotsTold.{names_need, names_slot, names_slots, slot_tells}
 
 read_told : (command : Word) (place : ℕ) (before : List Value) (slots : List SlotRow) (words : List Word)
@@ -48,7 +50,8 @@ read_told command place before (slot ∷ slots) (word ∷ words) names ok =
 
 -- the page of each command names what its slots take
 each_names : list_all (λ (row : Row). names_slots row.0 1 row.2) forms ≡ true
-unfolding forms choices between_bars between_spaces between number_spelled
+unfolding digits forms choices between_bars between_spaces between number_spelled range_text rows_from slot_rows
+    value_rows ways ways_by
 each_names = refl
 
 -- the form that is found is one of the table

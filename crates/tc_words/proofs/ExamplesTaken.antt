@@ -17,7 +17,8 @@ use Rattle.tc_words.specs.Forms.{between_bars}
 use Rattle.tc_words.specs.Pages.{are_examples_taken, between_spaces}
 
 pub examples_taken : slice_get (day C25) 90000 ≡ Some (address C25 1 0 0 0) → are_examples_taken ≡ true
-unfolding are_examples_taken between_bars between_spaces task_of form_of forms choices said_by read_on between number_spelled numbered label_read path_rate_in path_fineness_in
-    topic_in first_fit task_in jam_in chase_in stripe_in load_in line_stripe_in slicing_in wave_slicing_in path_slicing_in
-    track_path_in luma_in labels_in since_in
+unfolding are_examples_taken between_bars between_spaces task_of form_of forms choices said_by read_on between
+    number_spelled numbered label_read path_rate_in path_fineness_in topic_in first_fit task_in jam_in chase_in
+    stripe_in load_in line_stripe_in slicing_in wave_slicing_in path_slicing_in track_path_in luma_in labels_in
+    since_in
 examples_taken first = rw first (search rules)

@@ -16,7 +16,7 @@ use Rattle.tc_address.specs.Label.{labels as day}
 use Rattle.tc_words.specs.Forms.{AreTaken, between_bars, read_form, rows}
 
 pub forms_taken : slice_get (day C30) 0 ≡ Some (address C30 0 0 0 0) → AreTaken rows
-unfolding between_bars read_form task_of form_of forms choices said_by read_on between number_spelled numbered label_read path_rate_in path_fineness_in
-    topic_in first_fit task_in jam_in chase_in stripe_in load_in line_stripe_in slicing_in wave_slicing_in path_slicing_in
-    track_path_in luma_in labels_in since_in
+unfolding between_bars read_form task_of form_of forms choices said_by read_on between number_spelled numbered
+    label_read path_rate_in path_fineness_in topic_in first_fit task_in jam_in chase_in stripe_in load_in
+    line_stripe_in slicing_in wave_slicing_in path_slicing_in track_path_in luma_in labels_in since_in
 forms_taken first = rw first (search rules)

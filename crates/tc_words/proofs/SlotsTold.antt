@@ -1,13 +1,12 @@
--- A word that a slot takes is named by the page, if the page names what the slot takes: this is a test that is computed.
+-- A word that a slot takes is named by the page, if the page names what the slot takes: this is a test that is
+-- computed.
 use Rattle.std.proofs.Common.{◌≡◌, ◌≤◌, ℕ, Bool, true, false, not, ◌&&◌, List, [], ◌∷◌, length, Some, None, refl}
 use Rattle.std.proofs.Common.{◌||◌, ◌<◌, ◌+◌, ◌^◌, arith, inl, inr, zero, suc, get_or, cond, min, nat_lt, le-leb, rules}
-use Rattle.std.specs.Prelude.{codes, nat_le, option_map, option_and_then, slice_get, position}
+use Rattle.std.specs.Prelude.{codes, nat_eq, nat_le, option_map, option_and_then, slice_get, position}
 use Rattle.std.specs.declared.option.Option.{Option}
 use Rattle.std.specs.List.{list_all, list_any}
 use Rattle.std.specs.Option.{is_some}
 use Rattle.std.specs.Str.{bytes_eq}
-use Rattle.std.specs.Str.Parse.{digits_value}
-use Rattle.std.proofs.lemmas.Bool.Decides.{nat_tests}
 use Rattle.std.proofs.lemmas.Bool.{and_parts, leb-true, or_cases}
 use Rattle.std.proofs.lemmas.List.Quantifiers.{position-Some}
 use Rattle.std.proofs.lemmas.Slice.Eq.{bytes_eq-Decides}
@@ -17,9 +16,10 @@ use Rattle.tc_address.specs.Spelling.{label_in}
 use Rattle.tc_job.specs.declared.usages.TheConstants.{USAGES}
 use Rattle.forms.specs.Choice.{choices, said_by, said_in}
 use Rattle.forms.specs.Form.{SlotRow}
-use Rattle.forms.specs.Number.{Word, between, is_number, number_spelled}
+use Rattle.forms.specs.Number.{Word, between, number_spelled}
 use Rattle.forms.specs.Held.{count_at}
-use Rattle.forms.specs.Slot.{bounded_by, is_live, label_read, numbered, path_fineness_in, path_rate_in, pulled_in, topic_in, value_in, value_of}
+use Rattle.forms.specs.Slot.{bounded_by, is_live, label_read, numbered, path_fineness_in, path_rate_in, pulled_in}
+use Rattle.forms.specs.Slot.{topic_in, value_in, value_of}
 use Rattle.forms.specs.declared.choices.TheConstants.{NTSC, STATUSES}
 use Rattle.forms.specs.declared.slot.Need.{Need}
 use Rattle.forms.specs.declared.slot.Need.TheVariants.{Needed, Optional, OrLive}
@@ -31,24 +31,15 @@ use Rattle.forms.specs.declared.value.Value.{Value}
 use Rattle.forms.specs.declared.value.Value.TheVariants as values
 use Rattle.limits.specs.declared.recording.TheConstants.{MAX_TICK_RATE}
 use Rattle.tc_job.specs.declared.slicing.TheConstants.{MAX_FINENESS}
-use Rattle.tc_words.specs.Pages.{ValueRow, are_digits, between_spaces, is_among, is_label, is_named, is_of_labels, is_told, value_rows}
+use Rattle.tc_words.specs.Pages.{ValueRow, is_label, is_named, is_of_labels, is_told, value_rows}
+use Rattle.tc_words.proofs.NumbersNamed.{between_is, first_some, names_range, number_named, small}
 
 -- ---- the test
-
--- the text names each number of a range
-abbrev names_numbers : ℕ → ℕ → List Word → Bool
-names_numbers least most (one ∷ []) = false
-names_numbers least most (first ∷ to ∷ last ∷ []) =
-    not (are_digits last) || nat_le (digits_value 10 first) least && nat_le most (digits_value 10 last)
-names_numbers least most _ = true
-
-abbrev names_range : ℕ → ℕ → List ℕ → Bool
-names_range least most named = not (is_of_labels named) && names_numbers least most (between_spaces named)
 
 -- a row of the command, at a place, whose text is so
 abbrev has_row : (List ℕ → Bool) → Word → ℕ → List ValueRow → Bool
 has_row is command place rows = list_any (λ (row : ValueRow).
-    bytes_eq row.command command && nat_le row.first place && nat_le place row.last && is row.named) rows
+    bytes_eq row.command command && nat_eq row.place place && is row.named) rows
 
 -- each word of a choice is named
 abbrev names_choice : Word → ℕ → ℕ → Bool
@@ -66,7 +57,8 @@ names_slot command place (slots.NumberOfDay count) =
     has_row (names_range 0 18446744073709551615) command place value_rows
 names_slot command place (slots.Ntsc count) = names_choice command place NTSC
 names_slot command place (slots.PathRate system) = has_row (names_range 1 MAX_TICK_RATE) command place value_rows
-names_slot command place (slots.PathFineness system rate) = has_row (names_range 1 MAX_FINENESS) command place value_rows
+names_slot command place (slots.PathFineness system rate) =
+    has_row (names_range 1 MAX_FINENESS) command place value_rows
 names_slot command place slots.Topic =
     names_choice command place STATUSES && list_all (λ usage. is_told command place usage.0.now) USAGES
 
@@ -92,8 +84,8 @@ all_at q [] i d within all = absurd (omega (arith, within))
 all_at q (x ∷ xs) zero d within all = (and_parts (q x) _ all).0
 all_at q (x ∷ xs) (suc i) d within all = all_at q xs i d (omega (arith, within)) (and_parts (q x) _ all).1
 
-located : {X : Type 0} (p q : X → Bool) (xs : List X) (i : ℕ) → position p xs ≡ Some i → list_all q xs ≡ true
-    → (x : X) × (p x ≡ true) × (q x ≡ true)
+located : {X : Type 0} (p q : X → Bool) (xs : List X) (i : ℕ) → position p xs ≡ Some i
+    → list_all q xs ≡ true → (x : X) × (p x ≡ true) × (q x ≡ true)
 located p q [] i at all = absurd cc
 located p q (x ∷ xs) i at all =
     let is = position-Some p (x ∷ xs) i x at in (get_or (x ∷ xs) i x, is.1, all_at q (x ∷ xs) i x is.0 all)
@@ -102,84 +94,15 @@ mapped : {X Y : Type 0} (f : X → Y) (o : Option X) (y : Y) → option_map f o 
 mapped f None y is = absurd cc
 mapped f (Some x) y is = (x, refl)
 
-first_some : {X Y : Type 0} (f : X → Option Y) (o : Option X) (y : Y) → option_and_then f o ≡ Some y
-    → (x : X) × (o ≡ Some x) × (f x ≡ Some y)
-first_some f None y is = absurd cc
-first_some f (Some x) y is = (x, refl, is)
-
--- ---- numbers
-
-small : (word : Word) (n : ℕ) → number_spelled word ≡ Some n → n ≤ 18446744073709551615
-unfolding number_spelled
-small word n is = go (is_number word && nat_lt (digits_value 10 word) (2 ^ 64)) refl is
-  where
-    go : (b : Bool) → (is_number word && nat_lt (digits_value 10 word) (2 ^ 64)) ≡ b
-        → cond b (Some (digits_value 10 word)) None ≡ Some n → n ≤ 18446744073709551615
-    go true tests at =
-        let same : digits_value 10 word ≡ n = grind (arith, at) in
-        let test = (and_parts (is_number word) _ tests).1 in
-        let below : digits_value 10 word < 2 ^ 64 = grind (arith, nat_tests, test) in
-        omega (arith, same, below)
-    go false tests at = absurd cc
-
-between_is : (least most : ℕ) (word : Word) (n : ℕ) → between least most word ≡ Some n
-    → (number_spelled word ≡ Some n) × (least ≤ n) × (n ≤ most)
-unfolding between
-between_is least most word n is =
-    let (m, spelled, at) = first_some _ (number_spelled word) n is in go m (nat_le least m && nat_le m most) spelled refl at
-  where
-    go : (m : ℕ) (b : Bool) → number_spelled word ≡ Some m → (nat_le least m && nat_le m most) ≡ b
-        → cond b (Some m) None ≡ Some n → (number_spelled word ≡ Some n) × (least ≤ n) × (n ≤ most)
-    go m true spelled tests at =
-        let same : m ≡ n = grind (arith, at) in
-        let parts = and_parts (nat_le least m) _ tests in
-        rw (← same) (spelled, leb-true least m parts.0, leb-true m most parts.1)
-    go m false spelled tests at = absurd cc
-
-in_between : (least most : ℕ) (word : Word) (n : ℕ) → number_spelled word ≡ Some n → least ≤ n → n ≤ most
-    → is_some (between least most word) ≡ true
-unfolding between
-in_between least most word n spelled low high = rw (spelled, le-leb least n low, le-leb n most high) refl
-
-among : (least most : ℕ) (texts : List Word) (word : Word) (n : ℕ) → names_numbers least most texts ≡ true
-    → number_spelled word ≡ Some n → least ≤ n → n ≤ most → is_among texts word ≡ true
-among least most [] word n names spelled low high = rw spelled refl
-among least most (one ∷ []) word n names spelled low high = absurd cc
-among least most (first ∷ to ∷ []) word n names spelled low high = rw spelled refl
-among least most (first ∷ to ∷ last ∷ []) word n names spelled low high = go (are_digits last) refl names
-  where
-    go : (digits : Bool) → are_digits last ≡ digits → (not digits || nat_le (digits_value 10 first) least
-        && nat_le most (digits_value 10 last)) ≡ true
-        → cond digits (is_some (between (digits_value 10 first) (digits_value 10 last) word))
-        (is_some (number_spelled word)) ≡ true
-    go true is tests =
-        let parts = and_parts (nat_le (digits_value 10 first) least) _ tests in
-        let from = leb-true (digits_value 10 first) least parts.0 in
-        let till = leb-true most (digits_value 10 last) parts.1 in
-        in_between (digits_value 10 first) (digits_value 10 last) word n spelled (omega (arith, from, low))
-        (omega (arith, till, high))
-    go false is tests = rw spelled refl
-among least most (first ∷ to ∷ last ∷ more ∷ rest) word n names spelled low high = rw spelled refl
-
-number_named : (least most : ℕ) (named : List ℕ) (word : Word) (n : ℕ) → names_range least most named ≡ true
-    → number_spelled word ≡ Some n → least ≤ n → n ≤ most → is_named named word ≡ true
-number_named least most named word n names spelled low high = go (is_of_labels named) refl
-    (and_parts (not (is_of_labels named)) _ names).0
-  where
-    go : (labels : Bool) → is_of_labels named ≡ labels → not labels ≡ true → is_named named word ≡ true
-    go true is other = absurd cc
-    go false is other = rw is (among least most (between_spaces named) word n
-        (and_parts (not (is_of_labels named)) _ names).1 spelled low high)
-
 -- ---- the rows of the pages
 
 row_tells : (is : List ℕ → Bool) (command : Word) (place : ℕ) (word : Word) (rows : List ValueRow)
     → ((named : List ℕ) → is named ≡ true → is_named named word ≡ true) → has_row is command place rows ≡ true
-    → list_any (λ (row : ValueRow). bytes_eq row.command command && nat_le row.first place && nat_le place row.last
+    → list_any (λ (row : ValueRow). bytes_eq row.command command && nat_eq row.place place
     && is_named row.named word) rows ≡ true
 row_tells is command place word [] names has = absurd cc
 row_tells is command place word (row ∷ rows) names has =
-    let at = bytes_eq row.command command && nat_le row.first place && nat_le place row.last in
+    let at = bytes_eq row.command command && nat_eq row.place place in
     elim (or_cases (at && is row.named) _ has) [
       | inl this ↦
           let parts = and_parts at (is row.named) this in
@@ -210,8 +133,8 @@ one_tells command place (row ∷ rows) word said all at =
         rw ((bytes_eq-Decides word row.0).0 same) (and_parts (is_told command place row.0) _ all).0
     go false same is more = more is
 
-choice_tells : (command : Word) (place choice : ℕ) (word : Word) (said : Said) → names_choice command place choice ≡ true
-    → said_by choice word ≡ Some said → is_told command place word ≡ true
+choice_tells : (command : Word) (place choice : ℕ) (word : Word) (said : Said)
+    → names_choice command place choice ≡ true → said_by choice word ≡ Some said → is_told command place word ≡ true
 unfolding said_by
 choice_tells command place choice word said names at = go (slice_get choices choice) names at
   where
@@ -310,8 +233,8 @@ live_tells command place Optional last word names is = absurd cc
 live_tells command place OrLive last word names is =
     rw ((bytes_eq-Decides word (codes "live")).0 (and_parts last _ is).1) names
 
-pub slot_tells : (command : Word) (place : ℕ) (need : Need) (slot : Slot) (before : List Value) (last : Bool) (word : Word)
-    (v : Value) → names_need command place need ≡ true → names_slot command place slot ≡ true
+pub slot_tells : (command : Word) (place : ℕ) (need : Need) (slot : Slot) (before : List Value) (last : Bool)
+    (word : Word) (v : Value) → names_need command place need ≡ true → names_slot command place slot ≡ true
     → value_in need slot before last word ≡ Some v → is_told command place word ≡ true
 slot_tells command place need slot before last word v names_live names is = go (is_live need last word) refl is
   where

@@ -1,9 +1,10 @@
 -- What the pages of help name, and what is read: the values of a line, and the examples.
-use Rattle.std.specs.Prelude.{◌≡◌, ℕ, ◌+◌, ◌-◌, ◌==◌, nat_le, nat_lt, Bool, true, false, ◌&&◌, List, [], ◌∷◌, ◌++◌}
+use Rattle.std.specs.Prelude.{◌≡◌, ℕ, ◌+◌, ◌-◌, ◌==◌, nat_eq, nat_le, nat_lt, Bool, true}
+use Rattle.std.specs.Prelude.{false, ◌&&◌, List, [], ◌∷◌, ◌++◌}
 use Rattle.std.specs.Prelude.{codes, length, drop, take, map, if◌then◌else◌}
 use Rattle.std.specs.Prelude.{Result, Ok, Err}
 use Rattle.std.specs.Char.{is_ascii_digit}
-use Rattle.std.specs.List.{list_all, list_any, range_with_len, AllByRecursion}
+use Rattle.std.specs.List.{flat_map, list_all, list_any, AllByRecursion}
 use Rattle.std.specs.Option.{is_some}
 use Rattle.std.specs.Result.{is_ok}
 use Rattle.std.specs.Str.{bytes_eq}
@@ -13,8 +14,12 @@ use Rattle.tc_address.specs.Spelling.{label_in}
 use Rattle.tc_job.specs.declared.fault.WordsFault.{WordsFault}
 use Rattle.tc_job.specs.declared.fault.WordsFault.TheVariants.{Value}
 use Rattle.tc_job.specs.declared.job.Task.{Task}
-use Rattle.tc_job.specs.declared.pages.TheConstants.{EXAMPLES, VALUES_OF_LABELS, VALUES_OF_RECORDINGS}
-use Rattle.tc_job.specs.declared.pages.TheConstants.{VALUES_OF_SIGNALS}
+use Rattle.tc_job.specs.declared.pages.TheConstants.{EXAMPLES}
+use Rattle.tc_job.specs.declared.values.TheConstants.{VALUES}
+use Rattle.forms.specs.Form.{SlotRow}
+use Rattle.forms.specs.Help.{Name, Way, range_text, ways, ways_of}
+use Rattle.forms.specs.declared.slot.Need.{Need}
+use Rattle.forms.specs.declared.slot.Need.TheVariants.{OrLive}
 use Rattle.tc_words.specs.Forms.{between_bars, in_front, rows}
 use Rattle.forms.specs.Number.{Word, between, number_spelled}
 use Rattle.forms.specs.Named.{task_of}
@@ -60,21 +65,47 @@ spelled_in values = if is_of_labels values then [] else spelled_among (between_s
 
 -- ---- the tables
 
--- the values of a word of a command, as its page names them, and at which words they may be given, from the first of
--- these places to the last. The command is word 0
+-- the values that a page names at a word of a command. The command is word 0
 pub record ValueRow : Type 0 where
   pub command : Word
   pub named : List ℕ
-  pub first : ℕ
-  pub last : ℕ
+  pub place : ℕ
 
-abbrev pub value_rows : List ValueRow
-value_rows = map (λ row. record {
-  command = row.0.now;
-  named = row.1.1.now;
-  first = row.1.3;
-  last = row.1.4;
-}) (VALUES_OF_RECORDINGS ++ VALUES_OF_SIGNALS ++ VALUES_OF_LABELS)
+abbrev pub row_at : Word → ℕ → List ℕ → List ValueRow
+row_at command place named =
+    if length named == 0 then [] else record { command = command; named = named; place = place } ∷ []
+
+-- the last word may be `live`
+abbrev pub live_at : Word → ℕ → Need → List ValueRow
+live_at command place OrLive = row_at command place (codes "live")
+live_at command place _ = []
+
+-- what help prints of slots, from a place on
+unfoldable pub rows_from : Word → List Name → ℕ → List SlotRow → List ValueRow
+rows_from command names place [] = []
+rows_from command names place (slot ∷ slots) =
+    row_at command place (range_text names slot.1) ++ live_at command place slot.0
+    ++ rows_from command names (place + 1) slots
+
+-- of each way
+unfoldable pub slot_rows : List ValueRow
+slot_rows = flat_map (λ (way : Way). rows_from way.0 way.2 1 way.1) ways
+
+-- and what the page of `help` lists besides: the rows of the table in which words of the command stand by themselves
+unfoldable pub value_rows : List ValueRow
+value_rows = slot_rows ++ flat_map (λ row. row_at row.0.now 1 row.1.1.now) VALUES
+
+-- what stands in the lines of a way that say what a value is
+unfoldable pub shown_by : List Name → List Name → List SlotRow → List (List ℕ)
+shown_by all [] slots = []
+shown_by all (name ∷ names) [] = []
+shown_by all (name ∷ names) (slot ∷ slots) =
+    if length name.1 == 0 then shown_by all names slots else range_text all slot.1 ∷ shown_by all names slots
+
+-- what help prints of each slot stands in a line of its command
+unfoldable pub are_shown : Bool
+are_shown = list_all (λ (row : ValueRow). list_any (bytes_eq row.named)
+    (flat_map (λ (way : Way). shown_by way.2 way.2 way.1) (ways_of row.command))) slot_rows
 
 -- an example of a command: what is shown before its words, and these
 pub record ExampleRow : Type 0 where
@@ -96,7 +127,7 @@ example_rows =
 abbrev pub is_told : Word → ℕ → Word → Bool
 is_told command place value =
     list_any (λ (row : ValueRow).
-    bytes_eq row.command command && nat_le row.first place && nat_le place row.last && is_named row.named value)
+    bytes_eq row.command command && nat_eq row.place place && is_named row.named value)
     value_rows
 
 -- each of the words, from this place on
@@ -124,12 +155,12 @@ is_read_in words place command value =
     nat_le place (length words + 1)
     && is_past place (task_of command (take (place - 1) words ++ value ∷ drop place words))
 
--- in an example of the command, at one of the places of the row
+-- in an example of the command, at a place at which its page names the same
 abbrev pub is_read : ValueRow → Word → Bool
 is_read row value =
-    list_any (λ (example : ExampleRow). bytes_eq example.command row.command
-    && list_any (λ place. is_read_in example.words place row.command value)
-    (range_with_len row.first (row.last + 1 - row.first))) example_rows
+    list_any (λ (other : ValueRow). bytes_eq other.command row.command && bytes_eq other.named row.named
+    && list_any (λ (example : ExampleRow). bytes_eq example.command row.command
+    && is_read_in example.words other.place row.command value) example_rows) value_rows
 
 -- each value that a row spells is read
 unfoldable pub are_values_read : Bool

@@ -1,7 +1,7 @@
 //! The table of usages beside the commands.
 ghost use Rattle.std.specs.Prelude.{◌≡◌, true};
 ghost use Rattle.tc_words.specs.Forms.{AreTaken, are_once, rows};
-ghost use Rattle.tc_words.specs.Pages.{AreNamed, are_examples_taken, are_values_read};
+ghost use Rattle.tc_words.specs.Pages.{AreNamed, are_examples_taken, are_shown, are_values_read};
 ghost use Rattle.tc_words.specs.Usages.{HaveUsages, are_commands};
 
 use tc_address::laws::number_and_label_are_inverse;
@@ -22,11 +22,12 @@ pub fn each_form_is_taken()
     number_and_label_are_inverse();
 }
 
-/// The page of each command names what is read. Its examples are words that the command takes. Each value that the
-/// page spells is read in an example at its place, and so is each end of a range. And of all words that the command
-/// takes each is named by the page at its place.
+/// The page of each command names what is read. Its examples are words that the command takes. What help prints of a
+/// slot stands in a line of the page. Each value that is spelled there is read in an example at its place, and so is
+/// each end of a range. And of all words that the command takes each is named by what is printed of its slot.
 pub fn each_page_tells_what_is_read()
     ensures examples { are_examples_taken ≡ true }
+    ensures shown { are_shown ≡ true }
     ensures read { are_values_read ≡ true }
     ensures named { AreNamed rows }
 {

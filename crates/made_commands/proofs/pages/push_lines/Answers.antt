@@ -8,7 +8,7 @@ use Rattle.made_commands.proofs.pages.push_lines.Goals as goal
 pub push_row-requires : goal.push_row-requires
 push_row-requires c =
     let text : Bor (List ℕ) = record { ref_ptr = (0, 0); now = [] } in
-    let none : Bor (List ℕ) × (Bor (List ℕ) × Bor (List ℕ) × Bor (List ℕ) × ℕ × ℕ) = (text, (text, text, text, 0, 0)) in
+    let none : Bor (List ℕ) × (Bor (List ℕ) × Bor (List ℕ) × Bor (List ℕ)) = (text, (text, text, text)) in
     let topic = c.args.topic.now in
     let rows = c.args.rows.now in
     let more = drop c.rows.told-index rows in

@@ -1,6 +1,6 @@
 use Rattle.std.proofs.Common.{arith}
 use Rattle.made_commands.specs.About.{usage_line}
-use Rattle.made_commands.specs.Pages.{examples, page_lines, said, value_lines}
+use Rattle.made_commands.specs.Pages.{examples, page_lines, said, values}
 use Rattle.made_commands.proofs.PageLines.{joined, parts_long}
 use Rattle.made_commands.proofs.pages.push_page.Goals as goal
 
@@ -34,6 +34,6 @@ pub returns : goal.returns
 returns c =
     let command = c.args.command.now in
     joined c.args.room.now.items (usage_line (command, c.args.values.now)) (page_lines command said)
-    (value_lines command) (page_lines command examples) c.push_usage.new.room.items
+    (page_lines command values) (page_lines command examples) c.push_usage.new.room.items
     c.push_said.new.room.items c.push_values.new.room.items c.push_examples.new.room.items c.push_usage.ensures.items
     c.push_said.ensures.items c.push_values.ensures.items c.push_examples.ensures.items

@@ -1,5 +1,24 @@
+use Rattle.signal_commands.specs.declared.path_sound.PathWords.TheVariants.{Raw}
+use Rattle.signal_commands.specs.KeptPath.{path_kind}
+use Rattle.signal_commands.proofs.RawOn.{raw_begins}
 use Rattle.signal_commands.proofs.pcm_path.hear_path.Goals as goal
+
+-- the listener has begun
+pub begun-listening-requires-clause-hears : goal.begun-listening-requires-clause-hears
+begun-listening-requires-clause-hears g c =
+    let b = c.begin-listener in
+    (b.result.1, raw_begins path_kind (Raw c.args.path.now) b.result.0 b.result.1 b.ensures)
+
+-- and wrote the header
+pub run_behind-requires-clause-new : goal.run_behind-requires-clause-new
+run_behind-requires-clause-new g c =
+    let b = c.begin-listener in
+    c.begun-listening.ensures.stands b.result.1
+    (raw_begins path_kind (Raw c.args.path.now) b.result.0 b.result.1 b.ensures)
 
 -- the choice of the engine is that of the words
 pub returns : goal.returns
-returns g c = record { told = c.a_path_is_told.ensures; worked = rw c.new.ensures.path at c.run_behind.ensures }
+returns g c = record {
+  told = c.a_path_is_told.ensures;
+  worked = rw c.begun-listening.ensures.words at c.run_behind.ensures;
+}

@@ -17,6 +17,8 @@ returns c = read_on (record {
     taken = c.each_form_is_taken.ensures.taken;
   };
   pages = record {
+    listed = c.each_page_lists_what_is_taken.ensures.listed;
+    shown = c.each_page_tells_what_is_read.ensures.shown;
     examples = c.each_page_tells_what_is_read.ensures.examples;
     read = c.each_page_tells_what_is_read.ensures.read;
     named = c.each_page_tells_what_is_read.ensures.named;

@@ -1,4 +1,5 @@
 use Rattle.std.proofs.Common.{refl, arith, rules}
+use Rattle.std.specs.Fmt.{digits}
 use Rattle.forms.specs.Choice.{choices, said_by}
 use Rattle.forms.specs.Form.{form_of, forms}
 use Rattle.forms.specs.Made.{chase_in, jam_in, labels_in, line_stripe_in, load_in, luma_in, path_slicing_in, since_in}
@@ -13,16 +14,23 @@ use Rattle.tc_address.specs.Label.{address, addresses, hour_of, minute_of, secon
 use Rattle.tc_address.specs.Label.{labels as day}
 use Rattle.tc_address.specs.Numbering.{number_of}
 use Rattle.tc_words.specs.Forms.{between_bars}
-use Rattle.tc_words.specs.Pages.{are_values_read, between_spaces}
+use Rattle.forms.specs.Help.{range_text, ways, ways_by}
+use Rattle.tc_words.specs.Pages.{are_shown, are_values_read, between_spaces, rows_from, shown_by, slot_rows}
+use Rattle.tc_words.specs.Pages.{value_rows}
 use Rattle.tc_words.proofs.AllTold.{each_is_named}
 use Rattle.tc_words.proofs.ExamplesTaken.{examples_taken}
 use Rattle.tc_words.proofs.laws.each_page_tells_what_is_read.Goals as goal
 
 -- by computing
+pub returns-clause-shown : goal.returns-clause-shown
+unfolding are_shown choices digits forms range_text rows_from shown_by slot_rows ways ways_by
+returns-clause-shown c = refl
+
 pub returns-clause-read : goal.returns-clause-read
-unfolding are_values_read between_bars between_spaces task_of form_of forms choices said_by read_on between number_spelled numbered label_read path_rate_in path_fineness_in
-    topic_in first_fit task_in jam_in chase_in stripe_in load_in line_stripe_in slicing_in wave_slicing_in path_slicing_in
-    track_path_in luma_in labels_in since_in
+unfolding are_values_read digits range_text rows_from slot_rows value_rows ways ways_by between_bars between_spaces
+    task_of form_of forms choices said_by read_on between number_spelled numbered label_read path_rate_in
+    path_fineness_in topic_in first_fit task_in jam_in chase_in stripe_in load_in line_stripe_in slicing_in
+    wave_slicing_in path_slicing_in track_path_in luma_in labels_in since_in
 returns-clause-read c = search rules
 
 pub returns-clause-named : goal.returns-clause-named

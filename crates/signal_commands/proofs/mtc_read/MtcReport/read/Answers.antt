@@ -2,7 +2,7 @@ use Rattle.std.proofs.Common.{◌≡◌, ◌++◌, List, ℕ, refl, subst}
 use Rattle.mtc_reader.specs.Events.{events_in}
 use Rattle.mtc_reader.specs.StandsFor as reads
 use Rattle.mtc_reader.specs.StandsFor.{events_of}
-use Rattle.signal_commands.proofs.SlicedOn.{same_front}
+use Rattle.signal_commands.proofs.MidiLimit.{same_front}
 use Rattle.signal_commands.proofs.mtc_read.MtcReport.read.Goals as goal
 
 -- what is taken of the bytes within the limit comes in front of all of them

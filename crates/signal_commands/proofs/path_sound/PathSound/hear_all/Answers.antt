@@ -2,7 +2,7 @@ use Rattle.std.proofs.Common.{rules, ◌++◌, [], pos, List, ℕ, ℤ, FitsSign
 use Rattle.std.proofs.Common.{take, get_or, refl, sym, ◌∙◌, subst, arith, append-nil}
 use Rattle.std.proofs.lemmas.List.{take_all}
 use Rattle.std.specs.Int.{w16}
-use Rattle.signal_commands.specs.KeptSound.{HearsSamples}
+use Rattle.signal_commands.specs.KeptPath.{HearsSamples}
 use Rattle.signal_commands.proofs.PathOn.{one_more_heard}
 use Rattle.signal_commands.proofs.path_sound.PathSound.hear_all.Goals as goal
 
@@ -20,15 +20,15 @@ samples-init g c = record {
   );
 }
 
-pub hear-requires-clause-room : goal.hear-requires-clause-room
-hear-requires-clause-room g c =
+pub hear_one-requires-clause-room : goal.hear_one-requires-clause-room
+hear_one-requires-clause-room g c =
     omega (arith, c.samples.invariant.count, c.samples-test.true, c.requires.room)
 
 -- one more
 pub samples-preserved : goal.samples-preserved
 samples-preserved g c =
     let i = c.samples.invariant in
-    let e = c.hear.ensures in
+    let e = c.hear_one.ensures in
     let run = c.args.samples.now in
     let fits : FitsSigned w16 (get_or run c.samples.at (pos 0)) = search rules in
     let works = rw (to_z-of_z fits) at e.works in
@@ -40,8 +40,8 @@ samples-preserved g c =
           let w = i.works before written hears in
           let v = works (before ++ take c.samples.at run) (written ++ w.0) w.2 in (
             w.0 ++ v.0,
-            g.O.Output.given_more c.args.out.now c.samples.out c.hear.new.out w.0 v.0 w.1 v.1,
-            one_more_heard c.hear.new.self before run c.samples.at (pos 0) written w.0 v.0 c.samples-test.true v.2,
+            g.O.Output.given_more c.args.out.now c.samples.out c.hear_one.new.out w.0 v.0 w.1 v.1,
+            one_more_heard c.hear_one.new.self before run c.samples.at (pos 0) written w.0 v.0 c.samples-test.true v.2,
           );
     }
 

@@ -1,5 +1,5 @@
 use Rattle.std.proofs.Common.{◌≡◌, ◌+◌, ◌++◌, ℕ, ℤ, List, take}
-use Rattle.signal_commands.specs.KeptSound.{samples_heard, HearsSamples, IsGoing}
+use Rattle.signal_commands.specs.KeptPath.{samples_heard, HearsSamples, IsGoing}
 use Rattle.signal_commands.proofs.path_sound.PathSound.hear_all.Given as goal
 
 -- the samples before a place were heard
