@@ -1,6 +1,6 @@
 //! The commands that follow the frames of a recording: the words that are heard in it, and those that a
-//! flywheel invents between them. `ltc-fly` prints them, `ltc-mtc` sends them as MIDI Time Code, `ltc-jam`
-//! records them anew, and `ltc-chase` has a transport follow them.
+//! flywheel invents between them. `ltc-fly` prints them, `ltc-spans` lists their spans, `ltc-mtc` sends them
+//! as MIDI Time Code, `ltc-jam` records them anew, and `ltc-chase` has a transport follow them.
 //!
 //! What this crate promises, for all sources and sinks:
 //! - Each command writes what its `FrameText` makes of the frames of the file's intervals, with at most so
