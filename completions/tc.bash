@@ -7,11 +7,14 @@ _tc() {
     else
         case $command:$COMP_CWORD in
             number:2 | label:2 | labels:2 | ltc-make:2 | chase:2 | ltc-chase:2) values="24 25 30 30d" ;;
-            labels:3) values="number label seconds plus minus since to ntsc" ;;
-            labels:4 | labels:5 | labels:6)
+            labels:3) values="number label seconds plus minus since to ntsc column csv" ;;
+            labels:4 | labels:5 | labels:6 | labels:7 | labels:8)
+                case ${COMP_WORDS[COMP_CWORD-2]} in
+                    column | csv) values="number label seconds plus minus since to" ;;
+                esac
                 case ${COMP_WORDS[COMP_CWORD-1]} in
                     to) values="24 25 30 30d" ;;
-                    ntsc) values="number label seconds plus minus since to" ;;
+                    ntsc) values="number label seconds plus minus since to column csv" ;;
                     24 | 30) values="ntsc" ;;
                 esac ;;
             luma-vitc:2) values="25 30" ;;

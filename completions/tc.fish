@@ -27,10 +27,11 @@ complete -c tc -n $of_commands -a labels -d 'what is asked of the labels of a te
 complete -c tc -n $of_commands -a help -d 'how each command is typed'
 complete -c tc -n $of_commands -a version -d 'which version of tc this is'
 complete -c tc -n 'contains -- (commandline -opc)[2] number label labels ltc-make chase ltc-chase; and test (count (commandline -opc)) -eq 2' -a '24 25 30 30d'
-complete -c tc -n 'contains -- (commandline -opc)[2] labels; and test (count (commandline -opc)) -eq 3' -a 'number label seconds plus minus since to ntsc'
+complete -c tc -n 'contains -- (commandline -opc)[2] labels; and test (count (commandline -opc)) -eq 3' -a 'number label seconds plus minus since to ntsc column csv'
 complete -c tc -n 'contains -- (commandline -opc)[2] labels; and test (count (commandline -opc)) -ge 4; and test (commandline -opc)[-1] = to' -a '24 25 30 30d'
-complete -c tc -n 'contains -- (commandline -opc)[2] labels; and test (count (commandline -opc)) -eq 4; and test (commandline -opc)[-1] = ntsc' -a 'number label seconds plus minus since to'
+complete -c tc -n 'contains -- (commandline -opc)[2] labels; and test (count (commandline -opc)) -eq 4; and test (commandline -opc)[-1] = ntsc' -a 'number label seconds plus minus since to column csv'
 complete -c tc -n 'contains -- (commandline -opc)[2] labels; and test (count (commandline -opc)) -ge 5; and contains -- (commandline -opc)[-1] 24 30' -a ntsc
+complete -c tc -n 'contains -- (commandline -opc)[2] labels; and contains -- (commandline -opc)[-2] column csv' -a 'number label seconds plus minus since to'
 complete -c tc -n 'contains -- (commandline -opc)[2] luma-vitc; and test (count (commandline -opc)) -eq 2' -a '25 30'
 complete -c tc -n 'contains -- (commandline -opc)[2] vitc-make; and test (count (commandline -opc)) -eq 2' -a '25 30 30d'
 complete -c tc -n 'contains -- (commandline -opc)[2] ltc-make; and test (count (commandline -opc)) -eq 3' -a 'forward backward'

@@ -333,7 +333,7 @@ pub static VALUES_OF_SIGNALS: [(&str, PageLine); 21] = [
 ];
 
 /// The same of those that make or take labels, and of `help`.
-pub static VALUES_OF_LABELS: [(&str, PageLine); 35] = [
+pub static VALUES_OF_LABELS: [(&str, PageLine); 38] = [
     ("ltc-make", values::COUNT),
     ("ltc-make", values::DIRECTION),
     ("ltc-make", values::LABEL_THIRD),
@@ -356,9 +356,12 @@ pub static VALUES_OF_LABELS: [(&str, PageLine); 35] = [
     ("label", values::NUMBER),
     ("labels", values::COUNT),
     ("labels", values::NTSC),
+    ("labels", values::COLUMN),
+    ("labels", values::COLUMNS),
     ("labels", values::WAY_ALONE),
     ("labels", values::WAY_ALONG),
     ("labels", values::N),
+    ("labels", values::N_LABEL),
     ("labels", values::WAY_SINCE),
     ("labels", values::LABEL_SINCE),
     ("labels", values::WAY_TO),
@@ -372,7 +375,7 @@ pub static VALUES_OF_LABELS: [(&str, PageLine); 35] = [
 ];
 
 /// Its examples, with its words in the middle, each after a space.
-pub static EXAMPLES: [(&str, PageLine); 33] = [
+pub static EXAMPLES: [(&str, PageLine); 34] = [
     (
         "ltc-read",
         ("Example: tc ltc-read", "", " < tape.ltci", 0, 0),
@@ -603,6 +606,16 @@ pub static EXAMPLES: [(&str, PageLine); 33] = [
             "Example: tc labels",
             " 30 ntsc to 24 ntsc",
             " < labels.txt",
+            0,
+            0,
+        ),
+    ),
+    (
+        "labels",
+        (
+            "Example: tc labels",
+            " 25 column 5-8 plus 00:00:10:00",
+            " < list.edl",
             0,
             0,
         ),

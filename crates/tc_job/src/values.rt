@@ -335,7 +335,23 @@ pub const NTSC: PageLine = (
     "ntsc",
     ": after 24 or 30: at 1000/1001 of that rate",
     2,
-    5,
+    7,
+);
+
+pub const COLUMN: PageLine = (
+    "  ",
+    "column|csv",
+    ": labels are in COLUMNS, between blanks or commas; all else stays",
+    2,
+    3,
+);
+
+pub const COLUMNS: PageLine = (
+    "  COLUMNS ",
+    "N or N-M",
+    ": from 1 to 4096: the Nth column of a line, or the Nth to the Mth",
+    3,
+    4,
 );
 
 pub const WAY_ALONE: PageLine = (
@@ -343,7 +359,7 @@ pub const WAY_ALONE: PageLine = (
     "number|label|seconds",
     ": what is written for each line",
     2,
-    3,
+    5,
 );
 
 pub const WAY_ALONG: PageLine = (
@@ -351,7 +367,7 @@ pub const WAY_ALONG: PageLine = (
     "plus|minus",
     ": the label that is N labels later or earlier",
     2,
-    3,
+    5,
 );
 
 pub const N: PageLine = (
@@ -359,7 +375,15 @@ pub const N: PageLine = (
     "0 to 4294967295",
     ": how many labels, after plus or minus",
     3,
-    4,
+    6,
+);
+
+pub const N_LABEL: PageLine = (
+    "  N ",
+    "HH:MM:SS:FF",
+    ": or as many as come before this label in the day",
+    3,
+    6,
 );
 
 pub const WAY_SINCE: PageLine = (
@@ -367,17 +391,17 @@ pub const WAY_SINCE: PageLine = (
     "since",
     ": how many labels it is from LABEL, the shortest way and forward",
     2,
-    3,
+    5,
 );
 
-pub const LABEL_SINCE: PageLine = ("  LABEL ", "HH:MM:SS:FF", ": that label, after since", 3, 4);
+pub const LABEL_SINCE: PageLine = ("  LABEL ", "HH:MM:SS:FF", ": that label, after since", 3, 6);
 
 pub const WAY_TO: PageLine = (
     "  WAY ",
     "to",
     ": what another count shows at that moment, to thousandths of a frame",
     2,
-    3,
+    5,
 );
 
 pub const COUNT_TO: PageLine = (
@@ -385,7 +409,7 @@ pub const COUNT_TO: PageLine = (
     "24|25|30|30d",
     ": that count, after to; ntsc may follow 24 or 30",
     3,
-    4,
+    6,
 );
 
 pub const COMMAND_OF_WORDS: PageLine = (

@@ -13,12 +13,14 @@ use Rattle.std.proofs.lemmas.List.Quantifiers.{position-Some}
 use Rattle.std.proofs.lemmas.Slice.Eq.{bytes_eq-Decides}
 use Rattle.tc_address.specs.declared.count.Count.{Count}
 use Rattle.tc_address.specs.declared.count.Count.TheVariants.{C24, C25, C30, Drop30}
+use Rattle.tc_address.specs.Numbering.{number_of}
 use Rattle.tc_address.specs.Spelling.{label_in}
 use Rattle.tc_job.specs.declared.usages.TheConstants.{USAGES}
 use Rattle.forms.specs.Choice.{choices, said_by, said_in}
 use Rattle.forms.specs.Form.{SlotRow}
 use Rattle.forms.specs.Number.{Word, between, is_number, number_spelled}
 use Rattle.forms.specs.Held.{count_at}
+use Rattle.forms.specs.Slot.{columns_read, frames_read}
 use Rattle.forms.specs.Slot.{bounded_by, is_live, label_read, numbered, path_fineness_in, path_rate_in, pulled_in, topic_in, value_in, value_of}
 use Rattle.forms.specs.declared.choices.TheConstants.{NTSC, STATUSES}
 use Rattle.forms.specs.declared.slot.Need.{Need}
@@ -31,7 +33,7 @@ use Rattle.forms.specs.declared.value.Value.{Value}
 use Rattle.forms.specs.declared.value.Value.TheVariants as values
 use Rattle.limits.specs.declared.recording.TheConstants.{MAX_TICK_RATE}
 use Rattle.tc_job.specs.declared.slicing.TheConstants.{MAX_FINENESS}
-use Rattle.tc_words.specs.Pages.{ValueRow, are_digits, between_spaces, is_among, is_label, is_named, is_of_labels, is_told, value_rows}
+use Rattle.tc_words.specs.Pages.{ValueRow, are_digits, between_spaces, is_among, is_label, is_named, is_of_columns, is_of_labels, is_told, value_rows}
 
 -- ---- the test
 
@@ -43,7 +45,12 @@ names_numbers least most (first ∷ to ∷ last ∷ []) =
 names_numbers least most _ = true
 
 abbrev names_range : ℕ → ℕ → List ℕ → Bool
-names_range least most named = not (is_of_labels named) && names_numbers least most (between_spaces named)
+names_range least most named =
+    not (is_of_labels named) && (not (is_of_columns named) && names_numbers least most (between_spaces named))
+
+-- the text names all columns
+abbrev is_all_columns : List ℕ → Bool
+is_all_columns named = not (is_of_labels named) && is_of_columns named
 
 -- a row of the command, at a place, whose text is so
 abbrev has_row : (List ℕ → Bool) → Word → ℕ → List ValueRow → Bool
@@ -67,6 +74,9 @@ names_slot command place (slots.NumberOfDay count) =
 names_slot command place (slots.Ntsc count) = names_choice command place NTSC
 names_slot command place (slots.PathRate system) = has_row (names_range 1 MAX_TICK_RATE) command place value_rows
 names_slot command place (slots.PathFineness system rate) = has_row (names_range 1 MAX_FINENESS) command place value_rows
+names_slot command place (slots.Frames count) =
+    has_row (names_range 0 4294967295) command place value_rows && has_row is_of_labels command place value_rows
+names_slot command place slots.Columns = has_row is_all_columns command place value_rows
 names_slot command place slots.Topic =
     names_choice command place STATUSES && list_all (λ usage. is_told command place usage.0.now) USAGES
 
@@ -163,13 +173,32 @@ among least most (first ∷ to ∷ last ∷ more ∷ rest) word n names spelled 
 
 number_named : (least most : ℕ) (named : List ℕ) (word : Word) (n : ℕ) → names_range least most named ≡ true
     → number_spelled word ≡ Some n → least ≤ n → n ≤ most → is_named named word ≡ true
-number_named least most named word n names spelled low high = go (is_of_labels named) refl
-    (and_parts (not (is_of_labels named)) _ names).0
+number_named least most named word n names spelled low high =
+    let all = and_parts (not (is_of_labels named)) _ names in
+    let others = and_parts (not (is_of_columns named)) _ all.1 in
+    go (is_of_labels named) (is_of_columns named) all.0 others.0
+    (among least most (between_spaces named) word n others.1 spelled low high)
   where
-    go : (labels : Bool) → is_of_labels named ≡ labels → not labels ≡ true → is_named named word ≡ true
-    go true is other = absurd cc
-    go false is other = rw is (among least most (between_spaces named) word n
-        (and_parts (not (is_of_labels named)) _ names).1 spelled low high)
+    go : (labels columns : Bool) → not labels ≡ true → not columns ≡ true
+        → is_among (between_spaces named) word ≡ true
+        → cond labels (is_label word) (cond columns (is_some (columns_read word)) (is_among (between_spaces named) word))
+        ≡ true
+    go true columns other more is = absurd cc
+    go false true other more is = absurd cc
+    go false false other more is = is
+
+columns_named : (named : List ℕ) (word : Word) → is_all_columns named ≡ true → is_some (columns_read word) ≡ true
+    → is_named named word ≡ true
+columns_named named word names is =
+    let all = and_parts (not (is_of_labels named)) _ names in
+    go (is_of_labels named) (is_of_columns named) all.0 all.1
+  where
+    go : (labels columns : Bool) → not labels ≡ true → columns ≡ true
+        → cond labels (is_label word) (cond columns (is_some (columns_read word)) (is_among (between_spaces named) word))
+        ≡ true
+    go true columns other all = absurd cc
+    go false true other all = is
+    go false false other all = absurd cc
 
 -- ---- the rows of the pages
 
@@ -273,6 +302,31 @@ range_told command place least most word n has is =
     let (spelled, low, high) = between_is least most word n is in
     range_tells command place least most word n has spelled low high
 
+columns_tell : (command : Word) (place : ℕ) (word : Word) (v : Value)
+    → has_row is_all_columns command place value_rows ≡ true → columns_read word ≡ Some v
+    → is_told command place word ≡ true
+columns_tell command place word v has is =
+    row_tells is_all_columns command place word value_rows
+    (λ named columns. columns_named named word columns (rw is refl)) has
+
+frames_tell : (command : Word) (place : ℕ) (count : Count) (word : Word) (v : Value)
+    → (has_row (names_range 0 4294967295) command place value_rows && has_row is_of_labels command place value_rows)
+    ≡ true → frames_read count word ≡ Some v → is_told command place word ≡ true
+unfolding frames_read
+frames_tell command place count word v names is = go (between 0 4294967295 word) refl is
+  where
+    go : (o : Option ℕ) → between 0 4294967295 word ≡ o → elim o [
+      | Some n ↦ Some (values.Number n)
+      | None ↦ option_map (λ label. values.Number (number_of label)) (label_in count word)
+    ] ≡ Some v → is_told command place word ≡ true
+    go (Some n) at is = range_told command place 0 4294967295 word n
+        (and_parts (has_row (names_range 0 4294967295) command place value_rows) _ names).0 at
+    go None at is =
+        let (label, spells) = mapped _ (label_in count word) v is in
+        label_tells command place word
+        (and_parts (has_row (names_range 0 4294967295) command place value_rows) _ names).1
+        (label_told count word (rw spells refl))
+
 value_tells : (command : Word) (place : ℕ) (slot : Slot) (before : List Value) (word : Word) (v : Value)
     → names_slot command place slot ≡ true → value_of slot before word ≡ Some v → is_told command place word ≡ true
 unfolding path_rate_in path_fineness_in numbered
@@ -301,6 +355,9 @@ value_tells command place (slots.PathRate system) before word v names is =
 value_tells command place (slots.PathFineness system rate) before word v names is =
     let (n, at, rest) = first_some _ (between 1 MAX_FINENESS word) v is in
     range_told command place 1 MAX_FINENESS word n names at
+value_tells command place (slots.Frames count) before word v names is =
+    frames_tell command place (count_at before count) word v names is
+value_tells command place slots.Columns before word v names is = columns_tell command place word v names is
 value_tells command place slots.Topic before word v names is = topic_tells command place word v names is
 
 live_tells : (command : Word) (place : ℕ) (need : Need) (last : Bool) (word : Word)

@@ -15,7 +15,7 @@ use Rattle.forms.specs.Named.{task_of}
 -- a value for each word in capitals
 abbrev pub samples : List (Word × Word)
 samples =
-    (codes "BOUND", codes "2") ∷ (codes "CELL", codes "400") ∷ (codes "COUNT", codes "30")
+    (codes "BOUND", codes "2") ∷ (codes "CELL", codes "400") ∷ (codes "COLUMNS", codes "5-8") ∷ (codes "COUNT", codes "30")
     ∷ (codes "DIRECTION", codes "backward") ∷ (codes "FINENESS", codes "8") ∷ (codes "FIRST", codes "4")
     ∷ (codes "FRAMES", codes "100") ∷ (codes "HEIGHT", codes "288")
     ∷ (codes "LABEL", codes "19:47:58:23") ∷ (codes "LENGTH", codes "1728") ∷ (codes "LEVEL", codes "8192")

@@ -1,5 +1,5 @@
 -- What the pages of help name, and what is read: the values of a line, and the examples.
-use Rattle.std.specs.Prelude.{◌≡◌, ℕ, ◌+◌, ◌-◌, ◌==◌, nat_le, nat_lt, Bool, true, false, ◌&&◌, List, [], ◌∷◌, ◌++◌}
+use Rattle.std.specs.Prelude.{◌≡◌, ℕ, ◌+◌, ◌-◌, ◌==◌, nat_le, nat_lt, Bool, true, false, ◌&&◌, ◌||◌, List, [], ◌∷◌, ◌++◌}
 use Rattle.std.specs.Prelude.{codes, length, drop, take, map, if◌then◌else◌}
 use Rattle.std.specs.Prelude.{Result, Ok, Err}
 use Rattle.std.specs.Char.{is_ascii_digit}
@@ -18,6 +18,7 @@ use Rattle.tc_job.specs.declared.pages.TheConstants.{VALUES_OF_SIGNALS}
 use Rattle.tc_words.specs.Forms.{between_bars, in_front, rows}
 use Rattle.forms.specs.Number.{Word, between, number_spelled}
 use Rattle.forms.specs.Named.{task_of}
+use Rattle.forms.specs.Slot.{columns_read}
 
 -- ---- the values that a text names
 
@@ -29,6 +30,10 @@ between_spaces (byte ∷ more) = if byte == 0x20 then [] ∷ between_spaces more
 -- `HH:MM:SS:FF` stands for the labels
 abbrev pub is_of_labels : List ℕ → Bool
 is_of_labels values = bytes_eq values (codes "HH:MM:SS:FF")
+
+-- `N or N-M` stands for columns
+abbrev pub is_of_columns : List ℕ → Bool
+is_of_columns values = bytes_eq values (codes "N or N-M")
 
 -- a label of some count
 abbrev pub is_label : Word → Bool
@@ -47,7 +52,10 @@ is_among _ word = is_some (number_spelled word)
 
 -- the text names the word
 abbrev pub is_named : List ℕ → Word → Bool
-is_named values word = if is_of_labels values then is_label word else is_among (between_spaces values) word
+is_named values word =
+    if is_of_labels values then is_label word
+    else if is_of_columns values then is_some (columns_read word)
+    else is_among (between_spaces values) word
 
 -- the values that it spells: each of the words, or both ends of a range
 abbrev pub spelled_among : List Word → List Word
@@ -56,7 +64,8 @@ spelled_among (first ∷ to ∷ last ∷ []) = if are_digits last then first ∷
 spelled_among _ = []
 
 abbrev pub spelled_in : List ℕ → List Word
-spelled_in values = if is_of_labels values then [] else spelled_among (between_spaces values)
+spelled_in values =
+    if is_of_labels values || is_of_columns values then [] else spelled_among (between_spaces values)
 
 -- ---- the tables
 
