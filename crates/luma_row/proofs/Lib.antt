@@ -1,6 +1,6 @@
 pub mod AllClear
 pub mod BitByBit
-pub mod BitNumbers
+pub mod BitExamples
 pub mod Cellwise
 pub mod FallByFall
 pub mod Filled
@@ -11,7 +11,7 @@ pub mod OneCode
 pub mod OneMore
 pub mod OnePlace
 pub mod PixelByPixel
-pub mod PlaceNumbers
+pub mod PlaceExamples
 pub mod PlacesTried
 pub mod SharpOrNot
 pub mod Within
