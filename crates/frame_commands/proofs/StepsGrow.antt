@@ -213,17 +213,3 @@ one_more laws most c frames frame =
       )
       | inr full ↦ ([], nothing_added most c frames (frame ∷ []) full)
     ]
-
--- whatever frames come, the lines that are there come first
-pub lines_grow : TraceLaws → (most : ℕ) (c : Chasing) (frames rest : List Frame)
-    → (more : List ℕ) × (lines_within most c (frames ++ rest) ≡ lines_within most c frames ++ more)
-lines_grow laws most c frames [] =
-    ([], ap (lines_within most c) (append-nil frames) ∙ sym (append-nil (lines_within most c frames)))
-lines_grow laws most c frames (frame ∷ rest) =
-    let one = one_more laws most c frames frame in
-    let later = lines_grow laws most c (frames ++ frame ∷ []) rest in (
-      one.0 ++ later.0,
-      ap (lines_within most c) (sym (append_assoc frames (frame ∷ []) rest)) ∙ later.1
-          ∙ ap (λ (l : List ℕ). l ++ later.0) one.1
-          ∙ append_assoc (lines_within most c frames) one.0 later.0,
-    )

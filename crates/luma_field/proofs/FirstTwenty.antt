@@ -1,7 +1,7 @@
 -- What is cut at twenty at each step is what is cut once, at the end.
 use Rattle.std.proofs.Common.{◌≡◌, ℕ, ◌+◌, ◌-◌, ◌<◌, ◌≤◌, ◌⊎◌, inl, inr, List, [], ◌∷◌, ◌++◌, length, get_or, take}
 use Rattle.std.proofs.Common.{drop, refl, ap, sym, ◌∙◌, arith}
-use Rattle.std.proofs.Common.{append_assoc, length-append, length-take, map}
+use Rattle.std.proofs.Common.{append_assoc, length-take, map}
 use Rattle.std.specs.List.{flat_map}
 use Rattle.std.proofs.lemmas.Grind.{flat_map-append}
 use Rattle.std.proofs.lemmas.List.{append-nil, drop_all, drop_more, take_rest, flat_map_more, length-take-le}
@@ -21,11 +21,6 @@ none_comes xs h = sym (ap (take 20) (append-nil xs) ∙ take_all 20 xs h)
 pub found_stays : {X : Type 0} (inside now : List X) → inside ≡ now → length inside ≤ 20 → inside ≡ take 20 (now ++ [])
 found_stays inside now same h = none_comes inside h ∙ ap (λ xs. take 20 (xs ++ [])) same
 
-pub one_comes : (xs : List ℕ) (x : ℕ) → length xs < 20 → xs ++ x ∷ [] ≡ take 20 (xs ++ x ∷ [])
-one_comes xs x h =
-    let l : length (xs ++ x ∷ []) ≡ length xs + 1 = length-append xs (x ∷ []) in
-    sym (take_all 20 (xs ++ x ∷ []) (omega arith))
-
 pub few : {X : Type 0} (xs ys : List X) → xs ≡ take 20 ys → length xs ≤ 20
 few xs ys is = let l = length-take 20 ys in let e = ap length is in omega (arith, l, e)
 
@@ -39,13 +34,6 @@ cut_twice n xs ys =
           take-append-le n (take n xs) ys (omega (arith, l))
           ∙ (take-take n n xs (omega arith) ∙ sym (take-append-le n xs ys long))
     ]
-
--- two steps are one
-pub two_steps : (start xs ys lines new : List ℕ) → lines ≡ take 20 (start ++ xs) → new ≡ take 20 (lines ++ ys)
-    → new ≡ take 20 (start ++ (xs ++ ys))
-two_steps start xs ys lines new first then =
-    then ∙ (ap (λ ls. take 20 (ls ++ ys)) first
-    ∙ (cut_twice 20 (start ++ xs) ys ∙ ap (take 20) (append_assoc start xs ys)))
 
 pub none_yet : {X : Type 0} (f : X → List ℕ) (rows : List X) (start : List ℕ) → length start ≤ 20
     → start ≡ take 20 (start ++ flat_map f (take 0 rows))

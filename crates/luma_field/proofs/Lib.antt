@@ -4,5 +4,6 @@ pub mod FirstTwenty
 pub mod PartsFirst
 pub mod PartsJoined
 pub mod RowByRow
+pub mod RowExamples
 pub mod RowsWhole
 pub mod TwoRows

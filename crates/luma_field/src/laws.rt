@@ -1,12 +1,13 @@
 //! What follows from the definitions alone.
-ghost use Rattle.std.specs.Prelude.{◌≡◌, ℕ, ◌*◌, ◌<◌, ◌≤◌, ◌++◌, List, length};
-ghost use Rattle.std.specs.List.{concat, All};
+ghost use Rattle.std.specs.Prelude.{◌≡◌, ℕ, ◌*◌, ◌<◌, ◌≤◌, ◌++◌, List, length, take, Option};
+ghost use Rattle.std.specs.List.{concat, All, AllZip};
 ghost use Rattle.luma_row.specs.declared.row.CodeRow.{CodeRow};
+ghost use Rattle.luma_field.specs.declared.found.FoundRow.{FoundRow};
 ghost use Rattle.luma_field.specs.declared.raster.TheConstants.{MAX_HEIGHT, MAX_ROWS};
 ghost use Rattle.luma_field.specs.Field.{IsLine};
 ghost use Rattle.luma_field.specs.Parts.{whole_parts};
 ghost use Rattle.luma_field.specs.Raster.{RasterSize};
-ghost use Rattle.luma_field.specs.Rows.{SaysLines};
+ghost use Rattle.luma_field.specs.Rows.{found_from, looked_at, AreFoundIn, Says, SaysLines};
 
 use luma_row::laws::{a_row_is_sharp_or_not, a_row_says_one_thing};
 
@@ -27,6 +28,13 @@ pub fn a_field_says_its_lines()
     a_row_is_sharp_or_not();
     a_row_says_one_thing();
 }
+
+/// The first 20 rows with code are found, and no further one: of 20 or fewer all, and of more the first 20.
+pub fn twenty_rows_are_found()
+    ensures { (raster : RasterSize) (rows : List (List ℕ)) (found : List FoundRow) → AreFoundIn raster rows found
+        → (all : List FoundRow) × (says : List (Option CodeRow)) × AllZip Says (looked_at raster rows) says
+        × (all ≡ found_from raster.first says) × (found ≡ take 20 all) }
+{}
 
 /// Parts of one length that were joined are taken apart again, where less than a part lies behind them; and those of
 /// a front come first, whatever follows it.

@@ -1,5 +1,6 @@
 pub mod AllClear
 pub mod BitByBit
+pub mod BitExamples
 pub mod Cellwise
 pub mod FallByFall
 pub mod Filled
@@ -10,6 +11,7 @@ pub mod OneCode
 pub mod OneMore
 pub mod OnePlace
 pub mod PixelByPixel
+pub mod PlaceExamples
 pub mod PlacesTried
 pub mod SharpOrNot
 pub mod Within

@@ -5,6 +5,7 @@ ghost use Rattle.luma_row.specs.declared.light.TheConstants.{EVEN};
 ghost use Rattle.luma_row.specs.declared.place.Place.{Place};
 ghost use Rattle.luma_row.specs.declared.row.CodeRow.{CodeRow};
 ghost use Rattle.luma_row.specs.declared.width.TheConstants.{MAX_WIDTH, MIN_WIDTH};
+ghost use Rattle.luma_row.specs.Climb.{halved, Climbs, IsPlace, Refines};
 ghost use Rattle.luma_row.specs.Earliest.{back, IsEarliestAt, IsNowhereEarlier};
 ghost use Rattle.luma_row.specs.Edges.{is_falling, IsNextEdge, IsSharp};
 ghost use Rattle.luma_row.specs.KeptLevels.{AreLevels};
@@ -42,6 +43,14 @@ pub fn a_word_lies_at_the_earliest_place()
     ensures earliest { (row : List ℕ) (place : Place) (sought : IsSought row place)
         → ((cells : ℕ) × IsEarliestAt row sought.deepest place cells) ⊎ IsNowhereEarlier row sought.deepest place }
     ensures eight { (place : Place) → back place 8 ≡ place }
+{}
+
+/// The deepest falls are climbed to from the coarse place: in six moves by two grains each, then in six by half of that,
+/// and so on: eight times six in all.
+pub fn a_place_is_climbed_to_in_eight_steps()
+    ensures steps { (row : List ℕ) (coarse place : Place) → IsPlace row coarse place
+        → (near : Place) × Refines row (2 * grain (length row)) 7 coarse near
+        × Climbs row (halved (2 * grain (length row)) 7) 6 near place }
 {}
 
 /// What holds of the levels of a row holds of those of two rows.

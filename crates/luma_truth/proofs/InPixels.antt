@@ -4,7 +4,7 @@ use Rattle.std.proofs.Common.{◌≡◌, ℕ, zero, suc, ◌+◌, ◌-◌, ◌*�
 use Rattle.std.proofs.Common.{length, get_or, refl, ap, subst, arith}
 use Rattle.std.proofs.Math.Nat.{mul-le-mul_left}
 use Rattle.luma_row.specs.Choice.{sum_of}
-use Rattle.luma_truth.specs.Drawing.{edge, has_bit, held, lit, pixel_light, share, Drawing, IsDrawn}
+use Rattle.luma_truth.specs.Drawing.{edge, has_bit, held, pixel_light, share, Drawing, IsDrawn}
 
 -- a part, if it is lit
 abbrev pub part : (ℕ → ℕ) → (ℕ → Bool) → ℕ → ℕ
@@ -88,12 +88,6 @@ held_edge drawing pixel bit = held pixel (edge drawing bit)
 
 pub held_up : (drawing : Drawing) (pixel bit : ℕ) → held_edge drawing pixel bit ≤ held_edge drawing pixel (bit + 1)
 held_up drawing pixel bit = omega arith
-
--- the light that a pixel covers is that of the parts that are lit
-lit_is : (drawing : Drawing) (pixel : ℕ)
-    → sum_of 90 (lit drawing pixel) ≡ sum_of 90 (part (held_edge drawing pixel) (has_bit drawing.word))
-unfolding share
-lit_is drawing pixel = refl
 
 -- a part of a pixel is as light as this, beside what is dark
 mixed_light : (dark swing part all : ℕ) → part ≤ all → 10240 * dark + swing * part ≤ 10240 * dark + swing * all

@@ -48,12 +48,6 @@ pub take_more : (n : ℕ) (cell : Measured) (cells : List Measured)
     → cell ∷ take n (take (suc n) cells) ≡ take (suc n) (cell ∷ cells)
 take_more n cell cells = ap (λ l. cell ∷ l) (take_fewer n cells)
 
-take_twice : (n : ℕ) (cells : List Measured) → take n (take n cells) ≡ take n cells
-take_twice zero [] = refl
-take_twice zero (cell ∷ cells) = refl
-take_twice (suc n) [] = refl
-take_twice (suc n) (cell ∷ cells) = ap (λ l. cell ∷ l) (take_twice n cells)
-
 -- ---- the next cell
 
 -- the next cell is judged

@@ -34,11 +34,6 @@ past_within most front rest e =
     let more = past_by most (length front) (nat_lt most (length front)) refl e in
     is_past most (front ++ rest) (omega (arith, length-append front rest))
 
--- the part of bytes within the limit are the lines of all of their events
-pub lines_of_all : (most : ℕ) (bytes : List ℕ) → length bytes ≤ most
-    → lines_within most bytes ≡ event_lines (events_in bytes)
-lines_of_all most bytes within = ap (λ (l : List ℕ). event_lines (events_in l)) (take_all most bytes within)
-
 -- and if the bytes reach it, whatever follows
 pub lines_at_limit : (most : ℕ) (front more : List ℕ) → length front ≡ most
     → lines_within most (front ++ more) ≡ event_lines (events_in front)

@@ -1,6 +1,6 @@
 -- Bytes that are put one after another were pushed or are gathered, all of them in order; and a push that fails
 -- leaves a front of them.
-use Rattle.std.proofs.Common.{◌≡◌, ℕ, ◌+◌, ◌-◌, ◌≤◌, Bool, true, false, List, [], ◌∷◌, ◌++◌, replicate, refl, sym}
+use Rattle.std.proofs.Common.{◌≡◌, ℕ, ◌+◌, ◌-◌, Bool, true, false, List, [], ◌∷◌, ◌++◌, replicate, refl, sym}
 use Rattle.std.proofs.Common.{◌∙◌, ap, arith}
 use Rattle.std.proofs.lemmas.Grind.{flat_map-append}
 use Rattle.std.proofs.lemmas.List.{replicate-append-replicate}
@@ -17,15 +17,6 @@ use Rattle.interval_file.specs.Piece.{spelling}
 use Rattle.tc_job.specs.Pace.{pace_of}
 
 -- ---- intervals of one length
-
--- the first `count` pieces, and those that follow
-pub pieces_from : (length count whole : ℕ) → count ≤ whole → intervals_bytes One (replicate whole length)
-    ≡ intervals_bytes One (replicate count length) ++ intervals_bytes One (replicate (whole - count) length)
-pieces_from length count whole within =
-    let e : count + (whole - count) ≡ whole = omega (arith, within) in
-    ap (λ n. intervals_bytes One (replicate n length)) (sym e)
-    ∙ ap (intervals_bytes One) (sym (replicate-append-replicate count (whole - count) length))
-    ∙ flat_map-append (spelling One) (replicate count length) (replicate (whole - count) length)
 
 -- one more
 pub one_piece : (length count : ℕ) → intervals_bytes One (replicate (count + 1) length) ≡ intervals_bytes One

@@ -136,17 +136,6 @@ length-bytes s bytes holds =
     ap length holds.are ∙ length-append holds.whole (option_to_list s.half)
     ∙ ap (λ (n : ℕ). n + length (option_to_list s.half)) holds.count
 
--- half a sample more than whole ones
-pub odd_end : (s : RawSamples) (bytes : List ℕ) (low : ℕ) → HoldsRaw s bytes → s.half ≡ Some low
-    → odd_fault bytes ≡ Some (HalfSample (2 * s.samples + 1))
-odd_end s bytes low holds is =
-    let count = s.samples in
-    let long : length bytes ≡ 2 * count + 1 =
-    length-bytes s bytes holds ∙ ap (λ (h : Option ℕ). 2 * count + length (option_to_list h)) is in
-    let odd : (2 * count + 1) % 2 ≡ 1 = omega arith in
-    ap (λ (n : ℕ). cond (n % 2 == 1) (Some (HalfSample n)) None) long
-    ∙ ap (λ (n : ℕ). cond (n == 1) (Some (HalfSample (2 * count + 1))) None) odd
-
 pub even_end : (s : RawSamples) (bytes : List ℕ) → HoldsRaw s bytes → s.half ≡ None
     → (odd_fault bytes ≡ None) × (samples_of bytes ≡ take MAX_SAMPLES (samples_of bytes))
 even_end s bytes holds is =

@@ -15,17 +15,6 @@ pub is_done : (done : Bool) → not done ≡ false → done ≡ true
 is_done true e = refl
 is_done false e = absurd (false≢true (sym e))
 
--- nothing was told yet
-pub wheel_still : (a : WheelState) → WheelGoes a a [] false []
-wheel_still a = (
-  [],
-  refl,
-  λ words given h. (
-    rw (append-nil words) rw (append-nil given) h,
-    λ done. absurd (false≢true done),
-  ),
-)
-
 -- a frame more was due
 pub frame_on : (a b c : WheelState) (frame : Frame) (result : Option Frame) (written more : List TcFrame)
     → WheelGoes a b [] false written

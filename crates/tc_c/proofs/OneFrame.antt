@@ -1,5 +1,5 @@
 -- Numbers mean one frame at most, of the kind that they say, and one word; and those of a frame mean it.
-use Rattle.std.proofs.Common.{◌≡◌, ℕ, zero, suc, ◌≤◌, Bool, true, false, Option, Some, refl, sym, ap, ◌∙◌, arith}
+use Rattle.std.proofs.Common.{◌≡◌, ℕ, zero, suc, Bool, true, false, Option, Some, refl, sym, ap, ◌∙◌, arith}
 use Rattle.flywheel.specs.declared.frame.Frame.{Frame}
 use Rattle.flywheel.specs.declared.heard.HeardWord.{HeardWord}
 use Rattle.flywheel.specs.declared.frame.Frame.TheVariants.{Heard, Invented, Gone}
@@ -40,18 +40,6 @@ only_gone n (Heard a d joined tick) result kind says means =
 only_gone n (Invented a d step tick) result kind says means =
     let other = means.0.kind_is in absurd (omega (arith, kind, other))
 only_gone n (Gone tick) result kind says means = says tick means
-
--- numbers that mean a frame end with 0
-pub zero_behind : (n : TcFrame) (f : Frame) → MeansFrame n f → n.zero ≡ 0
-zero_behind n (Heard a d joined tick) means = means.0.zero
-zero_behind n (Invented a d step tick) means = means.0.zero
-zero_behind n (Gone tick) means = means.0.zero
-
--- and say one of three kinds
-pub kind_within : (n : TcFrame) (f : Frame) → MeansFrame n f → (1 ≤ n.kind) × (n.kind ≤ 3)
-kind_within n (Heard a d joined tick) means = let is = means.0.kind_is in (omega (arith, is), omega (arith, is))
-kind_within n (Invented a d step tick) means = let is = means.0.kind_is in (omega (arith, is), omega (arith, is))
-kind_within n (Gone tick) means = let is = means.0.kind_is in (omega (arith, is), omega (arith, is))
 
 abbrev direction_at : ℕ → Direction
 direction_at zero = Forward

@@ -61,14 +61,14 @@ pub enum Job {
     LtcLoad { run: LoadRun },
     /// `ltc-convert VERSION`: reads an interval file, and writes it in this version.
     LtcConvert { version: FileVersion },
-    /// `pcm-ltc SYSTEM RATE THRESHOLD [FINENESS [follow|deep [SMOOTH]]]`: reads samples of sound, and writes
-    /// an interval file of the distances of their crossings.
+    /// `pcm-ltc SYSTEM RATE THRESHOLD [FINENESS [follow|deep [SMOOTH]]] [live]`: reads samples of sound, and
+    /// writes an interval file of the distances of their crossings.
     PcmLtc { slicing: Slicing },
     /// `pcm-ltc SYSTEM RATE THRESHOLD FINENESS path`: the same of the cells of the best path through the
     /// sound.
     PcmPath { path: PathSlicing },
-    /// `wav-ltc SYSTEM TRACK THRESHOLD [SMOOTH [deep]]`: reads a sound file, and writes an interval file of
-    /// the distances of the crossings of a track.
+    /// `wav-ltc SYSTEM TRACK THRESHOLD [SMOOTH [deep]] [live]`: reads a sound file, and writes an interval
+    /// file of the distances of the crossings of a track.
     WavLtc { slicing: WaveSlicing },
     /// `wav-ltc SYSTEM TRACK THRESHOLD path`: the same of the cells of the best path through the track.
     WavPath { path: TrackPath },

@@ -100,8 +100,9 @@ pub static SAID: [(&str, PageLine); 24] = [
         (
             "Writes an interval file of the time code on a track of a sound file, with 16\n\
             ticks a sample.\n\
-            Standard input is a sound file: WAV, BWF, RF64 or BW64. An interval file goes\n\
-            to ltc-read.",
+            Standard input is a sound file of whole numbers: WAV, BWF, RF64 or BW64. Floats\n\
+            and compressed sound go through sox or ffmpeg first. An interval file goes to\n\
+            ltc-read.",
             "",
             "",
         ),
@@ -416,7 +417,8 @@ pub static EXIT_NUMBERS: [(&str, PageLine); 8] = [
             "..  The input breaks its format at the place that is named.\n\
             \x20  magic at byte 0: another kind of file; a sound file goes to wav-ltc, and an\n\
             \x20  interval file to ltc-read. truncated: the end is cut off. What came before\n\
-            \x20  that byte was read and written; of a script nothing is written.",
+            \x20  that byte was read and written, but for a word that still waits with firm\n\
+            \x20  or consecutive; of a script nothing is written.",
         ),
     ),
     (
