@@ -1,0 +1,3 @@
+pub mod ColumnsAreCommand
+pub mod FieldByField
+pub mod LineGoesOn

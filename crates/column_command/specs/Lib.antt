@@ -1,0 +1,3 @@
+pub mod AnsweredText
+pub mod KeptLine
+pub mod LineLemmas
