@@ -1,17 +1,17 @@
 -- What is written of a line field by field: the part up to a place, and what is still answered behind it.
-use Rattle.std.proofs.Common.{◌≡◌, ℕ, ◌+◌, ◌-◌, ◌<◌, ◌≤◌, Bool, true, false, cond, nat_le, ◌&&◌, min, List, [], ◌∷◌, ◌++◌}
-use Rattle.std.proofs.Common.{length, take, drop, refl, sym, ap, ap₂, ◌∙◌, arith, append_assoc, append-nil, take-add, Some, None}
-use Rattle.std.proofs.Common.{length-drop, length-take}
+use Rattle.std.proofs.Common.{◌≡◌, ℕ, ◌+◌, ◌-◌, ◌<◌, ◌≤◌, true, false, nat_le, min, List, [], ◌∷◌, ◌++◌}
+use Rattle.std.proofs.Common.{length, take, drop, refl, sym, ap, ap₂, ◌∙◌, arith, append_assoc, take-add, Some, None}
+use Rattle.std.proofs.Common.{length-drop}
 use Rattle.std.specs.declared.option.Option.{Option}
-use Rattle.std.specs.List.{flat_map, position_or_len}
+use Rattle.std.specs.List.{position_or_len}
 use Rattle.std.proofs.Math.Bool.{and-false}
-use Rattle.std.proofs.lemmas.Bool.{lt-leb, le-leb}
+use Rattle.std.proofs.lemmas.Bool.{lt-leb}
 use Rattle.std.proofs.lemmas.Grind.{common_steps}
 use Rattle.std.proofs.lemmas.List.{drop-take, drop_all, length-take-le, take-append-drop}
 use Rattle.label_columns.proofs.Cut.{joined_parted, parted_first}
 use Rattle.label_columns.specs.Columns.{answer_to, answered_field, answered_from, before, column_length, column_of}
 use Rattle.label_columns.specs.Columns.{answered_line, columns_in, ends_field, fields_length, is_meant, with_answer}
-use Rattle.label_columns.specs.Parts.{Part, joined, part_of, parted}
+use Rattle.label_columns.specs.Parts.{Part, joined, parted}
 use Rattle.tc_job.specs.declared.column_run.ColumnRun.{ColumnRun}
 
 -- ---- a stretch of a line

@@ -1,11 +1,11 @@
 -- What the engine of `labels` with columns stands for when a line goes on, when a newline ends it, and at the end.
-use Rattle.std.proofs.Common.{◌≡◌, ℕ, ◌+◌, ◌<◌, ◌≤◌, Bool, true, false, cond, nat_le, List, [], ◌∷◌, ◌++◌, length, take}
+use Rattle.std.proofs.Common.{◌≡◌, ℕ, ◌+◌, ◌<◌, ◌≤◌, Bool, true, false, cond, List, [], ◌∷◌, ◌++◌, length}
 use Rattle.std.proofs.Common.{refl, sym, ap, ap₂, ◌∙◌, arith, append_assoc, append-nil, length-append}
-use Rattle.std.proofs.lemmas.Bool.{le-leb, le-ltb, lt-leb, lt-ltb}
+use Rattle.std.proofs.lemmas.Bool.{le-leb, lt-leb, lt-ltb}
 use Rattle.std.proofs.lemmas.List.{take_all, take-append-le}
 use Rattle.column_command.specs.AnsweredText.{along_columns, answered, answered_text, text_so_far}
 use Rattle.column_command.specs.KeptLine.{Keeps, Stands, part_of_all, passed, stands_well}
-use Rattle.column_command.specs.LineLemmas.{IsEnded, a_line_longer, last_answered, none_ended, one_ended, text_behind, text_more}
+use Rattle.column_command.specs.LineLemmas.{a_line_longer, last_answered, none_ended, one_ended, text_behind, text_more}
 use Rattle.column_command.specs.declared.columns.ColumnAnswers.{ColumnAnswers}
 use Rattle.column_command.specs.declared.columns.TheConstants.{MAX_TEXT}
 use Rattle.label_columns.specs.Columns.{answered_line}
@@ -14,7 +14,7 @@ use Rattle.label_columns.specs.Parts.{part_of, parted}
 use Rattle.label_command.specs.TextLines.{IsLine}
 use Rattle.tc_command.specs.declared.halt.Halt.TheVariants as halts
 use Rattle.tc_command.specs.Halt.{IsHalt}
-use Rattle.tc_command.specs.Meaning.{IsInput, Meaning, Shows}
+use Rattle.tc_command.specs.Meaning.{IsInput}
 use Rattle.tc_io.specs.Verdict.{good, past_limit}
 use Rattle.tc_job.specs.declared.column_run.ColumnRun.{ColumnRun}
 use Rattle.std.proofs.Common.{inl}

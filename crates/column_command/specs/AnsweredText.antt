@@ -1,9 +1,9 @@
 -- `labels` with columns: what is written of a text, line by line. This project's own.
-use Rattle.std.specs.Prelude.{◌≡◌, ℕ, Bool, false, true, ◌&&◌, ◌==◌, nat_le, nat_lt, cond, if◌then◌else◌, List, []}
+use Rattle.std.specs.Prelude.{◌≡◌, ℕ, true, ◌&&◌, ◌==◌, nat_le, nat_lt, cond, if◌then◌else◌, List, []}
 use Rattle.std.specs.Prelude.{◌++◌, length, take, None}
 use Rattle.std.specs.List.{flat_map}
 use Rattle.label_columns.specs.Columns.{answered_or_long, is_newline}
-use Rattle.label_columns.specs.Parts.{Part, parted}
+use Rattle.label_columns.specs.Parts.{Part, part_of, parted}
 use Rattle.label_columns.specs.declared.columns.TheConstants.{MAX_COLUMN_LINE}
 use Rattle.column_command.specs.declared.columns.TheConstants.{MAX_TEXT}
 use Rattle.tc_command.specs.declared.input_fault.InputFault.{InputFault}
@@ -16,7 +16,11 @@ use Rattle.tc_job.specs.declared.column_run.ColumnRun.{ColumnRun}
 abbrev pub lines_of : List ℕ → List Part
 lines_of text = parted is_newline text
 
--- a line with its answers, and its newline
+-- a line with its answers
+abbrev pub answered_part : ColumnRun → Part → Part
+answered_part run line = part_of (answered_or_long run.labels.base run.labels.way run.columns line.body) line.end
+
+-- and its newline
 abbrev pub answered : ColumnRun → Part → List ℕ
 answered run line = answered_or_long run.labels.base run.labels.way run.columns line.body ++ line.end
 

@@ -1,9 +1,9 @@
 -- What the engine of `labels` with columns keeps. No promise speaks of it.
-use Rattle.std.proofs.Common.{◌≡◌, ℕ, ◌+◌, ◌<◌, ◌≤◌, nat_le, Bool, true, false, cond, List, [], ◌∷◌, ◌++◌, length, ap, sym, ◌∙◌, refl}
-use Rattle.std.proofs.Common.{arith, take}
+use Rattle.std.proofs.Common.{◌≡◌, ℕ, ◌+◌, ◌<◌, ◌≤◌, nat_le, Bool, true, false, cond, List, [], ◌++◌, length, ap, sym, ◌∙◌, refl}
+use Rattle.std.proofs.Common.{arith}
 use Rattle.std.proofs.lemmas.Bool.{le-leb, le-ltb, lt-leb}
 use Rattle.std.proofs.lemmas.List.{take_all}
-use Rattle.column_command.specs.AnsweredText.{along_columns, answered_text, lines_of, text_so_far}
+use Rattle.column_command.specs.AnsweredText.{along_columns, answered_text, text_so_far}
 use Rattle.column_command.specs.declared.columns.ColumnAnswers.{ColumnAnswers}
 use Rattle.column_command.specs.declared.columns.TheConstants.{MAX_TEXT}
 use Rattle.column_command.specs.LineLemmas.{IsEnded, so_far_of}

@@ -1,8 +1,7 @@
 -- Lines of a text that newlines ended, and the one that goes on: what is written of each. No promise speaks of it.
-use Rattle.std.proofs.Common.{◌≡◌, ℕ, ◌+◌, ◌<◌, ◌≤◌, Bool, true, false, cond, nat_le, ◌&&◌, ◌==◌, List, [], ◌∷◌, ◌++◌}
+use Rattle.std.proofs.Common.{◌≡◌, ℕ, ◌<◌, Bool, true, false, cond, nat_le, ◌==◌, List, [], ◌∷◌, ◌++◌}
 use Rattle.std.proofs.Common.{length, refl, sym, ap, ap₂, ◌∙◌, inl, inr, arith, append_assoc, append-nil}
 use Rattle.std.specs.List.{AllByRecursion, flat_map}
-use Rattle.std.specs.Prelude.{◌≢◌}
 use Rattle.std.proofs.Math.Bool.{and-false}
 use Rattle.std.proofs.lemmas.Bool.{cases_eq, lt-leb, ne_eqb, leb-false}
 use Rattle.std.proofs.lemmas.Grind.{flat_map-append}
@@ -27,14 +26,14 @@ unfolding parted
 none_ended = record { on = λ more. refl; each = tt }
 
 -- a line with its newline
-line_first : (line more : List ℕ) → IsLine line
+pub line_first : (line more : List ℕ) → IsLine line
     → lines_of (line ++ 10 ∷ more) ≡ part_of line (10 ∷ []) ∷ lines_of more
 unfolding parted
 line_first [] more is = refl
 line_first (byte ∷ line) more is = rw (ne_eqb byte 10 is.0, line_first line more is.1) refl
 
 -- a line that goes on
-line_alone : (byte : ℕ) (line : List ℕ) → IsLine (byte ∷ line)
+pub line_alone : (byte : ℕ) (line : List ℕ) → IsLine (byte ∷ line)
     → lines_of (byte ∷ line) ≡ part_of (byte ∷ line) [] ∷ []
 unfolding parted
 line_alone byte [] is = rw (ne_eqb byte 10 is.0) refl

@@ -1,8 +1,8 @@
 -- A word that a slot takes is named by the page, if the page names what the slot takes: this is a test that is
 -- computed.
-use Rattle.std.proofs.Common.{◌≡◌, ◌≤◌, ℕ, Bool, true, false, not, ◌&&◌, List, [], ◌∷◌, length, Some, None, refl}
-use Rattle.std.proofs.Common.{◌||◌, ◌<◌, ◌+◌, ◌^◌, arith, inl, inr, zero, suc, get_or, cond, min, nat_lt, le-leb, rules}
-use Rattle.std.specs.Prelude.{codes, nat_eq, nat_le, option_map, option_and_then, slice_get, position}
+use Rattle.std.proofs.Common.{◌≡◌, ◌≤◌, ℕ, Bool, true, false, ◌&&◌, List, [], ◌∷◌, length, Some, None, refl}
+use Rattle.std.proofs.Common.{◌<◌, ◌+◌, arith, zero, suc, get_or, cond, min, rules}
+use Rattle.std.specs.Prelude.{codes, nat_eq, option_map, option_and_then, slice_get, position}
 use Rattle.std.specs.declared.option.Option.{Option}
 use Rattle.std.specs.List.{list_all, list_any}
 use Rattle.std.specs.Option.{is_some}

@@ -1,4 +1,4 @@
-use Rattle.std.proofs.Common.{[], ◌+◌, ◌++◌, ◌≡◌, ◌-◌, ◌≤◌, List, ℕ, ap, sym, ◌∙◌, drop, take, arith, length, length-drop, subst}
+use Rattle.std.proofs.Common.{◌+◌, ◌++◌, ◌≡◌, ◌-◌, ◌≤◌, drop, take, arith, length, length-drop, subst}
 use Rattle.std.proofs.lemmas.List.{length-take, take_rest}
 use Rattle.column_command.proofs.FieldByField.{answers_from, field_done, line_done, past_columns, past_fields}
 use Rattle.column_command.proofs.answering.put_answers.Goals as goal

@@ -1,6 +1,6 @@
-use Rattle.std.proofs.Common.{[], ◌++◌, ◌≡◌, List, ℕ, ap, sym, ◌∙◌, drop, take, Some, None, arith, length-drop}
+use Rattle.std.proofs.Common.{[], ap, sym, ◌∙◌, drop, arith, length-drop}
 use Rattle.std.proofs.lemmas.List.{take_rest}
-use Rattle.label_columns.specs.Columns.{answer_to, column_of}
+use Rattle.label_columns.specs.Columns.{answer_to}
 use Rattle.column_command.proofs.FieldByField.{answer_in, column_cut, no_answer, not_meant}
 use Rattle.column_command.proofs.answering.put_field.Goals as goal
 

@@ -1,4 +1,4 @@
-use Rattle.std.proofs.Common.{◌-◌, ◌≤◌, length, take}
+use Rattle.std.proofs.Common.{◌-◌, ◌≤◌, take}
 use Rattle.label_command.specs.TextLines.{IsLine}
 use Rattle.column_command.proofs.columns.line_length.Given as goal
 

@@ -1,4 +1,4 @@
-use Rattle.std.proofs.Common.{[], ◌∷◌, ◌++◌, ◌≡◌, ◌∙◌, List, ℕ, ap, sym, refl}
+use Rattle.std.proofs.Common.{[], ◌∷◌, ◌++◌, refl}
 use Rattle.column_command.proofs.LineGoesOn.{ends_short}
 use Rattle.label_columns.specs.Columns.{answered_line}
 use Rattle.column_command.proofs.columns.ColumnAnswers.end_line.Goals as goal

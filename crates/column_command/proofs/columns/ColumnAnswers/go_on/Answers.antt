@@ -1,4 +1,4 @@
-use Rattle.std.proofs.Common.{[], ◌++◌, ◌≡◌, ◌∙◌, List, ℕ, ap, sym}
+use Rattle.std.proofs.Common.{◌++◌, ◌≡◌, ◌∙◌, List, ℕ, ap}
 use Rattle.column_command.proofs.LineGoesOn.{kept_line, passed_none}
 use Rattle.column_command.proofs.columns.ColumnAnswers.go_on.Goals as goal
 

@@ -1,5 +1,5 @@
-use Rattle.std.proofs.Common.{[], ◌∷◌, ◌++◌, ◌≡◌, ◌∙◌, ◌-◌, ℕ, List, ap, sym, refl, arith, length, take, subst}
-use Rattle.std.proofs.lemmas.List.{length-take-le, take_rest}
+use Rattle.std.proofs.Common.{[], ◌∷◌, ◌++◌, ◌∙◌, ◌-◌, ℕ, List, ap, sym, arith, take, subst}
+use Rattle.std.proofs.lemmas.List.{length-take-le}
 use Rattle.column_command.proofs.LineGoesOn.{at_limit, ended_line, went_on}
 use Rattle.column_command.specs.KeptLine.{Stands}
 use Rattle.column_command.specs.declared.columns.ColumnAnswers.{ColumnAnswers}
