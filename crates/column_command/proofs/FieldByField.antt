@@ -1,5 +1,5 @@
 -- What is written of a line field by field: the part up to a place, and what is still answered behind it.
-use Rattle.std.proofs.Common.{◌≡◌, ℕ, ◌+◌, ◌-◌, ◌<◌, ◌≤◌, true, false, nat_le, min, List, [], ◌∷◌, ◌++◌}
+use Rattle.std.proofs.Common.{Bool, ◌≡◌, ℕ, ◌+◌, ◌-◌, ◌<◌, ◌≤◌, true, false, nat_le, min, List, [], ◌∷◌, ◌++◌}
 use Rattle.std.proofs.Common.{length, take, drop, refl, sym, ap, ap₂, ◌∙◌, arith, append_assoc, take-add, Some, None}
 use Rattle.std.proofs.Common.{length-drop}
 use Rattle.std.specs.declared.option.Option.{Option}
@@ -8,7 +8,7 @@ use Rattle.std.proofs.Math.Bool.{and-false}
 use Rattle.std.proofs.lemmas.Bool.{lt-leb}
 use Rattle.std.proofs.lemmas.Grind.{common_steps}
 use Rattle.std.proofs.lemmas.List.{drop-take, drop_all, length-take-le, take-append-drop}
-use Rattle.label_columns.proofs.Cut.{joined_parted, parted_first}
+use Rattle.column_command.proofs.FirstField.{parted_first}
 use Rattle.label_columns.specs.Columns.{answer_to, answered_field, answered_from, before, column_length, column_of}
 use Rattle.label_columns.specs.Columns.{answered_line, columns_in, ends_field, fields_length, is_meant, with_answer}
 use Rattle.label_columns.specs.Parts.{Part, joined, parted}
@@ -86,11 +86,11 @@ none_meant run number (field ∷ fields) past =
       none_meant run (number + columns_in run.columns.parting field.body) fields (omega (arith, past)),
     ) refl
 
-pub rest_stays : (run : ColumnRun) (number : ℕ) (fields : List ℕ) → run.columns.last < number
+pub rest_stays : ((ends : ℕ → Bool) (bytes : List ℕ) → joined (parted ends bytes) ≡ bytes) → (run : ColumnRun) (number : ℕ) (fields : List ℕ) → run.columns.last < number
     → answers_from run number fields ≡ fields
-rest_stays run number fields past =
+rest_stays whole run number fields past =
     none_meant run number (parted (ends_field run.columns.parting) fields) past
-    ∙ joined_parted (ends_field run.columns.parting) fields
+    ∙ whole (ends_field run.columns.parting) fields
 
 pub none_left : (run : ColumnRun) (number : ℕ) → answers_from run number [] ≡ []
 unfolding parted answered_from
@@ -204,12 +204,14 @@ all_put run number put at fields wrote total behind within stays so_far =
     ∙ ap (λ (l : List ℕ). stretch put at fields ++ l) (sym stays))
     ∙ so_far
 
-pub past_columns : (run : ColumnRun) (number put at : ℕ) (fields wrote total : List ℕ) → put ≤ at → at ≤ length fields
+pub past_columns : ((ends : ℕ → Bool) (bytes : List ℕ) → joined (parted ends bytes) ≡ bytes)
+    → (run : ColumnRun) (number put at : ℕ) (fields wrote total : List ℕ) → put ≤ at → at ≤ length fields
     → run.columns.last < number
     → wrote ++ (stretch put at fields ++ answers_from run number (drop at fields)) ≡ total
     → wrote ++ drop put fields ≡ total
-past_columns run number put at fields wrote total behind within past so_far =
-    all_put run number put at fields wrote total behind within (rest_stays run number (drop at fields) past) so_far
+past_columns whole run number put at fields wrote total behind within past so_far =
+    all_put run number put at fields wrote total behind within (rest_stays whole run number (drop at fields) past)
+    so_far
 
 pub past_fields : (run : ColumnRun) (number put at : ℕ) (fields wrote total : List ℕ) → put ≤ at → at ≤ length fields
     → length fields ≤ at → wrote ++ (stretch put at fields ++ answers_from run number (drop at fields)) ≡ total

@@ -3,6 +3,7 @@ ghost use Rattle.std.specs.Prelude.{◌≡◌, ℕ, ◌-◌, ◌≤◌, List, �
 ghost use Rattle.label_columns.specs.Columns.{answered_field, answered_line, is_meant};
 ghost use Rattle.label_columns.specs.declared.columns.TheConstants.{MAX_COLUMN_LINE};
 
+use label_columns::laws::parts_are_the_bytes;
 use label_columns::{answer_column, column_in, columns_in, field_length, fields_length};
 use tc_command::Output;
 use tc_job::ColumnRun;
@@ -12,6 +13,7 @@ pub(crate) fn put_answers<O: Output>(run: &ColumnRun, line: &[u8], out: &mut O)
     requires few { length line.now ≤ MAX_COLUMN_LINE }
     ensures { O.given out.old out.new (answered_line run.now.labels.base run.now.labels.way run.now.columns line.now) }
 {
+    parts_are_the_bytes();
     let parting = run.columns.parting;
     let fields = &line[..fields_length(line)];
     // Up to `put` they were written, and the field at `at` begins with the column of this number.

@@ -46,7 +46,7 @@ returns g c =
     let all : w.0 ++ drop c.fields.put fields ≡ answers_from c.args.run.now 1 fields =
     elim c.fields-test.branch [
       | then-fields-test+else-number-run b ↦
-          past_columns c.args.run.now c.fields.number c.fields.put c.fields.at fields w.0 _ i.behind i.within
+          past_columns c.parts_are_the_bytes.ensures c.args.run.now c.fields.number c.fields.put c.fields.at fields w.0 _ i.behind i.within
           (omega (arith, b.if-number-run.false)) w.2
       | else-fields-test b ↦
           past_fields c.args.run.now c.fields.number c.fields.put c.fields.at fields w.0 _ i.behind i.within
