@@ -1,4 +1,4 @@
-"""Reads the table of forms of crates/forms as Python has it, for what is made of it: tuples, lists, texts and numbers."""
+"""Reads the table of forms of crates/forms as Python has it: tuples, lists, texts and numbers."""
 import os
 import re
 
@@ -64,7 +64,7 @@ def constants(text, names):
 def numbers():
     """The limits that slots name: each constant of a number in the sources of the crates."""
     found = {"u32::MAX": 2**32 - 1}
-    for crate in ("limits", "biphase", "luma_field", "luma_row", "pcm_front", "tc_job", "vitc_reader"):
+    for crate in ("limits", "biphase", "label_columns", "luma_field", "luma_row", "pcm_front", "tc_job", "vitc_reader"):
         folder = f"{TOP}/crates/{crate}/src"
         for file in sorted(os.listdir(folder)):
             for name, value in re.findall(r"^pub const (\w+): (?:u|i)\w+ = ([\d_]+);$", read(f"{folder}/{file}"), re.M):

@@ -50,6 +50,7 @@ pub fn case(seed: u64, number: u64) -> Case {
         "mtc-read" => midi(d),
         "vitc-read" => line_file(d),
         "chase" => script(&words[1], d),
+        "labels" if words.iter().any(|word| word == "column" || word == "csv") => text_of_columns(&words[1], d),
         "labels" => text_of_labels(&words[1], d),
         "ltc-make" | "ltc-load" | "vitc-make" | "label" | "number" => Vec::new(),
         _ => recording(d),
@@ -568,15 +569,18 @@ fn script(count_name: &str, d: &mut Draws) -> Vec<u8> {
     text.into_bytes()
 }
 
-/// A count and what is printed of its labels.
+/// A count and what is printed of its labels, as often as not in columns.
 fn asked_of_labels(count: Count, d: &mut Draws) -> Vec<String> {
     let mut words = pulled_at_times(count, d);
+    if d.one_in(2) {
+        words.extend(columns(d));
+    }
     let way = d.pick(&["number", "label", "plus", "minus", "since", "seconds", "to", "seconds", "to"]);
     words.push(way.into());
     match way {
         "plus" | "minus" => {
             let steps = d.pick(&[0, 1, 30, 1_798, count.day(), 4_294_967_295, 4_294_967_296]);
-            words.push(steps.to_string());
+            words.push(if d.one_in(3) { label(count, d).text() } else { steps.to_string() });
         }
         "since" => words.push(label(count, d).text()),
         "to" => {
@@ -586,6 +590,17 @@ fn asked_of_labels(count: Count, d: &mut Draws) -> Vec<String> {
         _ => {}
     }
     words
+}
+
+/// What parts the columns, and which are meant: seldom none that there can be.
+fn columns(d: &mut Draws) -> Vec<String> {
+    let (first, more) = (d.pick(&[1, 1, 2, 3, 4, 5, 6, 9, 4_096]), d.pick(&[0, 0, 1, 2, 3, 9, 4_096]));
+    let which = match d.below(30) {
+        0 => d.pick(&["0", "4097", "5-4", "5-", "-5", "5-4097", "x", "1-2-3", "01"]).into(),
+        1..=14 => first.to_string(),
+        _ => format!("{first}-{}", (first + more).min(4_096)),
+    };
+    vec![d.pick(&["column", "csv"]).into(), which]
 }
 
 /// A count, and `ntsc` behind it now and then, mostly where it may come.
@@ -625,5 +640,39 @@ fn line_of(count: Count, d: &mut Draws) -> String {
         5..=12 => format!("{:01$}", now.number(), d.from_to(0, 7) as usize),
         13..=20 => format!("{}.{:03}", d.below(86_500), d.below(1_000)),
         _ => now.text(),
+    }
+}
+
+/// A text as an edit list or a table has it: labels and other words, parted by blanks, commas and semicolons, with endings
+/// of each kind, a byte order mark, lines that are too long, and bytes that are no text.
+fn text_of_columns(count_name: &str, d: &mut Draws) -> Vec<u8> {
+    let count = Count::named(count_name).unwrap_or(Count::Of25);
+    let mut text: Vec<u8> = if d.one_in(8) { "\u{feff}".into() } else { Vec::new() };
+    let end: &[u8] = d.pick(&[&b"\n"[..], b"\n", b"\r\n", b"\r\n", b"\n\n", b"\r\r\n", b" \r\n", b","]);
+    for _ in 0..d.below(30) {
+        if d.one_in(60) {
+            text.extend(vec![b'x'; d.from_to(4_000, 4_200) as usize]);
+        }
+        for _ in 0..d.below(11) {
+            text.extend(column_of(count, d));
+            text.extend(d.pick(&[" ", " ", "  ", "\t", ",", ", ", ";", " ,\t", ",,", " ; "]).bytes());
+        }
+        text.extend(end);
+    }
+    if d.one_in(3) {
+        text.pop();
+    }
+    text
+}
+
+/// A label more often than not, and else what stands beside labels.
+fn column_of(count: Count, d: &mut Draws) -> Vec<u8> {
+    match d.below(20) {
+        0 => label(self::count(d), d).text().into(),
+        1 => line_of(count, d).into(),
+        2 => format!("\"{}\"", label(count, d).text()).into(),
+        3 => vec![0xff, d.below(256) as u8],
+        4..=6 => d.pick(&["AX", "V", "C", "*", "FROM", "001", "250", "36000.000", "M2", "\r", "24:00:00:00"]).into(),
+        _ => label(count, d).text().into(),
     }
 }

@@ -1,12 +1,20 @@
-//! `labels`: a text of lines that say labels, and what is printed of each.
+//! `labels`: a text of lines that say labels, and what is printed of each; and a text with labels in some columns.
 use crate::labels::{Count, Label, Part};
 use crate::run::{End, Run};
+use std::ops::Range;
 
 /// A count, and whether its frames run at 1000/1001 of their rate.
 #[derive(Clone, Copy)]
 pub struct Base {
     pub count: Count,
     pub is_pulled: bool,
+}
+
+/// Some columns of each line, counted from 1, and whether commas part them.
+pub struct Columns {
+    pub are_csv: bool,
+    pub first: usize,
+    pub last: usize,
 }
 
 /// What is printed of a label.
@@ -134,4 +142,53 @@ pub fn along_text(base: Base, what: &Printed, input: &[u8]) -> Run {
         }
     }
     Run::text(output, End::Done)
+}
+
+fn is_blank(byte: &u8) -> bool {
+    *byte == b' ' || *byte == b'\t'
+}
+
+/// Where the columns of a line are that no blank is in.
+fn between_blanks(line: &[u8]) -> Vec<Range<usize>> {
+    let is_in = |at: usize| line.get(at).is_some_and(|byte| !is_blank(byte));
+    let firsts = (0..line.len()).filter(|at| is_in(*at) && (*at == 0 || !is_in(at - 1)));
+    let ends = (1..=line.len()).filter(|end| is_in(end - 1) && !is_in(*end));
+    firsts.zip(ends).map(|(first, end)| first..end).collect()
+}
+
+/// Where those are that are parted by a comma, or by a semicolon where no label has one; blanks at both ends are outside.
+fn between_commas(line: &[u8], count: Count) -> Vec<Range<usize>> {
+    let parts = |byte: &u8| *byte == b',' || *byte == b';' && count != Count::Drop;
+    let mut at = 0;
+    let mut found = Vec::new();
+    for whole in line.split(parts) {
+        let front = whole.iter().take_while(|byte| is_blank(byte)).count();
+        let back = whole.iter().rev().take_while(|byte| is_blank(byte)).count();
+        found.push(at + front..at + front.max(whole.len() - back));
+        at += whole.len() + 1;
+    }
+    found
+}
+
+/// A line without its newline, with what is printed of each label in these columns in its place.
+fn in_columns(base: Base, what: &Printed, columns: &Columns, line: &[u8]) -> Vec<u8> {
+    let fields = line.strip_suffix(b"\r").unwrap_or(line);
+    let all = if columns.are_csv { between_commas(fields, base.count) } else { between_blanks(fields) };
+    let mut line = line.to_vec();
+    for range in all.into_iter().take(columns.last).skip(columns.first - 1).rev() {
+        let label = std::str::from_utf8(&line[range.clone()]).ok().and_then(|text| Label::read(base.count, text));
+        if let Some(label) = label {
+            line.splice(range, printed(base, what, label).into_bytes());
+        }
+    }
+    line
+}
+
+/// A text, line by line. One of more than 4,096 bytes passes.
+pub fn along_columns(base: Base, what: &Printed, columns: &Columns, input: &[u8]) -> Run {
+    let lines = input.split(|byte| *byte == b'\n').map(|line| match line.len() > 4_096 {
+        true => line.to_vec(),
+        false => in_columns(base, what, columns, line),
+    });
+    Run { output: lines.collect::<Vec<_>>().join(&b'\n'), end: End::Done }
 }

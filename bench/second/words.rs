@@ -3,7 +3,7 @@ use crate::cells::{Asked, Told, Tolerance, events, report};
 use crate::frames::{Frame, frames, jam, lines, midi, spans};
 use crate::intervals::{File, MOST_RATE, convert, read};
 use crate::labels::{Count, Label, Way};
-use crate::lines::{Base, Printed, along_text};
+use crate::lines::{Base, Columns, Printed, along_columns, along_text};
 use crate::luma::{self, Raster};
 use crate::made::{Striping, load, stripe};
 use crate::run::{End, Run};
@@ -55,6 +55,24 @@ impl<'a> Words<'a> {
     /// One to twenty digits, from one number to another.
     fn number(&mut self, least: u64, most: u64) -> Read<u64> {
         self.value(|word| number(word).filter(|n| (least..=most).contains(n)))
+    }
+
+    /// How many labels, or the label with this number.
+    fn distance(&mut self, count: Count) -> Read<i64> {
+        self.value(|word| match number(word).filter(|n| *n <= 4_294_967_295) {
+            Some(steps) => Some(steps as i64),
+            None => Label::read(count, word).map(|label| label.number() as i64),
+        })
+    }
+
+    /// `N` or `N-M`, from 1 to 4,096.
+    fn columns(&mut self) -> Read<Columns> {
+        self.value(|word| {
+            let (first, last) = word.split_once('-').unwrap_or((word, word));
+            let (first, last) = (number(first)? as usize, number(last)? as usize);
+            let is_one = 1 <= first && first <= last && last <= 4_096;
+            is_one.then_some(Columns { are_csv: false, first, last })
+        })
     }
 
     fn count(&mut self) -> Read<Count> {
@@ -372,7 +390,9 @@ fn may_be_pulled(count: Count) -> bool {
 
 fn answered(words: &[String], input: &[u8]) -> Read<Run> {
     let is_pulled = words.get(2).is_some_and(|word| word == "ntsc");
-    let place = if is_pulled { 3 } else { 2 };
+    let behind = if is_pulled { 3 } else { 2 };
+    let is_parted = words.get(behind).is_some_and(|word| word == "column" || word == "csv");
+    let place = if is_parted { behind + 2 } else { behind };
     let way = words.get(place).ok_or("count of words")?;
     let values = words.len() - place - 1;
     let is_so_long = match &way[..] {
@@ -390,13 +410,17 @@ fn answered(words: &[String], input: &[u8]) -> Read<Run> {
         w.value(|_| may_be_pulled(count).then_some(()))?;
     }
     let base = Base { count, is_pulled };
+    let columns = match is_parted {
+        true => Some(Columns { are_csv: w.value(|word| Some(word == "csv"))?, ..w.columns()? }),
+        false => None,
+    };
     let way = w.value(|word| Some(word.to_string()))?;
     let what = match &way[..] {
         "number" => Printed::Number,
         "label" => Printed::Text,
         "seconds" => Printed::Seconds,
-        "plus" => Printed::Step(w.number(0, 4_294_967_295)? as i64),
-        "minus" => Printed::Step(-(w.number(0, 4_294_967_295)? as i64)),
+        "plus" => Printed::Step(w.distance(count)?),
+        "minus" => Printed::Step(-w.distance(count)?),
         "since" => Printed::Since(w.label(count)?),
         "to" => {
             let count = w.count()?;
@@ -408,5 +432,8 @@ fn answered(words: &[String], input: &[u8]) -> Read<Run> {
         }
         _ => return Err(format!("value of word {place}")),
     };
-    Ok(along_text(base, &what, input))
+    Ok(match columns {
+        Some(columns) => along_columns(base, &what, &columns, input),
+        None => along_text(base, &what, input),
+    })
 }

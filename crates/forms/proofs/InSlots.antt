@@ -78,6 +78,7 @@ number_is other least most o (values.Number n) same is = rw same is
 number_is other least most o (values.Seed n) same is = absurd is
 number_is other least most o (values.Label label) same is = absurd is
 number_is other least most o (values.Page page) same is = absurd is
+number_is other least most o (values.Columns first last) same is = absurd is
 number_is other least most o (values.Said said) same is = absurd is
 
 pub number_needed : (slots : List SlotRow) (all : List Value) (k least most : ℕ) (slot : Slot) → AreRead slots all
@@ -130,6 +131,7 @@ seed_is o (values.Seed n) same is = rw same is
 seed_is o (values.Number n) same is = absurd is
 seed_is o (values.Label label) same is = absurd is
 seed_is o (values.Page page) same is = absurd is
+seed_is o (values.Columns first last) same is = absurd is
 seed_is o (values.Said said) same is = absurd is
 
 pub seed_needed : (slots : List SlotRow) (all : List Value) (k : ℕ) → AreRead slots all → are_needed slots k ≡ true
@@ -155,6 +157,7 @@ label_is count o (values.Label label) same is = rw same (search rules, is.0, is.
 label_is count o (values.Number n) same is = absurd is
 label_is count o (values.Seed n) same is = absurd is
 label_is count o (values.Page page) same is = absurd is
+label_is count o (values.Columns first last) same is = absurd is
 label_is count o (values.Said said) same is = absurd is
 
 pub label_needed : (slots : List SlotRow) (all : List Value) (k : ℕ) (count : Count) (slot : Slot)
@@ -173,6 +176,7 @@ said_is choice o (values.Said said) same is = (said, same, is)
 said_is choice o (values.Number n) same is = absurd is
 said_is choice o (values.Seed n) same is = absurd is
 said_is choice o (values.Page page) same is = absurd is
+said_is choice o (values.Columns first last) same is = absurd is
 said_is choice o (values.Label label) same is = absurd is
 
 pub said_needed : (slots : List SlotRow) (all : List Value) (k choice : ℕ) → AreRead slots all

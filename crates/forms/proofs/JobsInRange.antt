@@ -33,6 +33,7 @@ use Rattle.forms.specs.declared.slot.Need.TheVariants.{Needed, Optional}
 use Rattle.forms.specs.declared.slot.Slot.TheVariants as kinds
 use Rattle.forms.specs.declared.table.TheConstants.{CHASE, FLIGHT, JAM, LABEL, LINES, LOAD, LUMA, MAKE, NUMBER}
 use Rattle.forms.specs.declared.table.TheConstants.{PULLED_SINCE, SINCE}
+use Rattle.forms.specs.declared.table.TheConstants.{COLUMNS_SINCE, PULLED_COLUMNS_SINCE}
 use Rattle.forms.specs.declared.value.Said.{Said}
 use Rattle.forms.specs.declared.value.Value.{Value}
 use Rattle.forms.specs.declared.value.Value.TheVariants as values
@@ -93,6 +94,29 @@ pub pulled_since_valid : (all : List Value) → AreRead PULLED_SINCE.now all
 pulled_since_valid all read =
     let is = label_needed PULLED_SINCE.now all 3 (count_at (take 3 all) 0) (kinds.Label 0) read refl refl (λ v fits. fits) in
     (is.2 ∙ ap count_of (seen_before all 3 0 (omega arith)) ∙ sym (base_counts (count_at all 0) _), is.1)
+
+pub columns_since_label : (all : List Value) → AreRead COLUMNS_SINCE.now all → IsSome (label_in all 4)
+columns_since_label all read =
+    (label_needed COLUMNS_SINCE.now all 4 (count_at (take 4 all) 0) (kinds.Label 0) read refl refl (λ v fits. fits)).0
+
+pub columns_since_valid : (all : List Value) → AreRead COLUMNS_SINCE.now all
+    → ((label_at all 4).count ≡ counted (base_at all 0)) × IsLabel (label_at all 4)
+columns_since_valid all read =
+    let is = label_needed COLUMNS_SINCE.now all 4 (count_at (take 4 all) 0) (kinds.Label 0) read refl refl
+    (λ v fits. fits) in
+    (is.2 ∙ ap count_of (seen_before all 4 0 (omega arith)) ∙ sym (base_counts (count_at all 0) _), is.1)
+
+pub pulled_columns_since_label : (all : List Value) → AreRead PULLED_COLUMNS_SINCE.now all → IsSome (label_in all 5)
+pulled_columns_since_label all read =
+    (label_needed PULLED_COLUMNS_SINCE.now all 5 (count_at (take 5 all) 0) (kinds.Label 0) read refl refl
+    (λ v fits. fits)).0
+
+pub pulled_columns_since_valid : (all : List Value) → AreRead PULLED_COLUMNS_SINCE.now all
+    → ((label_at all 5).count ≡ counted (base_at all 0)) × IsLabel (label_at all 5)
+pulled_columns_since_valid all read =
+    let is = label_needed PULLED_COLUMNS_SINCE.now all 5 (count_at (take 5 all) 0) (kinds.Label 0) read refl refl
+    (λ v fits. fits) in
+    (is.2 ∙ ap count_of (seen_before all 5 0 (omega arith)) ∙ sym (base_counts (count_at all 0) _), is.1)
 
 pub chase_label : (all : List Value) → AreRead CHASE.now all → IsSome (label_in all 1) × IsLabel (label_at all 1)
 chase_label all read =

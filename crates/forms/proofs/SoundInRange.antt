@@ -144,6 +144,7 @@ rate_is system o (values.Number n) same is = rw same is
 rate_is system o (values.Seed n) same is = absurd is
 rate_is system o (values.Label label) same is = absurd is
 rate_is system o (values.Page page) same is = absurd is
+rate_is system o (values.Columns first last) same is = absurd is
 rate_is system o (values.Said said) same is = absurd is
 
 pub path_rate : (all : List Value) → AreRead PCM_PATH.now all → (1 ≤ number_or all 1 0)
@@ -160,6 +161,7 @@ fineness_is system rate o (values.Number n) same is = rw same is
 fineness_is system rate o (values.Seed n) same is = absurd is
 fineness_is system rate o (values.Label label) same is = absurd is
 fineness_is system rate o (values.Page page) same is = absurd is
+fineness_is system rate o (values.Columns first last) same is = absurd is
 fineness_is system rate o (values.Said said) same is = absurd is
 
 pub path_fineness : (all : List Value) → AreRead PCM_PATH.now all → (1 ≤ number_or all 3 0)

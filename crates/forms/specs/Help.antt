@@ -4,6 +4,7 @@ use Rattle.std.specs.Prelude.{codes, decimal, filter, length, map, get_or}
 use Rattle.std.specs.Prelude.{if◌then◌else◌}
 use Rattle.std.specs.List.{flat_map, list_all}
 use Rattle.std.specs.Str.{bytes_eq}
+use Rattle.label_columns.specs.declared.columns.TheConstants.{MAX_COLUMN}
 use Rattle.limits.specs.declared.recording.TheConstants.{MAX_TICK_RATE}
 use Rattle.tc_job.specs.declared.slicing.TheConstants.{MAX_FINENESS}
 use Rattle.tc_job.specs.declared.usages.TheConstants.{USAGES}
@@ -75,6 +76,8 @@ range_text names (slots.NumberOfDay count) = codes "0 to the last of the day"
 range_text names (slots.Ntsc count) = barred (words_of NTSC)
 range_text names (slots.PathRate system) = codes "1 to " ++ decimal MAX_TICK_RATE
 range_text names (slots.PathFineness system rate) = codes "1 to " ++ decimal MAX_FINENESS
+range_text names (slots.Frames count) = codes "0 to 4294967295|HH:MM:SS:FF"
+range_text names slots.Columns = codes "1 to " ++ decimal MAX_COLUMN ++ codes "|N-M"
 range_text names slots.Topic = []
 
 -- ---- how a command is typed

@@ -7,6 +7,9 @@ use Rattle.std.specs.Result.{is_ok}
 use Rattle.biphase.specs.Shape.{shape_with}
 use Rattle.biphase.specs.declared.profile.Profile.TheVariants.{Normal, Worn, Rough}
 use Rattle.interval_file.specs.declared.header.FileVersion.TheVariants as versions
+use Rattle.label_columns.specs.declared.columns.Columns.{Columns}
+use Rattle.label_columns.specs.declared.columns.Parting.{Parting}
+use Rattle.label_columns.specs.declared.columns.Parting.TheVariants.{Blanks, Commas, CommasAndSemicolons}
 use Rattle.label_lines.specs.declared.timebase.Timebase.TheVariants as bases
 use Rattle.label_lines.specs.declared.way.Way.TheVariants as ways
 use Rattle.luma_field.specs.Raster.{raster_of}
@@ -33,8 +36,14 @@ use Rattle.tc_job.specs.declared.job.Job.TheVariants as jobs
 use Rattle.tc_job.specs.declared.job.Task.{Task}
 use Rattle.tc_job.specs.declared.job.Task.TheVariants.{Stream, Chase}
 use Rattle.tc_job.specs.declared.witness.Witness.TheVariants.{NotAsked, Asked, Consecutive}
+use Rattle.forms.specs.Made.{column_run_of}
 use Rattle.forms.specs.Named.{task_of}
 use Rattle.forms.specs.Number.{Word}
+
+-- ---- columns
+
+abbrev pub columns_of : Parting → ℕ → ℕ → Columns
+columns_of parting first last = record { parting = parting; first = first; last = last }
 
 -- ---- a line
 
@@ -131,6 +140,30 @@ named_lines =
       codes "labels 25 since 01:02:03:04",
       Stream (jobs.Labels (label_run_of bases.F25 (ways.Since (address C25 1 2 3 4)))),
     )
+    ∷ (
+      codes "labels 25 column 5-8 plus 250",
+      Stream (jobs.Columns (column_run_of (label_run_of bases.F25 (ways.Plus 250)) (columns_of Blanks 5 8))),
+    )
+    ∷ (
+      codes "labels 24 ntsc csv 3 seconds",
+      Stream (jobs.Columns (column_run_of (label_run_of bases.PulledDown24 ways.Seconds)
+          (columns_of CommasAndSemicolons 3 3))),
+    )
+    ∷ (
+      codes "labels 30d csv 2-4 since 01:02:03;04",
+      Stream (jobs.Columns (column_run_of (label_run_of bases.Drop30 (ways.Since (address Drop30 1 2 3 4)))
+          (columns_of Commas 2 4))),
+    )
+    ∷ (
+      codes "labels 30 ntsc column 6 to 24 ntsc",
+      Stream (jobs.Columns (column_run_of (label_run_of bases.PulledDown30 (ways.To bases.PulledDown24))
+          (columns_of Blanks 6 6))),
+    )
+    ∷ (
+      codes "labels 24 ntsc column 7-9 since 01:02:03:04",
+      Stream (jobs.Columns (column_run_of (label_run_of bases.PulledDown24 (ways.Since (address C24 1 2 3 4)))
+          (columns_of Blanks 7 9))),
+    )
     ∷ (codes "labels 30 to 24", Stream (jobs.Labels (label_run_of bases.F30 (ways.To bases.F24))))
     ∷ (codes "labels 25 to 30 ntsc", Stream (jobs.Labels (label_run_of bases.F25 (ways.To bases.PulledDown30))))
     ∷ (codes "labels 24 ntsc number", Stream (jobs.Labels (label_run_of bases.PulledDown24 ways.Number)))
@@ -173,7 +206,9 @@ taken_lines =
     ∷ codes "ltc-chase 24 00:00:00:00 0 0 0" ∷ codes "ltc-chase 24 00:00:00:00 255 18446744073709551615 1000"
     ∷ codes "luma-vitc 25 360 1 0 1" ∷ codes "luma-vitc 25 4096 4096 4095 1" ∷ codes "luma-vitc 25 360 4096 4056 40"
     ∷ codes "vitc-make 25 00:00:00:00 1 460" ∷ codes "vitc-make 25 00:00:00:00 1000000 65535"
-    ∷ codes "labels 25 plus 0" ∷ codes "labels 24 ntsc minus 4294967295" ∷ []
+    ∷ codes "labels 25 plus 0" ∷ codes "labels 24 ntsc minus 4294967295"
+    ∷ codes "labels 25 plus 00:00:10:07" ∷ codes "labels 30d minus 00:01:00;02"
+    ∷ codes "labels 25 column 1 number" ∷ codes "labels 25 csv 4096-4096 number" ∷ codes "labels 25 column 1-4096 plus 0" ∷ []
 
 abbrev pub AreTaken : List (List ℕ) → Type 0
 AreTaken lines = AllByRecursion (λ line. is_ok (task_of_line line) ≡ true) lines
@@ -236,9 +271,16 @@ refused_lines =
     ∷ (codes "labels 24 ntsc x 1 2", Value 3) ∷ (codes "labels 24 ntsc x 1 2 3", CountOfWords)
     ∷ (codes "labels 25 number 1", CountOfWords) ∷ (codes "labels 25 plus", CountOfWords)
     ∷ (codes "labels 25 plus 4294967296", Value 3) ∷ (codes "labels 24 ntsc minus x", Value 4)
+    ∷ (codes "labels 25 plus 00:00:10:25", Value 3) ∷ (codes "labels 30d minus 00:01:00;00", Value 3)
     ∷ (codes "labels 25 since 01:02:03:25", Value 3) ∷ (codes "labels 24 ntsc since 01:02:03:24", Value 4)
     ∷ (codes "labels 25 to 29", Value 3) ∷ (codes "labels 25 to 24 x", Value 4)
     ∷ (codes "labels 25 to 25 ntsc", Value 4)
+    ∷ (codes "labels 25 column 0 number", Value 3) ∷ (codes "labels 25 csv 4097 number", Value 3)
+    ∷ (codes "labels 25 column 5-4 number", Value 3) ∷ (codes "labels 25 column 5-4097 number", Value 3)
+    ∷ (codes "labels 25 column 5- number", Value 3) ∷ (codes "labels 25 column 5", CountOfWords)
+    ∷ (codes "labels 25 column 5 x", Value 4) ∷ (codes "labels 24 ntsc csv 5 x 1 2", Value 5)
+    ∷ (codes "labels 25 column 5 number 1", CountOfWords) ∷ (codes "labels 25 column 5 since 01:02:03:25", Value 5)
+    ∷ (codes "labels 24 ntsc csv 5 to 30d ntsc", Value 7)
     ∷ (codes "labels 24 ntsc to 30d ntsc", Value 5) ∷ (codes "help x", Value 1) ∷ (codes "help help help", CountOfWords)
     ∷ []
 

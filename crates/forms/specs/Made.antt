@@ -3,6 +3,9 @@ use Rattle.std.specs.Prelude.{ℕ, ◌*◌, ◌+◌, Bool, true, false, List, Op
 use Rattle.std.specs.Prelude.{if◌then◌else◌}
 use Rattle.std.specs.Option.{unwrap_or}
 use Rattle.biphase.specs.Shape.{shape_with}
+use Rattle.label_columns.specs.declared.columns.Columns.{Columns}
+use Rattle.label_columns.specs.declared.columns.Parting.{Parting}
+use Rattle.label_columns.specs.declared.columns.Parting.TheVariants.{Blanks, Commas, CommasAndSemicolons}
 use Rattle.label_lines.specs.declared.timebase.Timebase.{Timebase}
 use Rattle.label_lines.specs.declared.timebase.Timebase.TheVariants as bases
 use Rattle.label_lines.specs.declared.way.Way.{Way}
@@ -26,6 +29,7 @@ use Rattle.tc_job.specs.Slicing.{Slices, slicing_of}
 use Rattle.tc_job.specs.Stripe.{Striping, stripe_of}
 use Rattle.tc_job.specs.TrackPath.{SlicesTrackPath, track_path_of}
 use Rattle.tc_job.specs.WaveSlicing.{SlicesWave, wave_slicing_of}
+use Rattle.tc_job.specs.declared.column_run.ColumnRun.{ColumnRun}
 use Rattle.tc_job.specs.declared.flight.Flight.{Flight}
 use Rattle.tc_job.specs.declared.job.Job.{Job}
 use Rattle.tc_job.specs.declared.job.Job.TheVariants as jobs
@@ -162,6 +166,49 @@ labels_in all = label_run_of (base_at all 0) (way_at all (if has_ntsc all 1 then
 unfoldable pub since_in : List Value → ℕ → LabelRunning
 since_in all place = label_run_of (base_at all 0) (ways.Since (label_at all place))
 
+-- what parts columns
+abbrev pub parting_of : Option Value → Parting
+parting_of (Some (values.Said (says.Parting parting))) = parting
+parting_of _ = Blanks
+
+abbrev pub parting_at : List Value → ℕ → Parting
+parting_at values place = parting_of (slice_get values place)
+
+-- a semicolon belongs to the labels of drop-frame counting, so it parts no columns of theirs
+abbrev pub parting_for : Count → Parting → Parting
+parting_for Drop30 CommasAndSemicolons = Commas
+parting_for count parting = parting
+
+-- the first and the last of neighbouring columns
+abbrev pub range_of : Option Value → ℕ × ℕ
+range_of (Some (values.Columns first last)) = (first, last)
+range_of _ = (1, 1)
+
+abbrev pub range_at : List Value → ℕ → ℕ × ℕ
+range_at values place = range_of (slice_get values place)
+
+-- `column|csv COLUMNS`, from a place on
+abbrev pub columns_at : List Value → ℕ → Columns
+columns_at values place = record {
+  parting = parting_for (count_at values 0) (parting_at values place);
+  first = (range_at values (place + 1)).0;
+  last = (range_at values (place + 1)).1;
+}
+
+-- labels in columns
+abbrev pub column_run_of : LabelRunning → Columns → ColumnRun
+column_run_of labels columns = record { labels = labels; columns = columns }
+
+-- `COUNT [ntsc] column|csv COLUMNS WAY`
+unfoldable pub columns_in : List Value → ColumnRun
+columns_in all =
+    let place = if has_ntsc all 1 then 2 else 1 in
+    column_run_of (label_run_of (base_at all 0) (way_at all (place + 2))) (columns_at all place)
+
+-- `COUNT [ntsc] column|csv COLUMNS since LABEL`, with the columns at a place
+unfoldable pub columns_since_in : List Value → ℕ → ColumnRun
+columns_since_in all place = column_run_of (since_in all (place + 3)) (columns_at all place)
+
 -- ---- help
 
 -- no word, the page of a command, or that of the exit numbers
@@ -202,5 +249,8 @@ task_in commands.Label values = tasks.Stream (jobs.LabelOf (label_at values 1))
 task_in commands.Labels values = tasks.Stream (jobs.Labels (labels_in values))
 task_in commands.LabelsSince values = tasks.Stream (jobs.Labels (since_in values 2))
 task_in commands.PulledLabelsSince values = tasks.Stream (jobs.Labels (since_in values 3))
+task_in commands.LabelColumns values = tasks.Stream (jobs.Columns (columns_in values))
+task_in commands.LabelColumnsSince values = tasks.Stream (jobs.Columns (columns_since_in values 1))
+task_in commands.PulledLabelColumnsSince values = tasks.Stream (jobs.Columns (columns_since_in values 2))
 task_in commands.Help values = tasks.Stream (help_in values)
 task_in commands.Version values = tasks.Stream jobs.Version

@@ -7,6 +7,7 @@ use Rattle.forms.specs.declared.command.Command.TheVariants as commands
 use Rattle.forms.specs.declared.reading.TheConstants.{MAX_VALUES}
 use Rattle.forms.specs.declared.table.TheConstants.{FLIGHT, JAM, PCM_PATH, PCM, WAV_PATH, WAV, LEVEL, MAKE, LOAD}
 use Rattle.forms.specs.declared.table.TheConstants.{LABEL, CHASE, LUMA, LINES, NUMBER, SINCE, PULLED_SINCE}
+use Rattle.forms.specs.declared.table.TheConstants.{COLUMNS_SINCE, PULLED_COLUMNS_SINCE}
 use Rattle.forms.specs.declared.value.Value.{Value}
 
 -- the slots of a command whose job has ranges
@@ -30,6 +31,8 @@ slots_of commands.Number = Some LABEL.now
 slots_of commands.Label = Some NUMBER.now
 slots_of commands.LabelsSince = Some SINCE.now
 slots_of commands.PulledLabelsSince = Some PULLED_SINCE.now
+slots_of commands.LabelColumnsSince = Some COLUMNS_SINCE.now
+slots_of commands.PulledLabelColumnsSince = Some PULLED_COLUMNS_SINCE.now
 slots_of _ = None
 
 -- the slots are those of the command, and not too many

@@ -1,15 +1,18 @@
 -- What a word is read as, after the values before it.
-use Rattle.std.specs.Prelude.{◌≡◌, ◌⊎◌, ℕ, ◌*◌, ◌/◌, ◌-◌, ◌^◌, ◌<◌, ◌≤◌, min, max, nat_le, Bool, true, false}
-use Rattle.std.specs.Prelude.{◌&&◌, List}
+use Rattle.std.specs.Prelude.{◌≡◌, ◌⊎◌, ℕ, ◌*◌, ◌/◌, ◌-◌, ◌^◌, ◌<◌, ◌≤◌, min, max, nat_le, nat_lt, Bool, true, false}
+use Rattle.std.specs.Prelude.{◌&&◌, ◌==◌, List, length}
 use Rattle.std.specs.Prelude.{Option, Some, None, codes, if◌then◌else◌, position, slice_get}
 use Rattle.std.specs.Prelude.{option_and_then, option_map}
+use Rattle.std.specs.List.{after_first, before_first, position_or_len}
 use Rattle.std.specs.Option.{is_some}
 use Rattle.std.specs.Str.{bytes_eq}
+use Rattle.label_columns.specs.declared.columns.TheConstants.{MAX_COLUMN}
 use Rattle.limits.specs.declared.recording.TheConstants.{MAX_TICK_RATE}
 use Rattle.tc_address.specs.declared.count.Count.{Count}
 use Rattle.tc_address.specs.declared.count.Count.TheVariants.{C24, C25, C30, Drop30}
 use Rattle.tc_address.specs.declared.system.System.{System}
 use Rattle.tc_address.specs.Label.{Address, IsLabel, labels}
+use Rattle.tc_address.specs.Numbering.{number_of}
 use Rattle.tc_address.specs.Spelling.{label_in}
 use Rattle.tc_job.specs.PathGrid.{grid_for, step_ticks}
 use Rattle.tc_job.specs.declared.slicing.TheConstants.{MAX_FINENESS}
@@ -69,6 +72,25 @@ topic_in word = elim (said_by STATUSES word) [
   | None ↦ option_map (λ page. values.Page page) (position (λ usage. bytes_eq word usage.0.now) USAGES)
 ]
 
+-- so many frames: a number, or the label that has this number in the day of the count
+unfoldable pub frames_read : Count → Word → Option Value
+frames_read count word = elim (between 0 4294967295 word) [
+  | Some n ↦ Some (values.Number n)
+  | None ↦ option_map (λ label. values.Number (number_of label)) (label_in count word)
+]
+
+-- a dash, between the first and the last of neighbouring columns
+abbrev pub is_dash : ℕ → Bool
+is_dash byte = byte == 45
+
+-- neighbouring columns, the last one not before the first; or one alone
+unfoldable pub columns_read : Word → Option Value
+columns_read word =
+    if nat_lt (position_or_len is_dash word) (length word) then
+    option_and_then (λ first. option_map (λ last. values.Columns first last)
+    (between first MAX_COLUMN (after_first is_dash word))) (between 1 MAX_COLUMN (before_first is_dash word))
+    else option_map (λ n. values.Columns n n) (between 1 MAX_COLUMN word)
+
 -- the greatest number that the values before it allow
 abbrev pub bounded_by : Bound → List Value → ℕ
 bounded_by (Product place most) before = most / max (number_or before place 0) 1
@@ -92,6 +114,8 @@ value_of (slots.Ntsc count) before word = pulled_in (count_at before count) word
 value_of (slots.PathRate system) before word = path_rate_in (system_at before system) word
 value_of (slots.PathFineness system rate) before word =
     path_fineness_in (system_at before system) (number_or before rate 0) word
+value_of (slots.Frames count) before word = frames_read (count_at before count) word
+value_of slots.Columns before word = columns_read word
 value_of slots.Topic before word = topic_in word
 
 -- the word may be left out

@@ -7,6 +7,7 @@ ghost use Rattle.forms.specs.declared.value.Said.{Said};
 use crate::value::{Asked, Said};
 use biphase::Profile;
 use interval_file::FileVersion;
+use label_columns::Parting;
 use tc_address::{Count, Direction, System};
 use tc_job::Witness;
 
@@ -48,9 +49,11 @@ pub const TO: usize = 16;
 pub const NOTHING: usize = 17;
 /// The page of the exit numbers.
 pub const STATUSES: usize = 18;
+/// Some columns of each line, and what parts them.
+pub const COLUMN: usize = 19;
 
 /// The words of each choice, in the order of these places.
-pub static CHOICES: [&[(&str, Said)]; 19] = [
+pub static CHOICES: [&[(&str, Said)]; 20] = [
     &[
         ("24", Said::Count(Count::C24)),
         ("25", Said::Count(Count::C25)),
@@ -105,6 +108,10 @@ pub static CHOICES: [&[(&str, Said)]; 19] = [
     &[("to", Said::Asked(Asked::To))],
     &[],
     &[("statuses", Said::Statuses)],
+    &[
+        ("column", Said::Parting(Parting::Blanks)),
+        ("csv", Said::Parting(Parting::CommasAndSemicolons)),
+    ],
 ];
 
 /// What a word of a choice says.

@@ -29,6 +29,9 @@ pub enum Command {
     Labels,
     LabelsSince,
     PulledLabelsSince,
+    LabelColumns,
+    LabelColumnsSince,
+    PulledLabelColumnsSince,
     Help,
     Version,
 }

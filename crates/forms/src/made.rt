@@ -9,7 +9,9 @@ ghost use Rattle.forms.specs.declared.table.TheConstants.{LABEL, NUMBER};
 
 use crate::command::Command;
 use crate::held::{label_at, version_at, witness_at};
-use crate::made_labels::{labels_of, labels_since, pulled_labels_since};
+use crate::made_labels::{
+    columns_of, columns_since, labels_of, labels_since, pulled_columns_since, pulled_labels_since,
+};
 use crate::made_sound::{level_of, path_slicing_of, slicing_of, track_path_of, wave_slicing_of};
 use crate::made_stripe::{
     chase_of, flight_of, jam_of, line_stripe_of, load_of, luma_of, stripe_of,
@@ -94,6 +96,15 @@ pub fn made(command: Command, values: &[Value]) -> Task
         }),
         Command::PulledLabelsSince => Task::Stream(Job::Labels {
             run: pulled_labels_since(values),
+        }),
+        Command::LabelColumns => Task::Stream(Job::Columns {
+            run: columns_of(values),
+        }),
+        Command::LabelColumnsSince => Task::Stream(Job::Columns {
+            run: columns_since(values),
+        }),
+        Command::PulledLabelColumnsSince => Task::Stream(Job::Columns {
+            run: pulled_columns_since(values),
         }),
         Command::Help => Task::Stream(help_of(values)),
         Command::Version => Task::Stream(Job::Version),

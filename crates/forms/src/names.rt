@@ -175,25 +175,34 @@ const NUMBER: &[Name] = &[
     ("NUMBER", "how many labels come before it in the day"),
 ];
 
-/// Of `labels`, where nothing follows the way.
+/// Of `labels` in columns, where nothing follows the way.
 const ALONE: &[Name] = &[
     COUNT,
     ("", "after 24 or 30: at 1000/1001 of that rate"),
-    ("WAY", "what is written for each line"),
+    (
+        "",
+        "labels are in COLUMNS, parted by blanks or commas; all else stays",
+    ),
+    ("COLUMNS", "a column of each line, or those from N to M"),
+    ("WAY", "what is written for each line or label"),
 ];
 
-/// Of `labels` along a distance.
+/// Of `labels` in columns along a distance.
 const ALONG: &[Name] = &[
     ("COUNT", ""),
     ("", ""),
+    ("", ""),
+    ("COLUMNS", ""),
     ("WAY", "the label that is N labels later or earlier"),
-    ("N", "how many labels, after plus or minus"),
+    ("N", "how many labels, or the label of that number"),
 ];
 
-/// Of `labels` since a label.
+/// Of `labels` in columns since a label.
 const SINCE: &[Name] = &[
     ("COUNT", ""),
     ("", ""),
+    ("", ""),
+    ("COLUMNS", ""),
     (
         "WAY",
         "how many labels it is from LABEL, the shortest way and forward",
@@ -201,10 +210,12 @@ const SINCE: &[Name] = &[
     ("LABEL", "that label, after since"),
 ];
 
-/// Of `labels` to another count.
+/// Of `labels` in columns to another count.
 const TO: &[Name] = &[
     ("COUNT", ""),
     ("", ""),
+    ("", ""),
+    ("COLUMNS", ""),
     (
         "WAY",
         "what another count shows at that moment, to thousandths of a frame",
@@ -219,8 +230,9 @@ const HELP: &[Name] = &[("COMMAND|statuses", "")];
 const NONE: &[Name] = &[];
 
 /// What the values of each way are called, a row for each row of `FORMS`.
-pub static NAMES: [&[Name]; 35] = [
+pub static NAMES: [&[Name]; 45] = [
     NONE, NONE, ROUGH, FLIGHT, FLIGHT, FLIGHT, JAM, CONVERT, PCM_PATH, PCM, WAV_PATH, WAV, LEVEL,
     MAKE, LOAD, NONE, LABELLED, CHASE, NONE, LUMA, LINES, LABELLED, NUMBER, ALONE, ALONG, SINCE,
-    TO, NONE, NONE, NONE, NONE, NONE, NONE, HELP, NONE,
+    TO, NONE, NONE, NONE, NONE, NONE, NONE, NONE, NONE, NONE, NONE, NONE, NONE, NONE, NONE, NONE,
+    NONE, HELP, NONE,
 ];

@@ -5,7 +5,7 @@ ghost use Rattle.forms.specs.Choice.{said_by};
 ghost use Rattle.forms.specs.Number.{between, number_spelled};
 ghost use Rattle.forms.specs.Slot.{Fits, FitsIn, IsLabelOf, IsNumberIn, IsPathFineness, IsPathRate, IsSaidBy, IsSeed};
 ghost use Rattle.forms.specs.Slot.{bounded_by, has_steps, is_live, label_read, may_be_left_out, numbered};
-ghost use Rattle.forms.specs.Slot.{path_fineness_in};
+ghost use Rattle.forms.specs.Slot.{columns_read, frames_read, path_fineness_in};
 ghost use Rattle.forms.specs.Slot.{path_rate_in, pulled_in, topic_in, value_in, value_of};
 ghost use Rattle.limits.specs.declared.recording.TheConstants.{MAX_TICK_RATE};
 ghost use Rattle.tc_address.specs.Label.{IsLabel};
@@ -16,8 +16,9 @@ use crate::choices::{NTSC, STATUSES, is_word, said_by};
 use crate::held::{count_at, number_or, system_at};
 use crate::number::{between, number_spelled};
 use crate::value::{Said, Value};
+use label_columns::MAX_COLUMN;
 use limits::MAX_TICK_RATE;
-use tc_address::{Count, Label, System, day_labels, label_at, read_text};
+use tc_address::{Count, Label, System, day_labels, label_at, number as number_in_day, read_text};
 use tc_job::usages::USAGES;
 use tc_job::{MAX_FINENESS, grid_for, step_ticks};
 
@@ -42,6 +43,10 @@ pub enum Slot {
     PathRate { system: usize },
     /// Ticks a sample of such a sound.
     PathFineness { system: usize, rate: usize },
+    /// So many frames: a number, or a label of the count at this place, which has that number in the day.
+    Frames { count: usize },
+    /// A column, or neighbouring ones: `N`, or `N-M`.
+    Columns,
     /// A command, or another page of help.
     Topic,
 }
@@ -128,6 +133,8 @@ fn value_of(slot: Slot, before: &[Value], word: &str) -> Option<Value>
         Slot::PathFineness { system, rate } => {
             path_fineness(system_at(before, system), number_or(before, rate, 0), word)
         }
+        Slot::Frames { count } => frames(count_at(before, count), word),
+        Slot::Columns => columns(word),
         Slot::Topic => topic(word),
     }
 }
@@ -249,6 +256,38 @@ fn has_steps(system: System, rate: u32, fineness: u32) -> bool
     match grid_for(system, rate) {
         None => false,
         Some(grid) => step_ticks(fineness, grid).is_some(),
+    }
+}
+
+/// So many frames, as a number or as the label of that number.
+#[tactic(auto, unfolding(crate::specs::Slot::frames_read))]
+fn frames(count: Count, word: &str) -> Option<Value>
+    ensures { result ≡ frames_read count word.now }
+{
+    if let Some(frames) = between(0, u32::MAX, word) {
+        return Some(Value::Number(frames));
+    }
+    match read_text(word.as_bytes(), count) {
+        Ok(label) => Some(Value::Number(number_in_day(&label))),
+        Err(_) => None,
+    }
+}
+
+/// Neighbouring columns, or one alone.
+#[tactic(auto, unfolding(crate::specs::Slot::columns_read))]
+fn columns(word: &str) -> Option<Value>
+    ensures { result ≡ columns_read word.now }
+{
+    match word.split_once('-') {
+        Some((from, to)) => {
+            let first = between(1, MAX_COLUMN, from)?;
+            let last = between(first, MAX_COLUMN, to)?;
+            Some(Value::Columns(first, last))
+        }
+        None => {
+            let column = between(1, MAX_COLUMN, word)?;
+            Some(Value::Columns(column, column))
+        }
     }
 }
 

@@ -168,8 +168,27 @@ pub const PULLED_SINCE: &[(Need, Slot)] = &[
     (Needed, Slot::Label { count: 0 }),
 ];
 
+/// `COUNT column|csv COLUMNS since LABEL`
+pub const COLUMNS_SINCE: &[(Need, Slot)] = &[
+    (Needed, OneOf(choices::COUNT)),
+    (Needed, OneOf(choices::COLUMN)),
+    (Needed, Slot::Columns),
+    (Needed, OneOf(choices::SINCE)),
+    (Needed, Slot::Label { count: 0 }),
+];
+
+/// `COUNT ntsc column|csv COLUMNS since LABEL`
+pub const PULLED_COLUMNS_SINCE: &[(Need, Slot)] = &[
+    (Needed, OneOf(choices::COUNT)),
+    (Needed, Slot::Ntsc { count: 0 }),
+    (Needed, OneOf(choices::COLUMN)),
+    (Needed, Slot::Columns),
+    (Needed, OneOf(choices::SINCE)),
+    (Needed, Slot::Label { count: 0 }),
+];
+
 /// The forms, in the order of `help`. Of a command with several ways the first one whose marks stand is taken.
-pub static FORMS: [Form; 35] = [
+pub static FORMS: [Form; 45] = [
     ("ltc-read", &[], &[], Command::LtcRead),
     ("ltc-worn", &[], &[], Command::LtcWorn),
     (
@@ -205,6 +224,132 @@ pub static FORMS: [Form; 35] = [
     ("label", &[], NUMBER, Command::Label),
     (
         "labels",
+        &[
+            (1, choices::NTSC),
+            (2, choices::COLUMN),
+            (4, choices::ALONE),
+        ],
+        &[
+            (Needed, OneOf(choices::COUNT)),
+            (Needed, Slot::Ntsc { count: 0 }),
+            (Needed, OneOf(choices::COLUMN)),
+            (Needed, Slot::Columns),
+            (Needed, OneOf(choices::ALONE)),
+        ],
+        Command::LabelColumns,
+    ),
+    (
+        "labels",
+        &[
+            (1, choices::NTSC),
+            (2, choices::COLUMN),
+            (4, choices::ALONG),
+        ],
+        &[
+            (Needed, OneOf(choices::COUNT)),
+            (Needed, Slot::Ntsc { count: 0 }),
+            (Needed, OneOf(choices::COLUMN)),
+            (Needed, Slot::Columns),
+            (Needed, OneOf(choices::ALONG)),
+            (Needed, Slot::Frames { count: 0 }),
+        ],
+        Command::LabelColumns,
+    ),
+    (
+        "labels",
+        &[
+            (1, choices::NTSC),
+            (2, choices::COLUMN),
+            (4, choices::SINCE),
+        ],
+        PULLED_COLUMNS_SINCE,
+        Command::PulledLabelColumnsSince,
+    ),
+    (
+        "labels",
+        &[(1, choices::NTSC), (2, choices::COLUMN), (4, choices::TO)],
+        &[
+            (Needed, OneOf(choices::COUNT)),
+            (Needed, Slot::Ntsc { count: 0 }),
+            (Needed, OneOf(choices::COLUMN)),
+            (Needed, Slot::Columns),
+            (Needed, OneOf(choices::TO)),
+            (Needed, OneOf(choices::COUNT)),
+            (Optional, Slot::Ntsc { count: 5 }),
+        ],
+        Command::LabelColumns,
+    ),
+    (
+        "labels",
+        &[(1, choices::NTSC), (2, choices::COLUMN)],
+        &[
+            (Needed, OneOf(choices::COUNT)),
+            (Needed, Slot::Ntsc { count: 0 }),
+            (Needed, OneOf(choices::COLUMN)),
+            (Needed, Slot::Columns),
+            (Needed, OneOf(choices::ALONE)),
+            (Optional, OneOf(choices::NOTHING)),
+            (Optional, OneOf(choices::NOTHING)),
+        ],
+        Command::LabelColumns,
+    ),
+    (
+        "labels",
+        &[(1, choices::COLUMN), (3, choices::ALONE)],
+        &[
+            (Needed, OneOf(choices::COUNT)),
+            (Needed, OneOf(choices::COLUMN)),
+            (Needed, Slot::Columns),
+            (Needed, OneOf(choices::ALONE)),
+        ],
+        Command::LabelColumns,
+    ),
+    (
+        "labels",
+        &[(1, choices::COLUMN), (3, choices::ALONG)],
+        &[
+            (Needed, OneOf(choices::COUNT)),
+            (Needed, OneOf(choices::COLUMN)),
+            (Needed, Slot::Columns),
+            (Needed, OneOf(choices::ALONG)),
+            (Needed, Slot::Frames { count: 0 }),
+        ],
+        Command::LabelColumns,
+    ),
+    (
+        "labels",
+        &[(1, choices::COLUMN), (3, choices::SINCE)],
+        COLUMNS_SINCE,
+        Command::LabelColumnsSince,
+    ),
+    (
+        "labels",
+        &[(1, choices::COLUMN), (3, choices::TO)],
+        &[
+            (Needed, OneOf(choices::COUNT)),
+            (Needed, OneOf(choices::COLUMN)),
+            (Needed, Slot::Columns),
+            (Needed, OneOf(choices::TO)),
+            (Needed, OneOf(choices::COUNT)),
+            (Optional, Slot::Ntsc { count: 4 }),
+        ],
+        Command::LabelColumns,
+    ),
+    (
+        "labels",
+        &[(1, choices::COLUMN)],
+        &[
+            (Needed, OneOf(choices::COUNT)),
+            (Needed, OneOf(choices::COLUMN)),
+            (Needed, Slot::Columns),
+            (Needed, OneOf(choices::ALONE)),
+            (Optional, OneOf(choices::NOTHING)),
+            (Optional, OneOf(choices::NOTHING)),
+        ],
+        Command::LabelColumns,
+    ),
+    (
+        "labels",
         &[(1, choices::NTSC), (2, choices::ALONE)],
         &[
             (Needed, OneOf(choices::COUNT)),
@@ -220,7 +365,7 @@ pub static FORMS: [Form; 35] = [
             (Needed, OneOf(choices::COUNT)),
             (Needed, Slot::Ntsc { count: 0 }),
             (Needed, OneOf(choices::ALONG)),
-            (Needed, Number(0, u32::MAX)),
+            (Needed, Slot::Frames { count: 0 }),
         ],
         Command::Labels,
     ),
@@ -269,7 +414,7 @@ pub static FORMS: [Form; 35] = [
         &[
             (Needed, OneOf(choices::COUNT)),
             (Needed, OneOf(choices::ALONG)),
-            (Needed, Number(0, u32::MAX)),
+            (Needed, Slot::Frames { count: 0 }),
         ],
         Command::Labels,
     ),

@@ -1,6 +1,7 @@
 //! The values of words. Read next: `reading`.
 use biphase::Profile;
 use interval_file::FileVersion;
+use label_columns::Parting;
 use tc_address::{Count, Direction, Label, System};
 use tc_job::Witness;
 
@@ -15,6 +16,8 @@ pub enum Value {
     Label(Label),
     /// The page of help of the command in this row of `USAGES`.
     Page(usize),
+    /// Neighbouring columns, the first and the last of them.
+    Columns(u32, u32),
     /// What a word of a choice says.
     Said(Said),
 }
@@ -44,6 +47,8 @@ pub enum Said {
     Live,
     /// The frames run at 1000/1001 of the rate of their count.
     Ntsc,
+    /// What parts the columns of a line.
+    Parting(Parting),
     /// What is asked of labels.
     Asked(Asked),
     /// The way from a label is asked.

@@ -1,25 +1,19 @@
 -- What is answered in a way that says labels is a text of lines that say them, so it is answered again.
-use Rattle.std.proofs.Common.{◌≡◌, ℕ, ◌+◌, ◌/◌, ◌%◌, ◌<◌, ◌≤◌, ◌^◌, List, [], ◌∷◌, ◌++◌, length, map, refl, sym}
+use Rattle.std.proofs.Common.{◌≡◌, ℕ, ◌+◌, ◌<◌, ◌≤◌, List, [], ◌∷◌, ◌++◌, length, map, refl, sym}
 use Rattle.std.proofs.Common.{ap, ap₂, ◌∙◌, subst, arith, append-nil}
-use Rattle.std.specs.Prelude.{◌≢◌, ℤ, pos, neg_ℤ, ◌+ℤ◌, Result, Ok, decimal, codes}
+use Rattle.std.specs.Prelude.{ℤ, pos, neg_ℤ, ◌+ℤ◌, Result, Ok, decimal, codes}
 use Rattle.std.specs.List.{AllByRecursion}
-use Rattle.std.specs.Str.Parse.{AllDigits, digits_value}
-use Rattle.std.proofs.lemmas.Fmt.{digits_decimal}
 use Rattle.std.proofs.lemmas.Int.{ints}
 use Rattle.std.proofs.lemmas.List.{length-map}
 use Rattle.std.proofs.lemmas.List.Folds.{flat_map-map}
-use Rattle.std.proofs.lemmas.Str.Parse.{IsNumeralModel, digit_from_value}
 use Rattle.real_time.specs.Moment.{millisecond_at}
-use Rattle.tc_address.specs.declared.count.Count.{Count}
-use Rattle.tc_address.specs.declared.count.Count.TheVariants as counts
 use Rattle.tc_address.specs.Label.{Address, IsLabel}
 use Rattle.tc_address.specs.Numbering.{day_length, number_of, step}
-use Rattle.tc_address.specs.Spelling.{separator, text_of, two_digits}
+use Rattle.tc_address.specs.Spelling.{text_of}
 use Rattle.tc_command.specs.Meaning.{IsInput, Meaning}
 use Rattle.tc_job.specs.LabelRun.{LabelRunning, label_run_of}
 use Rattle.label_lines.specs.Answer.{answer, seconds_text}
 use Rattle.label_lines.specs.declared.timebase.Timebase.{Timebase}
-use Rattle.label_lines.specs.declared.timebase.Timebase.TheVariants.{F24, PulledDown24, F25, F30, PulledDown30, Drop30}
 use Rattle.label_lines.specs.declared.way.Way.{Way}
 use Rattle.label_lines.specs.declared.way.Way.TheVariants as ways
 use Rattle.label_lines.specs.Line.{read_line}
@@ -29,6 +23,7 @@ use Rattle.label_command.specs.AnsweredAgain.{AreTogether, IsAnsweredAgain, Says
 use Rattle.label_command.specs.Labels.{along_labels, answers}
 use Rattle.label_command.specs.TextLines.{HasLines, IsLine, SayLabels, ended}
 use Rattle.label_command.proofs.LinesTold.{answered_whole, are_answered, whole_read}
+use Rattle.label_command.proofs.OneLine.{answer_is_a_line}
 use Rattle.label_command.proofs.ShortLines.{LabelLaws, says_a_label}
 
 -- what the laws of lines and steps say
@@ -52,107 +47,7 @@ record IsOf (base : Timebase) (a : Address) : Type 0 where
   pub label : IsLabel a
   pub count : a.count ≡ count_of base
 
--- ---- an answer has no newline
-
-two_lines : (P : ℕ → Type 0) (a b : List ℕ) → AllByRecursion P a → AllByRecursion P b → AllByRecursion P (a ++ b)
-two_lines P [] b all more = more
-two_lines P (x ∷ a) b all more = (all.0, two_lines P a b all.1 more)
-
-own : IsNumeralModel (AllDigits 10) (digits_value 10)
-own = record { to = λ ds h. h; from = λ ds h. h; same = λ ds h. refl }
-
-digits_no_newline : (ds : List ℕ) → AllDigits 10 ds → IsLine ds
-digits_no_newline [] all = tt
-digits_no_newline (c ∷ ds) all =
-    let range = digit_from_value c all.0 in
-    let least = range.0 in
-    ((λ newline. omega (arith, newline, least)), digits_no_newline ds all.1)
-
-number_no_newline : (n : ℕ) → n < 2 ^ 64 → IsLine (decimal n)
-number_no_newline n fits = digits_no_newline (decimal n) (digits_decimal own n fits)
-
--- the byte is no newline
-abbrev IsOther : ℕ → Type 0
-IsOther byte = byte ≢ 10
-
-above : (n : ℕ) → IsOther (48 + n)
-above n newline = omega (arith, newline)
-
-point : IsOther 46
-point newline = omega (arith, newline)
-
-colon : IsOther 58
-colon newline = omega (arith, newline)
-
-mark : (count : Count) → IsOther (separator count)
-mark counts.C24 newline = omega (arith, newline)
-mark counts.C25 newline = omega (arith, newline)
-mark counts.C30 newline = omega (arith, newline)
-mark counts.Drop30 newline = omega (arith, newline)
-
-digits_no_newline_in : (n : ℕ) → IsLine (two_digits n)
-digits_no_newline_in n = (above (n / 10), (above (n % 10), tt))
-
-text_no_newline : (a : Address) → IsLine (text_of a)
-text_no_newline a = (
-  above (a.hours / 10),
-  (
-    above (a.hours % 10),
-    (
-      colon,
-      (
-        above (a.minutes / 10),
-        (
-          above (a.minutes % 10),
-          (
-            colon,
-            (
-              above (a.seconds / 10),
-              (above (a.seconds % 10), (mark a.count, digits_no_newline_in a.frames)),
-            ),
-          ),
-        ),
-      ),
-    ),
-  ),
-)
-
-seconds_no_newline : (m : ℕ) → m < 2 ^ 64 → IsLine (seconds_text m)
-seconds_no_newline m fits =
-    two_lines IsOther (decimal (m / 1000) ++ 46 ∷ []) ((48 + m % 1000 / 100) ∷ two_digits (m % 100))
-    (two_lines IsOther (decimal (m / 1000)) (46 ∷ []) (number_no_newline (m / 1000) (omega (arith, fits))) (point, tt))
-    (above (m % 1000 / 100), digits_no_newline_in (m % 100))
-
 -- ---- it says the label
-
--- a frame of the day begins at a millisecond below 2 to the 64th
-few_milliseconds : (base : Timebase) (n : ℕ) → n < day_length (count_of base)
-    → millisecond_at (rate_of base) n < 2 ^ 64
-few_milliseconds F24 n below = omega (arith, below)
-few_milliseconds PulledDown24 n below = omega (arith, below)
-few_milliseconds F25 n below = omega (arith, below)
-few_milliseconds F30 n below = omega (arith, below)
-few_milliseconds PulledDown30 n below = omega (arith, below)
-few_milliseconds Drop30 n below = omega (arith, below)
-
-few_labels : (count : Count) (n : ℕ) → n < day_length count → n < 2 ^ 64
-few_labels counts.C24 n below = omega (arith, below)
-few_labels counts.C25 n below = omega (arith, below)
-few_labels counts.C30 n below = omega (arith, below)
-few_labels counts.Drop30 n below = omega (arith, below)
-
-answer_no_newline : AnswerLaws → (base : Timebase) (way : Way) (a : Address) → SaysALabel way → IsOf base a
-    → IsLine (answer base way a)
-answer_no_newline laws base ways.Number a says is =
-    number_no_newline (number_of a) (few_labels a.count (number_of a) (laws.below a is.label))
-answer_no_newline laws base ways.Label a says is = text_no_newline a
-answer_no_newline laws base (ways.Plus steps) a says is = text_no_newline (step a (pos steps))
-answer_no_newline laws base (ways.Minus steps) a says is = text_no_newline (step a (neg_ℤ (pos steps)))
-answer_no_newline laws base ways.Seconds a says is =
-    let below : number_of a < day_length (count_of base) = rw (← is.count) (laws.below a is.label) in
-    seconds_no_newline (millisecond_at (rate_of base) (number_of a)) (few_milliseconds base (number_of a) below)
-answer_no_newline laws base (ways.Since other) a says is = absurd says
-answer_no_newline laws base (ways.To other) a says is = absurd says
 
 stepped_of : AnswerLaws → (base : Timebase) (a : Address) (steps : ℤ) → IsOf base a → IsOf base (step a steps)
 stepped_of laws base a steps is =
@@ -177,7 +72,7 @@ answers_no_newline : AnswerLaws → (base : Timebase) (way : Way) (labels : List
     → AllByRecursion (IsOf base) labels → AllByRecursion IsLine (map (answer base way) labels)
 answers_no_newline laws base way [] says all = tt
 answers_no_newline laws base way (a ∷ labels) says all =
-    (answer_no_newline laws base way a says all.0, answers_no_newline laws base way labels says all.1)
+    (answer_is_a_line base way a (laws.below a all.0.label) all.0.count, answers_no_newline laws base way labels says all.1)
 
 answers_say : AnswerLaws → (base : Timebase) (way : Way) (labels : List Address) → SaysALabel way
     → AllByRecursion (IsOf base) labels

@@ -5,5 +5,6 @@ pub mod BackFromAFaster
 pub mod LabelsAreCommand
 pub mod LinesRead
 pub mod LinesTold
+pub mod OneLine
 pub mod ShortLines
 pub mod TextSplit

@@ -126,7 +126,7 @@ label_from_test a e = record {
   counted = grind (arith, nat_tests);
 }
 
-spelled_label : (c : Count) (text : List ℕ) (a : Address) → label_in c text ≡ Some a → IsLabel a
+pub spelled_label : (c : Count) (text : List ℕ) (a : Address) → label_in c text ≡ Some a → IsLabel a
 spelled_label c text a is =
     let both = cond_some _ (address_in c text) a is in
     subst IsLabel both.1 (label_from_test (address_in c text)

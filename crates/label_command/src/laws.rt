@@ -1,20 +1,22 @@
 //! What follows from the definitions alone: that a text is answered line by line, and what is answered to answers.
 ghost use Rattle.std.specs.Prelude.{◌≡◌, ℕ, ◌+◌, ◌*◌, ◌<◌, ◌≤◌, List, [], ◌∷◌, ◌++◌, Option, Some};
-ghost use Rattle.std.specs.Prelude.{codes, decimal, length};
+ghost use Rattle.std.specs.Prelude.{codes, decimal, length, Ok};
 ghost use Rattle.label_command.specs.AnsweredAgain.{IsAnsweredAgain, Writes};
 ghost use Rattle.label_command.specs.Labels.{IsRefusedAtALine, along_labels, answers};
 ghost use Rattle.label_command.specs.ThereAndBack.{BeginBefore, BeginTogether, IsAsFast, IsLabelOf};
-ghost use Rattle.label_command.specs.TextLines.{HasLines, IsFirstRefused, SayLabels};
+ghost use Rattle.label_command.specs.TextLines.{HasLines, IsFirstRefused, IsLine, SayLabels};
 ghost use Rattle.label_lines.specs.declared.timebase.Timebase.{Timebase};
+ghost use Rattle.label_lines.specs.declared.way.Way.{Way};
 ghost use Rattle.label_lines.specs.declared.way.Way.TheVariants.{Label, Plus, To};
 ghost use Rattle.label_lines.specs.Answer.{answer, label_from_midnight};
-ghost use Rattle.label_lines.specs.Timebase.{rate_of};
+ghost use Rattle.label_lines.specs.Line.{read_line};
+ghost use Rattle.label_lines.specs.Timebase.{count_of, rate_of};
 ghost use Rattle.label_text.specs.declared.fault.LineFault.{LineFault};
 ghost use Rattle.label_text.specs.declared.reader.TheConstants.{MAX_LINES};
 ghost use Rattle.real_time.specs.Moment.{shown_at};
 ghost use Rattle.tc_address.specs.Label.{Address, IsLabel};
 ghost use Rattle.tc_address.specs.Numbering.{number_of};
-ghost use Rattle.tc_address.specs.Spelling.{text_of};
+ghost use Rattle.tc_address.specs.Spelling.{label_in, text_of};
 ghost use Rattle.tc_command.specs.Meaning.{IsInput, Meaning};
 ghost use Rattle.tc_command.specs.Stops.{StopsAlong};
 ghost use Rattle.tc_command.specs.declared.input_fault.InputFault.{InputFault};
@@ -34,6 +36,18 @@ pub fn a_text_has_its_lines()
     ensures some { (text : List ℕ) → (lines : List (List ℕ)) × HasLines text lines }
     ensures one { (text : List ℕ) (a b : List (List ℕ)) → HasLines text a → HasLines text b → a ≡ b }
 {}
+
+/// The text of a label is a line that says it, and each answer is a line, of one byte at least.
+pub fn texts_and_answers_are_lines()
+    ensures text { (base : Timebase) (text : List ℕ) (a : Address) → label_in (count_of base) text ≡ Some a
+        → IsLabel a × (a.count ≡ count_of base) × (read_line base text ≡ Ok a) × IsLine text × (0 < length text) }
+    ensures answer { (base : Timebase) (way : Way) (a : Address) → IsLabel a → a.count ≡ count_of base
+        → IsLine (answer base way a) × (0 < length (answer base way a)) }
+{
+    what_is_written_is_read();
+    a_text_is_read_as_its_label();
+    number_and_label_are_inverse();
+}
 
 /// Lines are answered one by one: all of them if each says a label, those before the first that says none, whose
 /// place is given, and as many as are read.

@@ -1,5 +1,6 @@
 //! What the words name.
 use crate::chase_run::ChaseRun;
+use crate::column_run::ColumnRun;
 use crate::flight::Flight;
 use crate::jam::Jam;
 use crate::label_run::LabelRun;
@@ -89,6 +90,9 @@ pub enum Job {
     /// text, the label further on or back, the way since a label, its seconds, or the label that is shown
     /// then under another count.
     Labels { run: LabelRun },
+    /// `labels COUNT [ntsc] column|csv COLUMNS WAY`: reads a text of any lines, and writes it with the answers in
+    /// the place of the labels in these columns of each line.
+    Columns { run: ColumnRun },
     /// `help`: writes how each command is typed, and where the manual is.
     Help,
     /// `help COMMAND`: writes of the command how it is typed, what it does, its values and examples. The page

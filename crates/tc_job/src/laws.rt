@@ -44,7 +44,7 @@ pub fn each_command_is_typed_so()
         ∷ (codes "vitc-make", codes " COUNT LABEL FRAMES LENGTH")
         ∷ (codes "number", codes " COUNT LABEL")
         ∷ (codes "label", codes " COUNT NUMBER")
-        ∷ (codes "labels", codes " COUNT [ntsc] WAY")
+        ∷ (codes "labels", codes " COUNT [ntsc] [column|csv COLUMNS] WAY")
         ∷ (codes "help", codes " [COMMAND|statuses]")
         ∷ (codes "version", codes "")
         ∷ [] }

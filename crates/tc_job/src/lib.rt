@@ -6,9 +6,9 @@
 //! What this crate promises: each value keeps the ranges of its words, whoever made it (the definitions of
 //! `specs/`, as `IsStripe` of `Stripe.antt`), and gives back what it was made of.
 //!
-//! Read `fault`, `job`, `stripe`, `flight`, `jam`, `chase_run`, `label_run`, `line_stripe`, `load_run`, `luma_run`,
-//! `pace`, `slicing`, `path_grid`, `path_slicing`, `track_path`, `sound_level`, `wave_slicing` and `witness`, with
-//! `specs/` beside them; `usages`, the table that `help` prints; and `page_line`, `pages` and `values`, its pages.
+//! Read `fault`, `job`, `stripe`, `flight`, `jam`, `chase_run`, `label_run`, `column_run`, `line_stripe`, `load_run`,
+//! `luma_run`, `pace`, `slicing`, `path_grid`, `path_slicing`, `track_path`, `sound_level`, `wave_slicing` and
+//! `witness`, with `specs/` beside them; `usages`, the table that `help` prints; and `page_line`, `pages` and `values`, its pages.
 //! How the words are read, and that help says it, is in `forms`. Nothing here allocates or fails.
 //!
 //! A later command joins in these places:
@@ -18,6 +18,7 @@
 #![tactic(auto)]
 
 mod chase_run;
+mod column_run;
 mod fault;
 mod flight;
 mod jam;
@@ -42,6 +43,7 @@ mod wave_slicing;
 mod witness;
 
 pub use chase_run::{ChaseRun, MAX_SLIP};
+pub use column_run::ColumnRun;
 pub use fault::WordsFault;
 pub use flight::Flight;
 pub use jam::Jam;

@@ -212,7 +212,8 @@ pub static SAID: [(&str, PageLine); 24] = [
         (
             "Writes a line for each line of a text: what WAY asks of the label in it. A line\n\
             has a label of the count, the number of one in the day, or seconds since\n\
-            midnight with three decimals, as in 3600.040.\n\
+            midnight with three decimals, as in 3600.040. With columns any text passes, and\n\
+            the answer takes the place of each label in COLUMNS; numbers there stay.\n\
             Standard input is the text. WAY is one of these words, with what follows it.",
             "",
             "",
@@ -231,7 +232,7 @@ pub static SAID: [(&str, PageLine); 24] = [
 ];
 
 /// Its examples, with its words in the middle, each after a space.
-pub static EXAMPLES: [(&str, PageLine); 33] = [
+pub static EXAMPLES: [(&str, PageLine); 34] = [
     ("ltc-read", ("Example: tc ltc-read", "", " < tape.ltci")),
     (
         "ltc-read",
@@ -383,6 +384,14 @@ pub static EXAMPLES: [(&str, PageLine); 33] = [
     (
         "labels",
         ("Example: tc labels", " 30 ntsc to 24 ntsc", " < labels.txt"),
+    ),
+    (
+        "labels",
+        (
+            "Example: tc labels",
+            " 25 column 5-8 plus 00:00:10:00",
+            " < list.edl",
+        ),
     ),
     ("help", ("Example: tc help", " ltc-read", "")),
     ("help", ("Example: tc help", " statuses", "")),

@@ -40,7 +40,7 @@ pub static USAGES: [(&str, &str); 24] = [
     ("vitc-make", " COUNT LABEL FRAMES LENGTH"),
     ("number", " COUNT LABEL"),
     ("label", " COUNT NUMBER"),
-    ("labels", " COUNT [ntsc] WAY"),
+    ("labels", " COUNT [ntsc] [column|csv COLUMNS] WAY"),
     ("help", " [COMMAND|statuses]"),
     ("version", ""),
 ];

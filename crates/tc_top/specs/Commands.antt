@@ -6,6 +6,7 @@ use Rattle.tc_job.specs.declared.job.Job.TheVariants as jobs
 use Rattle.tc_job.specs.declared.witness.Witness.TheVariants.{NotAsked, Asked, Consecutive}
 use Rattle.tc_command.specs.Meaning.{Meaning}
 use Rattle.tc_command.specs.Told.{Told}
+use Rattle.column_command.specs.AnsweredText.{told_columns}
 use Rattle.interval_commands.specs.FirmTape.{told_ltc_consecutive, told_ltc_firm}
 use Rattle.interval_commands.specs.LtcConvert.{told_ltc_convert}
 use Rattle.interval_commands.specs.LtcPcm.{told_ltc_pcm}
@@ -57,6 +58,7 @@ told_of (jobs.VitcMake stripe) = told_vitc_make stripe
 told_of (jobs.Number label) = told_number label
 told_of (jobs.LabelOf label) = told_label label
 told_of (jobs.Labels run) = told_labels run
+told_of (jobs.Columns run) = told_columns run
 told_of jobs.Help = told_help
 told_of (jobs.HelpOf page) = told_page page
 told_of jobs.HelpStatuses = told_statuses

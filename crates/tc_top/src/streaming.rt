@@ -14,6 +14,7 @@ ghost use Rattle.tc_top.specs.Commands.{meaning_of, told_of};
 
 use crate::reading_on::it_is_read_on;
 use biphase::Profile;
+use column_command::{answer_columns, columns_are_lawful};
 use frame_commands::{
     chase_code, copies_are_lawful, flown_frames_are_lawful, fly_along, jam_sync,
     messages_are_lawful, send_time_code, spans_are_lawful, tell_spans, traces_are_lawful,
@@ -111,6 +112,7 @@ pub(crate) fn each_job_is_lawful()
     numbers_are_lawful();
     names_are_lawful();
     labels_are_lawful();
+    columns_are_lawful();
 }
 
 /// Works a job to its end, or to where it stops.
@@ -150,6 +152,7 @@ fn work_on<S: Source, K: Sink>(job: &Job, source: &mut S, out: &mut K) -> Result
         Job::Number { label } => tell_number(label, source, out),
         Job::LabelOf { label } => tell_label(label, source, out),
         Job::Labels { run } => answer_labels(run, source, out),
+        Job::Columns { run } => answer_columns(run, source, out),
         Job::Help => tell_help(source, out),
         Job::HelpOf { page } => tell_page(*page, source, out),
         Job::HelpStatuses => tell_statuses(source, out),

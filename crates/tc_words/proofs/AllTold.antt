@@ -17,7 +17,7 @@ use Rattle.forms.specs.Number.{Word, between, number_spelled}
 use Rattle.tc_job.specs.declared.fault.WordsFault.TheVariants as faults
 use Rattle.tc_job.specs.declared.job.Task.{Task}
 use Rattle.forms.specs.Reading.{read, read_on}
-use Rattle.forms.specs.Slot.{value_in}
+use Rattle.forms.specs.Slot.{columns_read, value_in}
 use Rattle.forms.specs.declared.value.Value.{Value}
 use Rattle.tc_words.specs.Forms.{between_bars}
 use Rattle.forms.specs.Help.{range_text, ways, ways_by}
@@ -50,8 +50,8 @@ read_told command place before (slot ∷ slots) (word ∷ words) names ok =
 
 -- the page of each command names what its slots take
 each_names : list_all (λ (row : Row). names_slots row.0 1 row.2) forms ≡ true
-unfolding digits forms choices between_bars between_spaces between number_spelled range_text rows_from slot_rows
-    value_rows ways ways_by
+unfolding digits forms choices between_bars between_spaces between number_spelled columns_read range_text rows_from
+    slot_rows value_rows ways ways_by
 each_names = refl
 
 -- the form that is found is one of the table

@@ -3,12 +3,14 @@
 use Rattle.std.proofs.Common.{◌≡◌, Some, rules, slice_get}
 use Rattle.forms.specs.Choice.{choices, said_by}
 use Rattle.forms.specs.Form.{form_of, forms}
-use Rattle.forms.specs.Made.{chase_in, jam_in, labels_in, line_stripe_in, load_in, luma_in, path_slicing_in, since_in}
+use Rattle.forms.specs.Made.{chase_in, columns_in, columns_since_in, jam_in, labels_in, line_stripe_in, load_in}
+use Rattle.forms.specs.Made.{luma_in, path_slicing_in, since_in}
 use Rattle.forms.specs.Made.{slicing_in, stripe_in, task_in, track_path_in, wave_slicing_in}
 use Rattle.forms.specs.Named.{task_of}
 use Rattle.forms.specs.Number.{between, number_spelled}
 use Rattle.forms.specs.Reading.{read_on}
-use Rattle.forms.specs.Slot.{label_read, numbered, path_fineness_in, path_rate_in, topic_in}
+use Rattle.forms.specs.Slot.{columns_read, frames_read, label_read, numbered, path_fineness_in, path_rate_in}
+use Rattle.forms.specs.Slot.{topic_in}
 use Rattle.tc_job.specs.PathGrid.{first_fit}
 use Rattle.tc_address.specs.declared.count.Count.TheVariants.{C30}
 use Rattle.tc_address.specs.Label.{address}
@@ -18,5 +20,6 @@ use Rattle.tc_words.specs.Forms.{AreTaken, between_bars, read_form, rows}
 pub forms_taken : slice_get (day C30) 0 ≡ Some (address C30 0 0 0 0) → AreTaken rows
 unfolding between_bars read_form task_of form_of forms choices said_by read_on between number_spelled numbered
     label_read path_rate_in path_fineness_in topic_in first_fit task_in jam_in chase_in stripe_in load_in
-    line_stripe_in slicing_in wave_slicing_in path_slicing_in track_path_in luma_in labels_in since_in
+    line_stripe_in slicing_in wave_slicing_in path_slicing_in track_path_in luma_in labels_in since_in columns_read
+    frames_read columns_in columns_since_in
 forms_taken first = rw first (search rules)

@@ -1,14 +1,18 @@
 -- A number that a slot takes is named by a text that names its range.
 use Rattle.std.proofs.Common.{◌≡◌, ◌≤◌, ◌<◌, ℕ, Bool, true, false, not, ◌&&◌, ◌||◌, List, [], ◌∷◌, Some, None, refl}
-use Rattle.std.proofs.Common.{◌^◌, arith, cond, nat_lt, le-leb}
+use Rattle.std.proofs.Common.{◌^◌, arith, cond, nat_lt, le-leb, inl, inr}
 use Rattle.std.specs.Prelude.{nat_le, option_and_then}
 use Rattle.std.specs.declared.option.Option.{Option}
+use Rattle.std.specs.List.{list_any}
 use Rattle.std.specs.Option.{is_some}
 use Rattle.std.specs.Str.Parse.{digits_value}
 use Rattle.std.proofs.lemmas.Bool.Decides.{nat_tests}
-use Rattle.std.proofs.lemmas.Bool.{and_parts, leb-true}
+use Rattle.std.proofs.lemmas.Bool.{and_parts, leb-true, or_cases}
 use Rattle.forms.specs.Number.{Word, between, is_number, number_spelled}
-use Rattle.tc_words.specs.Pages.{are_digits, between_spaces, is_among, is_named, is_of_labels}
+use Rattle.forms.specs.Slot.{columns_read}
+use Rattle.tc_words.specs.Forms.{between_bars}
+use Rattle.tc_words.specs.Pages.{are_digits, between_spaces, is_among, is_label, is_named, is_named_by, is_of_columns}
+use Rattle.tc_words.specs.Pages.{is_of_labels}
 
 -- the text names each number of a range
 abbrev names_numbers : ℕ → ℕ → List Word → Bool
@@ -17,8 +21,27 @@ names_numbers least most (first ∷ to ∷ last ∷ []) =
     not (are_digits last) || nat_le (digits_value 10 first) least && nat_le most (digits_value 10 last)
 names_numbers least most _ = true
 
+-- one text does
+abbrev names_them : ℕ → ℕ → List ℕ → Bool
+names_them least most text =
+    not (is_of_labels text) && (not (is_of_columns text) && names_numbers least most (between_spaces text))
+
+-- and one of some texts with bars between them
 abbrev pub names_range : ℕ → ℕ → List ℕ → Bool
-names_range least most named = not (is_of_labels named) && names_numbers least most (between_spaces named)
+names_range least most named = list_any (names_them least most) (between_bars named)
+
+-- if one has the one property, and each that has it has the other, then one has that
+pub one_of : {X : Type 0} (p q : X → Bool) (xs : List X) → ((x : X) → p x ≡ true → q x ≡ true)
+    → list_any p xs ≡ true → list_any q xs ≡ true
+one_of p q [] each any = absurd cc
+one_of p q (x ∷ xs) each any = elim (or_cases (p x) _ any) [
+  | inl this ↦ rw (each x this) refl
+  | inr later ↦ either (q x) _ (one_of p q xs each later)
+]
+  where
+    either : (a b : Bool) → b ≡ true → (a || b) ≡ true
+    either true b is = refl
+    either false b is = is
 
 pub first_some : {X Y : Type 0} (f : X → Option Y) (o : Option X) (y : Y) → option_and_then f o ≡ Some y
     → (x : X) × (o ≡ Some x) × (f x ≡ Some y)
@@ -78,12 +101,24 @@ among least most (first ∷ to ∷ last ∷ []) word n names spelled low high = 
     go false is tests = rw spelled refl
 among least most (first ∷ to ∷ last ∷ more ∷ rest) word n names spelled low high = rw spelled refl
 
+text_names : (least most : ℕ) (text : List ℕ) (word : Word) (n : ℕ) → names_them least most text ≡ true
+    → number_spelled word ≡ Some n → least ≤ n → n ≤ most → is_named_by word text ≡ true
+text_names least most text word n names spelled low high =
+    let all = and_parts (not (is_of_labels text)) _ names in
+    let others = and_parts (not (is_of_columns text)) _ all.1 in
+    go (is_of_labels text) (is_of_columns text) all.0 others.0
+    (among least most (between_spaces text) word n others.1 spelled low high)
+  where
+    go : (labels columns : Bool) → not labels ≡ true → not columns ≡ true
+        → is_among (between_spaces text) word ≡ true
+        → cond labels (is_label word) (cond columns (is_some (columns_read word)) (is_among (between_spaces text) word))
+        ≡ true
+    go true columns other more is = absurd cc
+    go false true other more is = absurd cc
+    go false false other more is = is
+
 pub number_named : (least most : ℕ) (named : List ℕ) (word : Word) (n : ℕ) → names_range least most named ≡ true
     → number_spelled word ≡ Some n → least ≤ n → n ≤ most → is_named named word ≡ true
-number_named least most named word n names spelled low high = go (is_of_labels named) refl
-    (and_parts (not (is_of_labels named)) _ names).0
-  where
-    go : (labels : Bool) → is_of_labels named ≡ labels → not labels ≡ true → is_named named word ≡ true
-    go true is other = absurd cc
-    go false is other = rw is (among least most (between_spaces named) word n
-        (and_parts (not (is_of_labels named)) _ names).1 spelled low high)
+number_named least most named word n names spelled low high =
+    one_of (names_them least most) (is_named_by word) (between_bars named)
+    (λ text is. text_names least most text word n is spelled low high) names

@@ -1,25 +1,26 @@
 -- A word that a slot takes is named by the page, if the page names what the slot takes: this is a test that is
 -- computed.
-use Rattle.std.proofs.Common.{◌≡◌, ◌≤◌, ℕ, Bool, true, false, not, ◌&&◌, List, [], ◌∷◌, length, Some, None, refl}
-use Rattle.std.proofs.Common.{◌||◌, ◌<◌, ◌+◌, ◌^◌, arith, inl, inr, zero, suc, get_or, cond, min, nat_lt, le-leb, rules}
-use Rattle.std.specs.Prelude.{codes, nat_eq, nat_le, option_map, option_and_then, slice_get, position}
+use Rattle.std.proofs.Common.{◌≡◌, ◌≤◌, ℕ, Bool, true, false, ◌&&◌, List, [], ◌∷◌, length, Some, None, refl}
+use Rattle.std.proofs.Common.{◌<◌, ◌+◌, arith, zero, suc, get_or, cond, min, rules}
+use Rattle.std.specs.Prelude.{codes, nat_eq, option_map, option_and_then, slice_get, position}
 use Rattle.std.specs.declared.option.Option.{Option}
 use Rattle.std.specs.List.{list_all, list_any}
 use Rattle.std.specs.Option.{is_some}
 use Rattle.std.specs.Str.{bytes_eq}
-use Rattle.std.proofs.lemmas.Bool.{and_parts, leb-true, or_cases}
+use Rattle.std.proofs.lemmas.Bool.{and_parts}
 use Rattle.std.proofs.lemmas.List.Quantifiers.{position-Some}
 use Rattle.std.proofs.lemmas.Slice.Eq.{bytes_eq-Decides}
 use Rattle.tc_address.specs.declared.count.Count.{Count}
 use Rattle.tc_address.specs.declared.count.Count.TheVariants.{C24, C25, C30, Drop30}
+use Rattle.tc_address.specs.Numbering.{number_of}
 use Rattle.tc_address.specs.Spelling.{label_in}
 use Rattle.tc_job.specs.declared.usages.TheConstants.{USAGES}
 use Rattle.forms.specs.Choice.{choices, said_by, said_in}
 use Rattle.forms.specs.Form.{SlotRow}
 use Rattle.forms.specs.Number.{Word, between, number_spelled}
 use Rattle.forms.specs.Held.{count_at}
-use Rattle.forms.specs.Slot.{bounded_by, is_live, label_read, numbered, path_fineness_in, path_rate_in, pulled_in}
-use Rattle.forms.specs.Slot.{topic_in, value_in, value_of}
+use Rattle.forms.specs.Slot.{bounded_by, columns_read, frames_read, is_live, label_read, numbered, path_fineness_in}
+use Rattle.forms.specs.Slot.{path_rate_in, pulled_in, topic_in, value_in, value_of}
 use Rattle.forms.specs.declared.choices.TheConstants.{NTSC, STATUSES}
 use Rattle.forms.specs.declared.slot.Need.{Need}
 use Rattle.forms.specs.declared.slot.Need.TheVariants.{Needed, Optional, OrLive}
@@ -31,8 +32,10 @@ use Rattle.forms.specs.declared.value.Value.{Value}
 use Rattle.forms.specs.declared.value.Value.TheVariants as values
 use Rattle.limits.specs.declared.recording.TheConstants.{MAX_TICK_RATE}
 use Rattle.tc_job.specs.declared.slicing.TheConstants.{MAX_FINENESS}
-use Rattle.tc_words.specs.Pages.{ValueRow, is_label, is_named, is_of_labels, is_told, value_rows}
-use Rattle.tc_words.proofs.NumbersNamed.{between_is, first_some, names_range, number_named, small}
+use Rattle.tc_words.specs.Forms.{between_bars}
+use Rattle.tc_words.specs.Pages.{ValueRow, is_label, is_named, is_named_by, is_of_columns, is_of_labels, is_told}
+use Rattle.tc_words.specs.Pages.{value_rows}
+use Rattle.tc_words.proofs.NumbersNamed.{between_is, first_some, names_range, number_named, one_of, small}
 
 -- ---- the test
 
@@ -46,19 +49,29 @@ abbrev names_choice : Word → ℕ → ℕ → Bool
 names_choice command place choice =
     elim (slice_get choices choice) [ None ↦ true | Some words ↦ list_all (λ row. is_told command place row.0) words ]
 
+-- the text names all labels, or all columns
+abbrev names_labels : List ℕ → Bool
+names_labels named = list_any is_of_labels (between_bars named)
+
+abbrev names_columns : List ℕ → Bool
+names_columns named = list_any is_of_columns (between_bars named)
+
 -- the page names what the slot takes
 abbrev pub names_slot : Word → ℕ → Slot → Bool
 names_slot command place (slots.Number least most) = has_row (names_range least most) command place value_rows
 names_slot command place (slots.Bounded least most bound) = has_row (names_range least most) command place value_rows
 names_slot command place slots.Seed = has_row (names_range 0 18446744073709551615) command place value_rows
 names_slot command place (slots.OneOf choice) = names_choice command place choice
-names_slot command place (slots.Label count) = has_row is_of_labels command place value_rows
+names_slot command place (slots.Label count) = has_row names_labels command place value_rows
 names_slot command place (slots.NumberOfDay count) =
     has_row (names_range 0 18446744073709551615) command place value_rows
 names_slot command place (slots.Ntsc count) = names_choice command place NTSC
 names_slot command place (slots.PathRate system) = has_row (names_range 1 MAX_TICK_RATE) command place value_rows
 names_slot command place (slots.PathFineness system rate) =
     has_row (names_range 1 MAX_FINENESS) command place value_rows
+names_slot command place (slots.Frames count) =
+    has_row (names_range 0 4294967295) command place value_rows && has_row names_labels command place value_rows
+names_slot command place slots.Columns = has_row names_columns command place value_rows
 names_slot command place slots.Topic =
     names_choice command place STATUSES && list_all (λ usage. is_told command place usage.0.now) USAGES
 
@@ -73,10 +86,6 @@ names_slots command place (slot ∷ more) =
     names_need command place slot.0 && names_slot command place slot.1 && names_slots command (place + 1) more
 
 -- ---- lists and tests
-
-either : (a b : Bool) → b ≡ true → (a || b) ≡ true
-either true b is = refl
-either false b is = is
 
 all_at : {X : Type 0} (q : X → Bool) (xs : List X) (i : ℕ) (d : X) → i < length xs → list_all q xs ≡ true
     → q (get_or xs i d) ≡ true
@@ -100,15 +109,12 @@ row_tells : (is : List ℕ → Bool) (command : Word) (place : ℕ) (word : Word
     → ((named : List ℕ) → is named ≡ true → is_named named word ≡ true) → has_row is command place rows ≡ true
     → list_any (λ (row : ValueRow). bytes_eq row.command command && nat_eq row.place place
     && is_named row.named word) rows ≡ true
-row_tells is command place word [] names has = absurd cc
-row_tells is command place word (row ∷ rows) names has =
-    let at = bytes_eq row.command command && nat_eq row.place place in
-    elim (or_cases (at && is row.named) _ has) [
-      | inl this ↦
-          let parts = and_parts at (is row.named) this in
-          rw (parts.0, names row.named parts.1) refl
-      | inr later ↦ either (at && is_named row.named word) _ (row_tells is command place word rows names later)
-    ]
+row_tells is command place word rows names has =
+    one_of (λ (row : ValueRow). bytes_eq row.command command && nat_eq row.place place && is row.named)
+    (λ (row : ValueRow). bytes_eq row.command command && nat_eq row.place place && is_named row.named word) rows
+    (λ row at.
+      let parts = and_parts (bytes_eq row.command command && nat_eq row.place place) (is row.named) at in
+      rw (parts.0, names row.named parts.1) refl) has
 
 range_tells : (command : Word) (place least most : ℕ) (word : Word) (n : ℕ)
     → has_row (names_range least most) command place value_rows ≡ true → number_spelled word ≡ Some n → least ≤ n
@@ -157,10 +163,18 @@ unfolding label_read
 is_of_label count word v is =
     let (label, at) = mapped _ (label_in count word) v is in label_told count word (rw at refl)
 
-label_tells : (command : Word) (place : ℕ) (word : Word) → has_row is_of_labels command place value_rows ≡ true
+label_tells : (command : Word) (place : ℕ) (word : Word) → has_row names_labels command place value_rows ≡ true
     → is_label word ≡ true → is_told command place word ≡ true
 label_tells command place word has is =
-    row_tells is_of_labels command place word value_rows (λ named labels. rw labels is) has
+    row_tells names_labels command place word value_rows
+    (λ named. one_of is_of_labels (is_named_by word) (between_bars named) (λ text labels. rw labels is)) has
+
+columns_tell : (command : Word) (place : ℕ) (word : Word) → has_row names_columns command place value_rows ≡ true
+    → is_some (columns_read word) ≡ true → is_told command place word ≡ true
+columns_tell command place word has is =
+    row_tells names_columns command place word value_rows
+    (λ named. one_of is_of_columns (is_named_by word) (between_bars named)
+    (λ text columns. rw ((bytes_eq-Decides text (codes "N-M")).0 columns) is)) has
 
 pulled_tells : (command : Word) (place : ℕ) (count : Count) (word : Word) (v : Value)
     → names_choice command place NTSC ≡ true → pulled_in count word ≡ Some v → is_told command place word ≡ true
@@ -196,6 +210,23 @@ range_told command place least most word n has is =
     let (spelled, low, high) = between_is least most word n is in
     range_tells command place least most word n has spelled low high
 
+-- so many frames: a number, or a label
+frames_tell : (command : Word) (place : ℕ) (count : Count) (word : Word) (v : Value)
+    → has_row (names_range 0 4294967295) command place value_rows ≡ true
+    → has_row names_labels command place value_rows ≡ true → frames_read count word ≡ Some v
+    → is_told command place word ≡ true
+unfolding frames_read
+frames_tell command place count word v numbers labels is = go (between 0 4294967295 word) refl is
+  where
+    go : (o : Option ℕ) → between 0 4294967295 word ≡ o → elim o [
+      | Some n ↦ Some (values.Number n)
+      | None ↦ option_map (λ label. values.Number (number_of label)) (label_in count word)
+    ] ≡ Some v → is_told command place word ≡ true
+    go (Some n) at is = range_told command place 0 4294967295 word n numbers at
+    go None at is =
+        let (label, found) = mapped _ (label_in count word) v is in
+        label_tells command place word labels (label_told count word (rw found refl))
+
 value_tells : (command : Word) (place : ℕ) (slot : Slot) (before : List Value) (word : Word) (v : Value)
     → names_slot command place slot ≡ true → value_of slot before word ≡ Some v → is_told command place word ≡ true
 unfolding path_rate_in path_fineness_in numbered
@@ -224,6 +255,10 @@ value_tells command place (slots.PathRate system) before word v names is =
 value_tells command place (slots.PathFineness system rate) before word v names is =
     let (n, at, rest) = first_some _ (between 1 MAX_FINENESS word) v is in
     range_told command place 1 MAX_FINENESS word n names at
+value_tells command place (slots.Frames count) before word v names is =
+    let both = and_parts (has_row (names_range 0 4294967295) command place value_rows) _ names in
+    frames_tell command place (count_at before count) word v both.0 both.1 is
+value_tells command place slots.Columns before word v names is = columns_tell command place word names (rw is refl)
 value_tells command place slots.Topic before word v names is = topic_tells command place word v names is
 
 live_tells : (command : Word) (place : ℕ) (need : Need) (last : Bool) (word : Word)

@@ -15,7 +15,8 @@ use Rattle.forms.specs.Named.{task_of}
 -- a value for each word in capitals
 abbrev pub samples : List (Word × Word)
 samples =
-    (codes "BOUND", codes "2") ∷ (codes "CELL", codes "400") ∷ (codes "COMMAND", codes "help")
+    (codes "BOUND", codes "2") ∷ (codes "CELL", codes "400") ∷ (codes "COLUMNS", codes "5-8")
+    ∷ (codes "COMMAND", codes "help")
     ∷ (codes "COUNT", codes "30")
     ∷ (codes "DIRECTION", codes "backward") ∷ (codes "FINENESS", codes "8") ∷ (codes "FIRST", codes "4")
     ∷ (codes "FRAMES", codes "100") ∷ (codes "HEIGHT", codes "288")

@@ -1,6 +1,6 @@
 -- What the pages of help name, and what is read: the values of a line, and the examples.
 use Rattle.std.specs.Prelude.{◌≡◌, ℕ, ◌+◌, ◌-◌, ◌==◌, nat_eq, nat_le, nat_lt, Bool, true}
-use Rattle.std.specs.Prelude.{false, ◌&&◌, List, [], ◌∷◌, ◌++◌}
+use Rattle.std.specs.Prelude.{false, ◌&&◌, ◌||◌, List, [], ◌∷◌, ◌++◌}
 use Rattle.std.specs.Prelude.{codes, length, drop, take, map, if◌then◌else◌}
 use Rattle.std.specs.Prelude.{Result, Ok, Err}
 use Rattle.std.specs.Char.{is_ascii_digit}
@@ -23,6 +23,7 @@ use Rattle.forms.specs.declared.slot.Need.TheVariants.{OrLive}
 use Rattle.tc_words.specs.Forms.{between_bars, in_front, rows}
 use Rattle.forms.specs.Number.{Word, between, number_spelled}
 use Rattle.forms.specs.Named.{task_of}
+use Rattle.forms.specs.Slot.{columns_read}
 
 -- ---- the values that a text names
 
@@ -35,6 +36,10 @@ between_spaces (byte ∷ more) = if byte == 0x20 then [] ∷ between_spaces more
 abbrev pub is_of_labels : List ℕ → Bool
 is_of_labels values = bytes_eq values (codes "HH:MM:SS:FF")
 
+-- `N-M` stands for neighbouring columns
+abbrev pub is_of_columns : List ℕ → Bool
+is_of_columns values = bytes_eq values (codes "N-M")
+
 -- a label of some count
 abbrev pub is_label : Word → Bool
 is_label word = list_any (λ count. is_some (label_in count word)) (C24 ∷ C25 ∷ C30 ∷ Drop30 ∷ [])
@@ -42,26 +47,38 @@ is_label word = list_any (λ count. is_some (label_in count word)) (C24 ∷ C25 
 abbrev pub are_digits : Word → Bool
 are_digits = list_all is_ascii_digit
 
--- one of some words with bars between them, or a number: of the range, if the text is `A to B`
+-- a word that stands for itself, or a number: of the range, if the text is `A to B`
 abbrev pub is_among : List Word → Word → Bool
-is_among (one ∷ []) word = list_any (λ value. bytes_eq word value) (between_bars one)
+is_among (one ∷ []) word = bytes_eq word one
 is_among (first ∷ to ∷ last ∷ []) word =
     if are_digits last then is_some (between (digits_value 10 first) (digits_value 10 last) word)
     else is_some (number_spelled word)
 is_among _ word = is_some (number_spelled word)
 
--- the text names the word
-abbrev pub is_named : List ℕ → Word → Bool
-is_named values word = if is_of_labels values then is_label word else is_among (between_spaces values) word
+-- one text names the word
+abbrev pub is_named_by : Word → List ℕ → Bool
+is_named_by word values =
+    if is_of_labels values then is_label word
+    else if is_of_columns values then is_some (columns_read word)
+    else is_among (between_spaces values) word
 
--- the values that it spells: each of the words, or both ends of a range
+-- one of some texts with bars between them names the word
+abbrev pub is_named : List ℕ → Word → Bool
+is_named values word = list_any (is_named_by word) (between_bars values)
+
+-- the values that one text spells: the word, or both ends of a range
 abbrev pub spelled_among : List Word → List Word
-spelled_among (one ∷ []) = between_bars one
+spelled_among (one ∷ []) = one ∷ []
 spelled_among (first ∷ to ∷ last ∷ []) = if are_digits last then first ∷ last ∷ [] else first ∷ []
 spelled_among _ = []
 
+abbrev pub spelled_by : List ℕ → List Word
+spelled_by values =
+    if is_of_labels values || is_of_columns values then [] else spelled_among (between_spaces values)
+
+-- those of all of them
 abbrev pub spelled_in : List ℕ → List Word
-spelled_in values = if is_of_labels values then [] else spelled_among (between_spaces values)
+spelled_in values = flat_map spelled_by (between_bars values)
 
 -- ---- the tables
 

@@ -38,6 +38,7 @@ returns c = lawful
     lawful (jobs.Number label) = c.numbers_are_lawful.ensures label
     lawful (jobs.LabelOf label) = c.names_are_lawful.ensures label
     lawful (jobs.Labels run) = c.labels_are_lawful.ensures run
+    lawful (jobs.Columns run) = c.columns_are_lawful.ensures run
     lawful jobs.Help = text_is_lawful _
     lawful (jobs.HelpOf page) = text_is_lawful _
     lawful jobs.HelpStatuses = text_is_lawful _

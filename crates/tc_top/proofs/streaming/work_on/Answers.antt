@@ -1,6 +1,6 @@
 use Rattle.tc_top.proofs.streaming.work_on.Goals as goal
 
--- a search does not see these four: what is claimed of them unfolds too far
+-- a search does not see these five: what is claimed of them unfolds too far
 pub returns-in-LtcMake : goal.returns-in-LtcMake
 returns-in-LtcMake g c = rw c.in-LtcMake.is c.make_recording.ensures
 
@@ -12,3 +12,6 @@ returns-in-LabelOf g c = rw c.in-LabelOf.is c.tell_label.ensures
 
 pub returns-in-Labels : goal.returns-in-Labels
 returns-in-Labels g c = rw c.in-Labels.is c.answer_labels.ensures
+
+pub returns-in-Columns : goal.returns-in-Columns
+returns-in-Columns g c = rw c.in-Columns.is c.answer_columns.ensures

@@ -1,0 +1,4 @@
+pub mod AnsweredText
+pub mod KeptLine
+pub mod LineLemmas
+pub mod OnlyColumns

@@ -1,0 +1,174 @@
+//! The engine of `labels` with columns. Read next: `answering`, and then `tc_command/src/output.rt`.
+ghost use Rattle.std.specs.Prelude.{◌≡◌, ◌<◌, ◌≤◌, ◌+◌, ◌∷◌, ◌++◌, ℕ, List, [], length, take, get_or, false};
+ghost use Rattle.std.specs.List.{position_or_len};
+ghost use Rattle.arrayvec.specs.ArrayVec.{array_vec_len};
+ghost use Rattle.column_command.specs.AnsweredText.{answered, told_columns};
+ghost use Rattle.column_command.specs.KeptLine.{Keeps, Stands, passed};
+ghost use Rattle.label_columns.specs.Columns.{is_newline};
+ghost use Rattle.label_columns.specs.Parts.{part_of};
+ghost use Rattle.label_columns.specs.declared.columns.TheConstants.{MAX_COLUMN_LINE};
+ghost use Rattle.label_command.specs.TextLines.{IsLine};
+ghost use Rattle.tc_command.specs.Told.{IsLawful, IsTold, WorksAsTold};
+ghost use Rattle.tc_job.specs.declared.column_run.ColumnRun.{ColumnRun};
+
+use crate::answering::put_answers;
+use arrayvec::ArrayVec;
+use label_columns::MAX_COLUMN_LINE;
+use tc_command::{Engine, Halt, InputFault, Output, Stop, run as run_along};
+use tc_io::{Sink, Source};
+use tc_job::ColumnRun;
+
+/// The most bytes of a text whose columns are answered.
+pub const MAX_TEXT: u64 = 1_000_000_000_000;
+
+/// Works `labels` with columns.
+pub fn answer_columns<S: Source, K: Sink>(
+    run: &ColumnRun,
+    source: &mut S,
+    out: &mut K,
+) -> Result<(), Stop>
+    ensures { WorksAsTold (told_columns run.now) S.left S.ends S.faults K.written K.faults source.old source.new
+        out.old out.new result }
+{
+    columns_are_told();
+    run_along(&mut ColumnAnswers::new(run), source, out)
+}
+
+/// What is claimed of them holds.
+fn columns_are_told()
+    ensures { (run : ColumnRun) → IsTold (told_columns run) }
+{
+    columns_are_lawful();
+}
+
+/// What is claimed of `labels` with columns is lawful.
+pub fn columns_are_lawful()
+    ensures { (run : ColumnRun) → IsLawful (told_columns run) }
+{}
+
+/// What is kept of a text: the line that no newline has ended yet, as long as it is not too long to be answered.
+#[derive(Drop)]
+struct ColumnAnswers {
+    run: ColumnRun,
+    left: u64,
+    line: ArrayVec<u8, MAX_COLUMN_LINE>,
+    is_long: bool,
+}
+
+impl ColumnAnswers {
+    /// Before the first byte.
+    fn new(run: &ColumnRun) -> ColumnAnswers
+        ensures stands { Stands result [] [] }
+        ensures run { result.run ≡ run.now }
+    {
+        ColumnAnswers {
+            run: *run,
+            left: MAX_TEXT,
+            line: ArrayVec::new(),
+            is_long: false,
+        }
+    }
+
+    /// Takes bytes of a line. Those of a line that is too long pass.
+    fn go_on<O: Output>(&mut self, more: &[u8], out: &mut O)
+        requires few { length more.now ≤ MAX_COLUMN_LINE }
+        ensures run { self.new.run ≡ self.old.run }
+        ensures left { self.new.left ≡ self.old.left }
+        ensures keeps { (line : List ℕ) → Keeps self.old line → Keeps self.new (line ++ more.now) }
+        ensures given { (line : List ℕ) → Keeps self.old line → (put : List ℕ) × O.given out.old out.new put
+            × (passed self.old line ++ put ≡ passed self.new (line ++ more.now)) }
+    {
+        if self.is_long {
+            out.gather(more);
+            return;
+        }
+        let Err(_) = self.line.try_extend_from_slice(more) else {
+            return;
+        };
+        out.gather(&self.line);
+        out.gather(more);
+        self.line.clear();
+        self.is_long = true;
+    }
+
+    /// Ends a line, and goes on to the next.
+    fn end_line<O: Output>(&mut self, out: &mut O)
+        ensures run { self.new.run ≡ self.old.run }
+        ensures left { self.new.left ≡ self.old.left }
+        ensures keeps { (line : List ℕ) → Keeps self.old line → Keeps self.new [] }
+        ensures short { self.new.is_long ≡ false }
+        ensures given { (line : List ℕ) → Keeps self.old line → (put : List ℕ) × O.given out.old out.new put
+            × (passed self.old line ++ put ≡ answered self.old.run (part_of line (10 ∷ []))) }
+    {
+        if self.is_long {
+            self.is_long = false;
+            out.gather(b"\n");
+            return;
+        }
+        put_answers(&self.run, &self.line, out);
+        self.line.clear();
+        out.gather(b"\n");
+    }
+}
+
+impl Engine for ColumnAnswers {
+    ghost use Rattle.column_command.specs.AnsweredText.{along_columns};
+    ghost use Rattle.column_command.specs.KeptLine.{Stands, stands_well};
+
+    type Choice = ColumnRun;
+
+    ghost meaning = { λ run. along_columns run };
+
+    ghost choice = { λ s. s.run };
+
+    ghost is_going = { λ s. Unit {0} };
+
+    ghost stands = { λ s bytes written. Stands s bytes written };
+
+    ghost budget = { λ s. s.left };
+
+    ghost stands_well = { λ s bytes written stands. stands_well s bytes written stands };
+
+    fn take<O: Output>(&mut self, bytes: &[u8], out: &mut O) -> Result<usize, Halt> {
+        if self.left == 0 {
+            return Err(Halt::Limit);
+        }
+        if bytes[0] == b'\n' {
+            self.end_line(out);
+            self.left -= 1;
+            return Ok(1);
+        }
+        let count = line_length(bytes, self.left);
+        self.go_on(&bytes[..count], out);
+        self.left -= count as u64;
+        Ok(count)
+    }
+
+    fn finish<O: Output>(&mut self, out: &mut O) -> Result<(), InputFault> {
+        if !self.is_long {
+            put_answers(&self.run, &self.line, out);
+        }
+        Ok(())
+    }
+}
+
+/// How many bytes there are up to the first newline, at most as many as a line keeps and are left.
+fn line_length(bytes: &[u8], left: u64) -> usize
+    requires some { 0 < length bytes.now }
+    requires left { 0 < left }
+    ensures least { is_newline (get_or bytes.now 0 0) ≡ false → 1 ≤ result }
+    ensures most { result ≤ length bytes.now }
+    ensures few { result ≤ MAX_COLUMN_LINE }
+    ensures within { result ≤ left }
+    ensures line { IsLine (take result bytes.now) }
+{
+    let most = bytes
+        .len()
+        .min(MAX_COLUMN_LINE)
+        .min(left.min(MAX_COLUMN_LINE as u64) as usize);
+    let mut at = 0;
+    'bytes: while at < most && bytes[at] != b'\n' {
+        at += 1;
+    }
+    at
+}
