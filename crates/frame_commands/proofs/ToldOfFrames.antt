@@ -9,7 +9,8 @@ use Rattle.tc_command.specs.Command.{IsCommand}
 use Rattle.tc_command.specs.Meaning.{Meaning}
 use Rattle.tc_command.specs.Told.{IsLawful, IsTold}
 use Rattle.interval_engine.specs.Along.{along_intervals}
-use Rattle.interval_engine.specs.KeptCommand.{PrintsInOrder, RecordingsGrow, along_is_command, never_spent}
+use Rattle.interval_file.specs.Growing.{RecordingsGrow}
+use Rattle.interval_engine.specs.KeptCommand.{PrintsInOrder, along_is_command, never_spent}
 use Rattle.frame_commands.specs.KeptFrames.{AddsInOrder}
 use Rattle.frame_commands.specs.LtcChase.{ChasesTheInput, lines_of_steps, told_ltc_chase}
 use Rattle.frame_commands.specs.LtcFly.{lines_of_frames, told_ltc_fly}

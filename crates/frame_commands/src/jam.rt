@@ -17,7 +17,7 @@ use crate::laws::{
 };
 use direction_reader::{ConsecutiveReader, DirectionReader, FirmReader};
 use flywheel::Frame;
-use interval_engine::laws::recordings_grow;
+use interval_file::laws::recordings_grow;
 use interval_engine::work_along;
 use interval_file::{FileVersion, IntervalHeader, interval_header};
 use ltc_jam::laws::a_clean_recording_is_written_frame_by_frame;

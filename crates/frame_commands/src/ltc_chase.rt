@@ -20,7 +20,7 @@ use code_chase::CodeChase;
 use code_chase::laws::a_frame_adds_a_line;
 use direction_reader::{ConsecutiveReader, DirectionReader, FirmReader};
 use flywheel::Frame;
-use interval_engine::laws::recordings_grow;
+use interval_file::laws::recordings_grow;
 use interval_engine::work_along;
 use interval_file::IntervalHeader;
 use line_text::Text;

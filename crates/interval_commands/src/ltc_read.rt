@@ -24,7 +24,7 @@ use direction_reader::laws::{
     events_tell_the_tape,
 };
 use direction_reader::{Brought, DirectionReader, Event, Events};
-use interval_engine::laws::recordings_grow;
+use interval_file::laws::recordings_grow;
 use interval_engine::{Behind, work_along};
 use interval_file::IntervalHeader;
 use limits::{MAX_INTERVAL, MAX_INTERVALS};

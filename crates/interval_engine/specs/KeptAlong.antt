@@ -1,14 +1,13 @@
 -- What a command along an interval file keeps. No promise speaks of it.
-use Rattle.std.specs.Prelude.{◌≡◌, ℕ, ◌<◌, ◌≤◌, List, [], ◌∷◌, ◌++◌, length, Option, Some, None, nat_lt}
-use Rattle.std.specs.Prelude.{◌+◌, IsSome, if◌then◌else◌}
-use Rattle.std.proofs.Common.{subst, sym}
-use Rattle.tc_io.specs.VerdictLemmas.{good_too}
+use Rattle.std.specs.Prelude.{◌≡◌, ◌⊎◌, ℕ, ◌<◌, ◌≤◌, ◌+◌, ◌*◌, List, [], length, take, Option, Some, None}
+use Rattle.std.proofs.Common.{refl, sym, subst}
 use Rattle.limits.specs.declared.recording.TheConstants.{MAX_INTERVALS}
-use Rattle.interval_file.specs.declared.fault.IntervalFileFault.{IntervalFileFault}
+use Rattle.interval_file.specs.declared.fault.IntervalFileFault.TheVariants.{Truncated}
+use Rattle.interval_file.specs.declared.header.FileVersion.{FileVersion}
 use Rattle.interval_file.specs.declared.header.IntervalHeader.{IntervalHeader}
 use Rattle.interval_file.specs.declared.header.TheConstants.{HEADER_LENGTH}
-use Rattle.interval_file.specs.Progress.{Progress}
-use Rattle.interval_file.specs.Decoding.{decoding_of, FitsBytes}
+use Rattle.interval_file.specs.Grammar.{IsFile, IsHeaderFault}
+use Rattle.interval_file.specs.Piece.{piece_width}
 use Rattle.interval_file.specs.Recording.{Recording, recording_of}
 use Rattle.tc_command.specs.declared.input_fault.InputFault.{InputFault}
 use Rattle.tc_command.specs.declared.input_fault.InputFault.TheVariants.{Intervals}
@@ -20,70 +19,66 @@ use Rattle.tc_command.specs.KeptBrings.{Brings}
 use Rattle.interval_engine.specs.Along.{Printing, IsPartOf, IsSpentOf, along_intervals}
 use Rattle.interval_engine.specs.KeptBehind.{IsPartBehind}
 
--- the header is whole with its last byte
-abbrev pub HasHeader : {B : Type 0} → Option B → ℕ → Type 0
-HasHeader None taken = taken < HEADER_LENGTH
-HasHeader (Some behind) taken = HEADER_LENGTH ≤ taken
+-- what is kept behind the header fits the number of intervals, and that of the bytes
+pub record IsGoing {B : Type 0} (fits : B → ℕ → Type 0) (behind : B) (taken count : ℕ) : Type 0 where
+  pub limit : count ≤ MAX_INTERVALS
+  pub bytes : taken ≤ HEADER_LENGTH + 6 * count
+  pub keeps : fits behind count
 
--- what is kept behind the header fits this many intervals
-abbrev pub FitsBehind : {B : Type 0} → (B → ℕ → Type 0) → Option B → ℕ → Type 0
-FitsBehind fits None count = count ≡ 0
-FitsBehind fits (Some behind) count = (count ≤ MAX_INTERVALS) × fits behind count
+-- the recording of a header and intervals within the limit
+abbrev pub good_recording : IntervalHeader → List ℕ → Recording
+good_recording header intervals = record { header = Some header; intervals = intervals; verdict = good }
 
--- no fault was met, and the counts fit each other
-pub record IsGoing {B : Type 0} (fits : B → ℕ → Type 0) (decoder : Progress) (behind : Option B) (count : ℕ)
-    : Type 0 where
-  pub good : decoder.fault ≡ None
-  pub header : HasHeader behind decoder.taken
-  pub counts : FitsBytes decoder count
-  pub part : length decoder.part < 6
-  pub keeps : FitsBehind fits behind count
-
--- what was written stands for the header and the intervals
-abbrev pub Printed : {B C : Type 0} → (B → C → IntervalHeader → List ℕ → List ℕ → Type 0) → Option B → C → Recording
-    → List ℕ → Type 0
-Printed stands None choice r written = (r.header ≡ None) × (r.intervals ≡ []) × (written ≡ [])
-Printed stands (Some behind) choice r written =
-    (header : IntervalHeader) × (r.header ≡ Some header) × stands behind choice header r.intervals written
-
--- it was given these bytes, and written this for them
-pub record Stands {B C : Type 0} (stands : B → C → IntervalHeader → List ℕ → List ℕ → Type 0)
-    (decoder : Progress) (behind : Option B) (count : ℕ) (choice : C) (bytes written : List ℕ) : Type 0 where
-  pub progress : decoder ≡ (decoding_of bytes).progress
-  pub good : (recording_of bytes).verdict ≡ good
-  pub counts : count ≡ length (recording_of bytes).intervals
-  pub printed : Printed stands behind choice (recording_of bytes) written
+-- it was given the file of a header and of so many intervals, and wrote this for them
+pub record Stands {B C : Type 0} (stands : B → C → IntervalHeader → List ℕ → List ℕ → Type 0) (version : FileVersion)
+    (behind : B) (taken count : ℕ) (choice : C) (bytes written : List ℕ) : Type 0 where
+  pub header : IntervalHeader
+  pub intervals : List ℕ
+  pub file : IsFile bytes header intervals
+  pub read : recording_of bytes ≡ good_recording header intervals
+  pub same : header.version ≡ version
+  pub counts : count ≡ length intervals
+  pub long : taken ≡ length bytes
+  pub wrote : stands behind choice header intervals written
 
 -- the same, and the bytes do not pass a limit of the command's own
 pub record StandsWithin {B C : Type 0} (printing : C → Printing)
-    (relation : B → C → IntervalHeader → List ℕ → List ℕ → Type 0)
-    (decoder : Progress) (behind : Option B) (count : ℕ) (choice : C) (bytes written : List ℕ) : Type 0 where
-  pub stands : Stands relation decoder behind count choice bytes written
+    (relation : B → C → IntervalHeader → List ℕ → List ℕ → Type 0) (version : FileVersion)
+    (behind : B) (taken count : ℕ) (choice : C) (bytes written : List ℕ) : Type 0 where
+  pub stands : Stands relation version behind taken count choice bytes written
   pub unspent : ¬ IsSpentOf (printing choice) (recording_of bytes)
 
--- the recording with an interval more
-abbrev pub longer : Recording → ℕ → Recording
-longer r x = record { header = r.header; intervals = r.intervals ++ x ∷ []; verdict = r.verdict }
+-- no intervals that it was given pass a limit of the command's own
+abbrev pub IsWithin : {B C : Type 0} → (C → Printing) → (B → C → IntervalHeader → List ℕ → List ℕ → Type 0) → B → Type 0
+IsWithin {B} {C} printing stands behind = (choice : C) (header : IntervalHeader) (intervals written : List ℕ)
+    → stands behind choice header intervals written → ¬ Printing.spent (printing choice) header intervals
 
--- an interval was taken, and what it brings was written
-pub record TakesInterval {B C O : Type 0} (given : O → O → List ℕ → Type 0) (fits : B → ℕ → Type 0)
-    (stands : B → C → IntervalHeader → List ℕ → List ℕ → Type 0) (before behind : Option B)
-    (count now : ℕ) (choice : C) (old new : O) (x : ℕ) : Type 0 where
-  pub one : now ≡ count + 1
-  pub keeps : FitsBehind fits behind now
-  pub header : IsSome behind
-  pub works : (r : Recording) (written : List ℕ) → Printed stands before choice r written
-      → (more : List ℕ) × given old new more × Printed stands behind choice (longer r x) (written ++ more)
+-- some bytes, which end inside an interval
+pub record IsShort (version : FileVersion) (bytes : List ℕ) : Type 0 where
+  pub some : 0 < length bytes
+  pub short : length bytes < piece_width version bytes
 
--- it took these bytes, wrote what they bring, and goes on
-pub record Advanced {B C O : Type 0} (given : O → O → List ℕ → Type 0) (fits : B → ℕ → Type 0)
-    (stands : B → C → IntervalHeader → List ℕ → List ℕ → Type 0)
-    (decoder next : Progress) (before behind : Option B) (count now : ℕ) (choice : C)
-    (old new : O) (bytes : List ℕ) : Type 0 where
-  pub going : IsGoing fits next behind now
-  pub taken : next.taken ≡ decoder.taken + length bytes
-  pub works : Brings given (Stands stands decoder before count choice) (Stands stands next behind now choice) old new
-      bytes
+-- or inside the header, which has no fault so far
+abbrev pub HeaderIsShort : List ℕ → Type 0
+HeaderIsShort bytes = IsHeaderFault (Truncated (length bytes)) bytes
+
+-- it took so many of the bytes, wrote what they bring, and goes on
+pub record Advances {B C O : Type 0} (given : O → O → List ℕ → Type 0) (fits : B → ℕ → Type 0)
+    (stands : B → C → IntervalHeader → List ℕ → List ℕ → Type 0) (version next : FileVersion)
+    (before behind : B) (taken now count many : ℕ) (old new : O) (bytes : List ℕ) (n : ℕ) : Type 0 where
+  pub most : n ≤ length bytes
+  pub going : IsGoing fits behind now many
+  pub more : 1 ≤ n → count < many
+  pub fewer : count ≤ many
+  pub waits : (1 ≤ n) ⊎ IsShort next bytes
+  pub works : (choice : C) → Brings given (Stands stands version before taken count choice)
+      (Stands stands next behind now many choice) old new (take n bytes)
+
+-- what was written stands for the header and the intervals
+abbrev pub Printed : {B C : Type 0} → (B → C → IntervalHeader → List ℕ → List ℕ → Type 0) → B → C → Recording
+    → List ℕ → Type 0
+Printed stands behind choice r written =
+    (header : IntervalHeader) × (r.header ≡ Some header) × stands behind choice header r.intervals written
 
 -- what the file shows where the engine halts
 abbrev pub shown : Halt → Verdict InputFault
@@ -91,39 +86,69 @@ shown (Refused fault) = refused fault
 shown Limit = past_limit
 
 -- a fault of the file, or its limit, and what was written
-pub record IsHalt {B C : Type 0} (stands : B → C → IntervalHeader → List ℕ → List ℕ → Type 0) (behind : Option B)
+pub record IsHalt {B C : Type 0} (stands : B → C → IntervalHeader → List ℕ → List ℕ → Type 0) (behind : B)
     (choice : C) (halt : Halt) (pulled written : List ℕ) : Type 0 where
   pub shows : verdict_as Intervals (recording_of pulled).verdict ≡ shown halt
   pub printed : Printed stands behind choice (recording_of pulled) written
 
--- why a fault of the file halts the command: an interval past the limit is not looked at
-abbrev pub halt_at : ℕ → IntervalFileFault → Halt
-halt_at count fault = if nat_lt count MAX_INTERVALS then Refused (Intervals fault) else Limit
+-- ---- what was written is the part of the output
 
--- what was written is the part of the output
+-- what the command promises of what it keeps
+abbrev pub StandsWell : {B C : Type 0} → (C → Printing) → (B → C → IntervalHeader → List ℕ → List ℕ → Type 0) → Type 0
+StandsWell {B} {C} printing stands = (behind : B) (choice : C) (header : IntervalHeader) (intervals written : List ℕ)
+    → stands behind choice header intervals written → Printing.part (printing choice) header intervals written
+
 pub printed_well : {B C : Type 0} (printing : C → Printing)
-    (stands : B → C → IntervalHeader → List ℕ → List ℕ → Type 0)
-    → ((behind : B) (choice : C) (header : IntervalHeader) (intervals written : List ℕ)
-    → stands behind choice header intervals written → Printing.part (printing choice) header intervals written)
-    → (behind : Option B) (choice : C) (r : Recording) (written : List ℕ)
+    (stands : B → C → IntervalHeader → List ℕ → List ℕ → Type 0) → StandsWell printing stands
+    → (behind : B) (choice : C) (r : Recording) (written : List ℕ)
     → Printed stands behind choice r written → IsPartOf (printing choice) r written
-printed_well printing stands well None choice r written printed =
-    subst (λ (h : Option IntervalHeader). IsPartBehind (printing choice) h r.intervals written) (sym printed.0)
-    printed.2
-printed_well printing stands well (Some behind) choice r written printed =
+printed_well printing stands well behind choice r written printed =
     subst (λ (h : Option IntervalHeader). IsPartBehind (printing choice) h r.intervals written) (sym printed.1)
     (well behind choice printed.0 r.intervals written printed.2)
 
--- and the bytes are good
+-- bytes that are read as a header and intervals show nothing but good
+pub good_well : (p : Printing) (bytes written : List ℕ) (header : IntervalHeader) (intervals : List ℕ)
+    → recording_of bytes ≡ good_recording header intervals → ¬ p.spent header intervals
+    → p.part header intervals written
+    → Shows (along_intervals p) good bytes × Meaning.part (along_intervals p) bytes written
+good_well p bytes written header intervals read unspent part = (
+  record {
+    is = subst (λ (r : Recording). verdict_as Intervals r.verdict ≡ good) (sym read) refl;
+    unspent = subst (λ (r : Recording). ¬ IsSpentOf p r) (sym read) unspent;
+  },
+  subst (λ (r : Recording). IsPartOf p r written) (sym read) part,
+)
+
 pub stands_well : {B C : Type 0} (printing : C → Printing)
-    (stands : B → C → IntervalHeader → List ℕ → List ℕ → Type 0)
-    → ((behind : B) (choice : C) (header : IntervalHeader) (intervals written : List ℕ)
-    → stands behind choice header intervals written → Printing.part (printing choice) header intervals written)
-    → (decoder : Progress) (behind : Option B) (count : ℕ) (choice : C) (bytes written : List ℕ)
-    → StandsWithin printing stands decoder behind count choice bytes written
+    (stands : B → C → IntervalHeader → List ℕ → List ℕ → Type 0) → StandsWell printing stands
+    → (version : FileVersion) (behind : B) (taken count : ℕ) (choice : C) (bytes written : List ℕ)
+    → StandsWithin printing stands version behind taken count choice bytes written
     → Shows (along_intervals (printing choice)) good bytes
     × Meaning.part (along_intervals (printing choice)) bytes written
-stands_well printing stands well decoder behind count choice bytes written s = (
-  record { is = good_too Intervals _ s.stands.good; unspent = s.unspent },
-  printed_well printing stands well behind choice (recording_of bytes) written s.stands.printed,
-)
+stands_well printing stands well version behind taken count choice bytes written s =
+    let is = s.stands in
+    good_well (printing choice) bytes written is.header is.intervals is.read
+    (subst (λ (r : Recording). ¬ IsSpentOf (printing choice) r) is.read s.unspent)
+    (well behind choice is.header is.intervals written is.wrote)
+
+-- ---- before the header is whole
+
+-- it was given nothing, or what is kept stands for it
+abbrev pub StandsSoFar : {K : Type 0} → (K → List ℕ → List ℕ → Type 0) → Option K → List ℕ → List ℕ → Type 0
+StandsSoFar stands None bytes written = (bytes ≡ []) × (written ≡ [])
+StandsSoFar stands (Some kept) bytes written = stands kept bytes written
+
+nothing_well : (p : Printing) → Shows (along_intervals p) good [] × Meaning.part (along_intervals p) [] []
+unfolding recording_of
+nothing_well p = (record { is = refl; unspent = λ spent. spent }, refl)
+
+pub so_far_well : {K : Type 0} (p : Printing) (stands : K → List ℕ → List ℕ → Type 0)
+    → ((kept : K) (bytes written : List ℕ) → stands kept bytes written
+    → Shows (along_intervals p) good bytes × Meaning.part (along_intervals p) bytes written)
+    → (begun : Option K) (bytes written : List ℕ) → StandsSoFar stands begun bytes written
+    → Shows (along_intervals p) good bytes × Meaning.part (along_intervals p) bytes written
+so_far_well p stands well None bytes written s =
+    subst (λ (b : List ℕ). Shows (along_intervals p) good b × Meaning.part (along_intervals p) b written) (sym s.0)
+    (subst (λ (w : List ℕ). Shows (along_intervals p) good [] × Meaning.part (along_intervals p) [] w) (sym s.1)
+    (nothing_well p))
+so_far_well p stands well (Some kept) bytes written s = well kept bytes written s

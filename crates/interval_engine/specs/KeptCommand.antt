@@ -1,10 +1,10 @@
 -- A command along an interval file is a command as any other, if it prints in order. No promise speaks of it.
 use Rattle.std.proofs.Common.{◌≡◌, ℕ, List, [], ◌++◌, Option, Some, None, refl, sym, ◌∙◌, ap, subst}
 use Rattle.std.proofs.lemmas.Bool.{false≢true}
-use Rattle.interval_file.specs.declared.fault.IntervalFileFault.{IntervalFileFault}
 use Rattle.interval_file.specs.declared.header.IntervalHeader.{IntervalHeader}
-use Rattle.interval_file.specs.Recording.{Recording, end_fault_of, recording_of}
-use Rattle.tc_io.specs.Verdict.{refused, past_limit, verdict_as}
+use Rattle.interval_file.specs.Growing.{Grows, RecordingsGrow}
+use Rattle.interval_file.specs.Recording.{Recording, recording_of}
+use Rattle.tc_io.specs.Verdict.{verdict_as}
 use Rattle.tc_io.specs.Sink.{IsFront}
 use Rattle.tc_command.specs.Command.{IsCommand}
 use Rattle.interval_engine.specs.Along.{IsPartOf, IsSpentOf, IsWholeOf}
@@ -12,24 +12,6 @@ use Rattle.interval_engine.specs.KeptBehind.{IsPartBehind, IsSpentBehind, IsWhol
 use Rattle.interval_engine.specs.Along.{Printing, along_intervals}
 use Rattle.tc_io.specs.VerdictLemmas.{ends_whole, is_past, is_refused}
 use Rattle.tc_command.specs.declared.input_fault.InputFault.TheVariants.{Intervals}
-
--- ---- a recording grows
-
--- behind the same header, where there is one, the intervals come first
-abbrev pub Grows : Recording → Recording → Type 0
-Grows before now = (header : IntervalHeader) → before.header ≡ Some header
-    → (now.header ≡ Some header) × ((more : List ℕ) × (now.intervals ≡ before.intervals ++ more))
-
--- what bytes say of a recording grows with more bytes, and stays as it is behind a fault and behind the limit; and of
--- an input it has a header
-pub record RecordingsGrow : Type 0 where
-  pub begins : (bytes : List ℕ) → end_fault_of bytes ≡ None
-      → (header : IntervalHeader) × ((recording_of bytes).header ≡ Some header)
-  pub grows : (front more : List ℕ) → Grows (recording_of front) (recording_of (front ++ more))
-  pub refused : (front more : List ℕ) (f : IntervalFileFault) → (recording_of front).verdict ≡ refused f
-      → recording_of (front ++ more) ≡ recording_of front
-  pub past : (front more : List ℕ) → (recording_of front).verdict ≡ past_limit
-      → recording_of (front ++ more) ≡ recording_of front
 
 -- ---- what a command along intervals brings
 

@@ -1,31 +1,30 @@
 //! The way along an interval file, the same for each command that reads one. Read next:
 //! `interval_file/src/piece.rt`.
-ghost use Rattle.std.specs.Prelude.{◌≡◌, ℕ, true, false, ◌+◌, ◌-◌, ◌<◌, ◌≤◌, List, [], ◌∷◌, ◌++◌, length, take};
-ghost use Rattle.std.specs.Prelude.{OnOk, IfOk, IfErr, IsSome};
+ghost use Rattle.std.specs.Prelude.{◌≡◌, ℕ, true, false, ◌+◌, ◌-◌, ◌*◌, ◌<◌, ◌≤◌, List, [], ◌∷◌, ◌++◌, length, take};
+ghost use Rattle.std.specs.Prelude.{IfOk, IfErr};
 ghost use Rattle.limits.specs.declared.recording.TheConstants.{MAX_INTERVAL, MAX_INTERVALS};
 ghost use Rattle.interval_file.specs.declared.header.IntervalHeader.{IntervalHeader};
+ghost use Rattle.interval_file.specs.declared.fault.IntervalFileFault.TheVariants.{Truncated};
+ghost use Rattle.interval_file.specs.Grammar.{IsFile};
 ghost use Rattle.interval_file.specs.IntervalHeader.{IsTickRate};
-ghost use Rattle.interval_file.specs.Decoding.{IsBetween};
-ghost use Rattle.interval_file.specs.Recording.{Recording};
+ghost use Rattle.interval_file.specs.Piece.{most_width};
+ghost use Rattle.tc_command.specs.declared.input_fault.InputFault.TheVariants.{Intervals};
 ghost use Rattle.tc_command.specs.Halt.{IsHalt as IsHaltOf};
 ghost use Rattle.tc_command.specs.KeptBrings.{Brings};
 ghost use Rattle.tc_command.specs.Worked.{IsWorked};
-ghost use Rattle.interval_engine.specs.Along.{IsSpentOf, Printing, along_intervals};
+ghost use Rattle.interval_engine.specs.Along.{Printing, along_intervals};
 ghost use Rattle.interval_engine.specs.KeptAlong.{
-  Advanced,
-  FitsBehind,
+  Advances,
   IsGoing,
   IsHalt,
-  Printed,
+  IsWithin,
   Stands,
   StandsWithin,
-  TakesInterval,
-  halt_at,
 };
 
-use interval_file::laws::the_decoder_reads_what_is_said;
+use interval_file::laws::{bytes_are_read_as_the_text_says, recordings_grow};
 use interval_file::{
-    FileVersion, IntervalDecoder, IntervalFileFault, IntervalHeader, Next, Taken, most_width,
+    FileVersion, HEADER_LENGTH, IntervalFileFault, IntervalHeader, Next, front_header, most_width,
     next_interval,
 };
 use limits::{MAX_INTERVAL, MAX_INTERVALS};
@@ -99,162 +98,162 @@ pub fn work_along<B: Behind, S: Source, K: Sink>(
 /// A command along an interval file.
 #[derive(Drop)]
 struct Along<B: Behind> {
-    decoder: IntervalDecoder,
     choice: B::Choice,
-    behind: Option<B>,
-    intervals: u64,
+    begun: Option<Begun<B>>,
 }
 
 impl<B: Behind> Along<B> {
     /// A command with this choice, before the first byte.
     fn new(choice: B::Choice) -> Along<B>
         ensures choice { result.choice ≡ choice }
-        ensures going { IsGoing B.fits result.decoder result.behind result.intervals }
-        ensures stands { StandsWithin B.printing B.stands result.decoder result.behind result.intervals result.choice []
-            [] }
+        ensures begun { result.begun ≡ None }
     {
         Along {
-            decoder: IntervalDecoder::new(),
             choice,
-            behind: None,
+            begun: None,
+        }
+    }
+}
+
+/// What is kept behind the header: how many bytes were taken, and how many intervals.
+#[derive(Drop)]
+struct Begun<B: Behind> {
+    version: FileVersion,
+    taken: u64,
+    intervals: u64,
+    behind: B,
+}
+
+impl<B: Behind> Begun<B> {
+    /// Takes the header, whose bytes these are.
+    fn new<O: Output>(choice: B::Choice, header: IntervalHeader, out: &mut O) -> Begun<B>
+        requires { IsTickRate header.tick_rate }
+        ensures going { IsGoing B.fits result.behind result.taken result.intervals }
+        ensures none { result.intervals ≡ 0 }
+        ensures begins { (bytes : List ℕ) → IsFile bytes header [] → length bytes ≡ HEADER_LENGTH
+            → (written : List ℕ) × O.given out.old out.new written
+            × Stands B.stands result.version result.behind result.taken result.intervals choice bytes written }
+    {
+        bytes_are_read_as_the_text_says();
+        Begun {
+            version: header.version,
+            taken: HEADER_LENGTH,
             intervals: 0,
+            behind: B::begin(choice, header, out),
         }
     }
 
-    /// Takes the whole intervals that come first, or else one byte, and answers how many bytes it took.
-    fn advance<O: Output>(&mut self, bytes: &[u8], out: &mut O) -> Result<usize, Halt>
-        requires going { IsGoing B.fits self.old.decoder self.old.behind self.old.intervals }
+    /// Works on the whole intervals at the front of bytes, and answers how many bytes they have. A limit of the
+    /// command's own comes before a fault of the file and before the file's limit.
+    fn take<O: Output>(&mut self, bytes: &[u8], out: &mut O) -> Result<usize, Halt>
+        requires going { IsGoing B.fits self.old.behind self.old.taken self.old.intervals }
         requires some { 0 < length bytes.now }
-        ensures advances { IfOk result (λ count. (1 ≤ count) × (count ≤ length bytes.now)
-            × Advanced O.given B.fits B.stands self.old.decoder self.new.decoder
-            self.old.behind self.new.behind self.old.intervals self.new.intervals self.old.choice
-            out.old out.new (take count bytes.now)) }
-        ensures choice { self.new.choice ≡ self.old.choice }
-        ensures halts { IfErr result (λ halt. Brings O.given
-            (Stands B.stands self.old.decoder self.old.behind self.old.intervals self.old.choice)
-            (IsHalt B.stands self.new.behind self.old.choice halt) out.old out.new bytes.now) }
+        ensures advances { IfOk result (λ count. Advances O.given B.fits B.stands
+            self.old.version self.new.version self.old.behind self.new.behind self.old.taken self.new.taken
+            self.old.intervals self.new.intervals out.old out.new bytes.now count) }
+        ensures within { IfOk result (λ count. IsWithin B.printing B.stands self.new.behind) }
+        ensures halts { IfErr result (λ halt. (choice : B.Choice) → Brings O.given
+            (Stands B.stands self.old.version self.old.behind self.old.taken self.old.intervals choice)
+            (IsHaltOf (along_intervals (B.printing choice)) halt) out.old out.new bytes.now) }
     {
-        match self.whole_intervals(bytes, out)? {
-            0 => {
-                self.byte(bytes[0], out)?;
-                Ok(1)
-            }
-            count => Ok(count),
+        let taken = self.advance(bytes, out);
+        if self.behind.is_spent() {
+            return Err(Halt::Limit);
         }
+        taken
     }
 
-    /// Whether the intervals so far pass a limit of the command's own.
-    #[inline(always)]
-    fn is_spent(&self) -> bool
-        ensures spent { result ≡ true → (choice : B.Choice) (r : Recording) (written : List ℕ)
-            → Printed B.stands self.now.behind choice r written → IsSpentOf (B.printing choice) r }
-        ensures going { result ≡ false → (choice : B.Choice) (r : Recording) (written : List ℕ)
-            → Printed B.stands self.now.behind choice r written → ¬ IsSpentOf (B.printing choice) r }
+    /// The same, whatever limit the command has.
+    fn advance<O: Output>(&mut self, bytes: &[u8], out: &mut O) -> Result<usize, Halt>
+        requires going { IsGoing B.fits self.old.behind self.old.taken self.old.intervals }
+        requires some { 0 < length bytes.now }
+        ensures advances { IfOk result (λ count. Advances O.given B.fits B.stands
+            self.old.version self.new.version self.old.behind self.new.behind self.old.taken self.new.taken
+            self.old.intervals self.new.intervals out.old out.new bytes.now count) }
+        ensures halts { IfErr result (λ halt. (choice : B.Choice) → Brings O.given
+            (Stands B.stands self.old.version self.old.behind self.old.taken self.old.intervals choice)
+            (IsHalt B.stands self.new.behind choice halt) out.old out.new bytes.now) }
     {
-        match &self.behind {
-            Some(behind) => behind.is_spent(),
-            None => false,
-        }
-    }
-
-    /// Why the command halts: a limit of its own comes before a fault of the file and before the file's limit.
-    fn halted(&self, halt: Halt) -> Halt
-        ensures { (pulled written : List ℕ) → IsHalt B.stands self.now.behind self.now.choice halt pulled written
-            → IsHaltOf (along_intervals (B.printing self.now.choice)) result pulled written }
-    {
-        if self.is_spent() { Halt::Limit } else { halt }
-    }
-
-    /// Takes one byte.
-    fn byte<O: Output>(&mut self, byte: u8, out: &mut O) -> Result<(), Halt>
-        requires { IsGoing B.fits self.old.decoder self.old.behind self.old.intervals }
-        ensures advances { OnOk result (Advanced O.given B.fits B.stands self.old.decoder self.new.decoder
-            self.old.behind self.new.behind self.old.intervals self.new.intervals self.old.choice
-            out.old out.new (byte ∷ [])) }
-        ensures choice { self.new.choice ≡ self.old.choice }
-        ensures halts { IfErr result (λ halt. (out.new ≡ out.old) × ((front written rest : List ℕ)
-            → Stands B.stands self.old.decoder self.old.behind self.old.intervals self.old.choice front written
-            → IsHalt B.stands self.new.behind self.old.choice halt (front ++ byte ∷ rest) (written ++ []))) }
-    {
-        the_decoder_reads_what_is_said();
-        match self.decoder.byte(byte) {
-            Taken::Nothing => Ok(()),
-            Taken::Header(header) => {
-                self.behind = Some(B::begin(self.choice, header, out));
-                Ok(())
-            }
-            Taken::Interval(x) => {
-                if self.intervals < MAX_INTERVALS {
-                    self.interval(x, out);
-                    Ok(())
-                } else {
-                    Err(Halt::Limit)
-                }
-            }
-            Taken::Fault(fault) => Err(self.halt_at(fault)),
-        }
-    }
-
-    /// Works on the whole intervals at the front of bytes, and answers how many bytes they have: none
-    /// if the header or an interval is half taken, or the limit is near. The last few bytes are left.
-    // Out of line, so that what is kept is near a pointer of its own and not far up the stack of a long function:
-    // the code of the loop over intervals is a tenth shorter so. An interval takes one or two instructions more,
-    // and `ltc-fly` a sixth less time.
-    #[inline(never)]
-    fn whole_intervals<O: Output>(&mut self, bytes: &[u8], out: &mut O) -> Result<usize, Halt>
-        requires going { IsGoing B.fits self.old.decoder self.old.behind self.old.intervals }
-        ensures advances { IfOk result (λ count. (count ≤ length bytes.now)
-            × Advanced O.given B.fits B.stands self.old.decoder self.new.decoder
-            self.old.behind self.new.behind self.old.intervals self.new.intervals self.old.choice
-            out.old out.new (take count bytes.now)) }
-        ensures choice { self.new.choice ≡ self.old.choice }
-        ensures halts { IfErr result (λ halt. Brings O.given
-            (Stands B.stands self.old.decoder self.old.behind self.old.intervals self.old.choice)
-            (IsHalt B.stands self.new.behind self.old.choice halt) out.old out.new bytes.now) }
-    {
-        // Near the limit each byte is looked at by itself.
-        if !self.decoder.is_between() || MAX_INTERVALS - self.intervals < bytes.len() as u64 {
-            return Ok(0);
+        // At the end of the bytes, and near the limit, each interval is looked at by itself.
+        if bytes.len() < most_width(self.version)
+            || MAX_INTERVALS - self.intervals < bytes.len() as u64
+        {
+            return self.one(bytes, out);
         }
         // Each version has a loop of its own, which knows how many bytes an interval has at most, and looks at
         // each through a window of that many.
-        match self.decoder.version() {
+        match self.version {
             FileVersion::One => self.run(FileVersion::One, bytes, out),
             FileVersion::Two => self.run(FileVersion::Two, bytes, out),
         }
     }
 
-    /// Works on the whole intervals at the front of bytes that begin between two intervals, as long as
-    /// the widest one fits in what is left. The limit has room for an interval for each byte.
-    #[inline(always)]
+    /// Takes the interval at the front of bytes, if it is whole.
+    fn one<O: Output>(&mut self, bytes: &[u8], out: &mut O) -> Result<usize, Halt>
+        requires going { IsGoing B.fits self.old.behind self.old.taken self.old.intervals }
+        requires some { 0 < length bytes.now }
+        ensures advances { IfOk result (λ count. Advances O.given B.fits B.stands
+            self.old.version self.new.version self.old.behind self.new.behind self.old.taken self.new.taken
+            self.old.intervals self.new.intervals out.old out.new bytes.now count) }
+        ensures halts { IfErr result (λ halt. (choice : B.Choice) → Brings O.given
+            (Stands B.stands self.old.version self.old.behind self.old.taken self.old.intervals choice)
+            (IsHalt B.stands self.new.behind choice halt) out.old out.new bytes.now) }
+    {
+        bytes_are_read_as_the_text_says();
+        recordings_grow();
+        match next_interval(self.version, self.taken, bytes) {
+            Next::Short => Ok(0),
+            Next::Interval { ticks, width } => {
+                if self.intervals == MAX_INTERVALS {
+                    return Err(Halt::Limit);
+                }
+                self.behind.interval(ticks, out);
+                self.intervals += 1;
+                self.taken += width as u64;
+                Ok(width)
+            }
+            // An interval past the limit is not looked at.
+            Next::Fault(fault) => {
+                if self.intervals == MAX_INTERVALS {
+                    return Err(Halt::Limit);
+                }
+                Err(Halt::Refused(InputFault::Intervals(fault)))
+            }
+        }
+    }
+
+    /// Works on the whole intervals at the front of bytes, as long as the widest one fits in what is left: one at least.
+    /// The limit has room for an interval for each byte.
+    // Out of line, so that what is kept is near a pointer of its own and not far up the stack of a long function:
+    // the code of the loop over intervals is a tenth shorter so. An interval takes one or two instructions more,
+    // and `ltc-fly` a sixth less time.
+    #[inline(never)]
     fn run<O: Output>(
         &mut self,
         version: FileVersion,
         bytes: &[u8],
         out: &mut O,
     ) -> Result<usize, Halt>
-        requires between { IsBetween self.old.decoder }
-        requires version { self.old.decoder.version ≡ version }
+        requires version { self.old.version ≡ version }
         requires room { self.old.intervals + length bytes.now ≤ MAX_INTERVALS }
-        requires going { IsGoing B.fits self.old.decoder self.old.behind self.old.intervals }
-        ensures advances { IfOk result (λ count. (count ≤ length bytes.now)
-            × Advanced O.given B.fits B.stands self.old.decoder self.new.decoder
-            self.old.behind self.new.behind self.old.intervals self.new.intervals self.old.choice
-            out.old out.new (take count bytes.now)) }
-        ensures choice { self.new.choice ≡ self.old.choice }
-        ensures halts { IfErr result (λ halt. Brings O.given
-            (Stands B.stands self.old.decoder self.old.behind self.old.intervals self.old.choice)
-            (IsHalt B.stands self.new.behind self.old.choice halt) out.old out.new bytes.now) }
+        requires long { most_width version ≤ length bytes.now }
+        requires going { IsGoing B.fits self.old.behind self.old.taken self.old.intervals }
+        requires some { 0 < length bytes.now }
+        ensures advances { IfOk result (λ count. Advances O.given B.fits B.stands
+            self.old.version self.new.version self.old.behind self.new.behind self.old.taken self.new.taken
+            self.old.intervals self.new.intervals out.old out.new bytes.now count) }
+        ensures halts { IfErr result (λ halt. (choice : B.Choice) → Brings O.given
+            (Stands B.stands self.old.version self.old.behind self.old.taken self.old.intervals choice)
+            (IsHalt B.stands self.new.behind choice halt) out.old out.new bytes.now) }
     {
-        the_decoder_reads_what_is_said();
-        let first = self.decoder.taken();
+        bytes_are_read_as_the_text_says();
+        recordings_grow();
+        let first = self.taken;
         let widest = most_width(version);
-        let end = bytes.len().saturating_sub(widest - 1);
+        let end = bytes.len() - (widest - 1);
         let mut intervals = self.intervals;
         let mut at = 0;
-        let Some(behind) = &mut self.behind else {
-            unreachable!();
-        };
+        let behind = &mut self.behind;
         'run: while at < end {
             match next_interval(version, first + at as u64, &bytes[at..at + widest]) {
                 Next::Interval { ticks, width } => {
@@ -264,49 +263,28 @@ impl<B: Behind> Along<B> {
                 }
                 Next::Fault(fault) => return Err(Halt::Refused(InputFault::Intervals(fault))),
                 // The window holds any interval, so this does not come.
-                Next::Short => break 'run,
+                Next::Short => unreachable!(),
             }
         }
-        self.decoder.pass_over(at);
+        self.taken = first + at as u64;
         self.intervals = intervals;
         Ok(at)
-    }
-
-    /// Takes an interval, of `x` ticks.
-    fn interval<O: Output>(&mut self, x: u32, out: &mut O)
-        requires least { 1 ≤ x }
-        requires most { x ≤ MAX_INTERVAL }
-        requires below { self.old.intervals < MAX_INTERVALS }
-        requires fits { FitsBehind B.fits self.old.behind self.old.intervals }
-        requires header { IsSome self.old.behind }
-        ensures decoder { self.new.decoder ≡ self.old.decoder }
-        ensures choice { self.new.choice ≡ self.old.choice }
-        ensures takes { TakesInterval O.given B.fits B.stands self.old.behind self.new.behind
-            self.old.intervals self.new.intervals self.old.choice out.old out.new x }
-    {
-        match &mut self.behind {
-            Some(behind) => behind.interval(x, out),
-            None => unreachable!(),
-        }
-        self.intervals += 1;
-    }
-
-    /// Why a fault of the file halts the command: an interval past the limit is not looked at.
-    fn halt_at(&self, fault: IntervalFileFault) -> Halt
-        ensures { result ≡ halt_at self.now.intervals fault }
-    {
-        if self.intervals < MAX_INTERVALS {
-            Halt::Refused(InputFault::Intervals(fault))
-        } else {
-            Halt::Limit
-        }
     }
 }
 
 impl<B: Behind> Engine for Along<B> {
-    ghost use Rattle.interval_file.specs.Decoding.{too_many_bytes};
+    ghost use Rattle.std.specs.Prelude.{◌+◌, ◌-◌, Some, None, IfSome, MatchOption};
+    ghost use Rattle.limits.specs.declared.recording.TheConstants.{MAX_INTERVALS};
     ghost use Rattle.interval_engine.specs.Along.{along_intervals};
-    ghost use Rattle.interval_engine.specs.KeptAlong.{IsGoing, StandsWithin, stands_well};
+    ghost use Rattle.interval_engine.specs.KeptAlong.{
+      HeaderIsShort,
+      IsShort,
+      IsGoing,
+      StandsSoFar,
+      StandsWithin,
+      so_far_well,
+      stands_well,
+    };
 
     type Choice = B::Choice;
 
@@ -314,38 +292,62 @@ impl<B: Behind> Engine for Along<B> {
 
     ghost choice = { λ s. s.choice };
 
-    ghost is_going = { λ s. IsGoing B.fits s.decoder s.behind s.intervals };
+    ghost is_going = { λ s. IfSome s.begun (λ b. IsGoing B.fits b.behind b.taken b.intervals) };
 
-    ghost stands = { λ s bytes written.
-        StandsWithin B.printing B.stands s.decoder s.behind s.intervals s.choice bytes written };
+    ghost stands = { λ s. StandsSoFar (λ b bytes written. StandsWithin B.printing B.stands b.version b.behind b.taken
+        b.intervals s.choice bytes written) s.begun };
 
-    ghost budget = { λ s. too_many_bytes - s.decoder.taken };
+    ghost budget = { λ s. elim s.begun [ None ↦ MAX_INTERVALS + 1 | Some b ↦ MAX_INTERVALS - b.intervals ] };
 
-    ghost stands_well = { λ s bytes written stands.
-        stands_well B.printing B.stands B.stands_well s.decoder s.behind s.intervals s.choice bytes written stands };
+    ghost is_short = { λ s bytes. MatchOption s.begun (HeaderIsShort bytes) (λ b. IsShort b.version bytes) };
+
+    ghost stands_well = { λ s bytes written stands. so_far_well (B.printing s.choice) _ (λ b.
+        stands_well B.printing B.stands B.stands_well b.version b.behind b.taken b.intervals s.choice)
+        s.begun bytes written stands };
 
     fn take<O: Output>(&mut self, bytes: &[u8], out: &mut O) -> Result<usize, Halt> {
-        match self.advance(bytes, out) {
-            Ok(count) => {
-                if self.is_spent() {
-                    Err(Halt::Limit)
-                } else {
-                    Ok(count)
+        bytes_are_read_as_the_text_says();
+        if let Some(begun) = &mut self.begun {
+            return begun.take(bytes, out);
+        }
+        match front_header(bytes) {
+            Ok(Some(header)) => {
+                let begun = Begun::<B>::new(self.choice, header, out);
+                if begun.behind.is_spent() {
+                    return Err(Halt::Limit);
                 }
+                self.begun = Some(begun);
+                Ok(HEADER_LENGTH as usize)
             }
-            Err(halt) => Err(self.halted(halt)),
+            Ok(None) => Ok(0),
+            Err(fault) => Err(Halt::Refused(InputFault::Intervals(fault))),
+        }
+    }
+
+    fn cut_off(&self, bytes: &[u8]) -> InputFault {
+        bytes_are_read_as_the_text_says();
+        let more = bytes.len() as u64;
+        match &self.begun {
+            Some(begun) => truncated(begun.taken + more),
+            None => truncated(more),
         }
     }
 
     fn finish<O: Output>(&mut self, out: &mut O) -> Result<(), InputFault> {
-        the_decoder_reads_what_is_said();
-        if let Err(fault) = self.decoder.finish() {
-            return Err(InputFault::Intervals(fault));
+        bytes_are_read_as_the_text_says();
+        match &mut self.begun {
+            Some(begun) => {
+                begun.behind.finish(out);
+                Ok(())
+            }
+            None => Err(truncated(0)),
         }
-        match &mut self.behind {
-            Some(behind) => behind.finish(out),
-            None => unreachable!(),
-        }
-        Ok(())
     }
+}
+
+/// The fault of an input that is cut off at this place.
+fn truncated(place: u64) -> InputFault
+    ensures { result ≡ Intervals (Truncated place) }
+{
+    InputFault::Intervals(IntervalFileFault::Truncated(place))
 }

@@ -12,6 +12,5 @@
 #![tactic(auto)]
 
 mod along;
-pub mod laws;
 
 pub use along::{Behind, work_along};

@@ -10,13 +10,11 @@ use Rattle.interval_file.specs.declared.piece.Next.{Next}
 use Rattle.interval_file.specs.declared.piece.Next.TheVariants.{Short, Interval, Fault}
 use Rattle.tc_io.specs.Bytes.{AreBytes}
 use Rattle.interval_file.specs.Grammar.{InRange, IsFile}
-use Rattle.interval_file.specs.Next.{next_of, next_with}
-use Rattle.interval_file.specs.NextByte.{BringNext}
+use Rattle.interval_file.specs.Next.{BringNext, next_of, next_with}
 use Rattle.interval_file.specs.Piece.{ticks_in, piece_width}
 use Rattle.interval_file.proofs.FrontOfBytes.{in_range_or_not, is_spelled}
-use Rattle.interval_file.proofs.FrontInterval.{least}
-use Rattle.interval_file.proofs.OneByteMore.{file_more, in_range_is}
-use Rattle.interval_file.proofs.RestFault.{wrong_interval}
+use Rattle.interval_file.proofs.FileMore.{file_more}
+use Rattle.interval_file.proofs.FrontInterval.{in_range_is, least, wrong_interval}
 
 pub they_bring : (front bytes : List ℕ) (header : IntervalHeader) (intervals : List ℕ) → AreBytes bytes
     → IsFile front header intervals

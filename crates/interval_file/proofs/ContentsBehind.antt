@@ -1,32 +1,23 @@
 -- What comes behind a header and intervals, one interval at a time: bytes that end inside one, one out of range, or
 -- one in range and what comes behind it.
 use Rattle.std.proofs.Common.{◌≡◌, ◌⊎◌, inl, inr, ℕ, zero, suc, ◌+◌, ◌<◌, ◌≤◌, List, [], ◌∷◌, ◌++◌, length, take, drop}
-use Rattle.std.proofs.Common.{fold, Ok, Err, refl, sym, ◌∙◌}
+use Rattle.std.proofs.Common.{Ok, Err, refl, sym, ◌∙◌}
 use Rattle.std.proofs.Common.{ap, subst, arith, false, append_assoc, append-nil, length-append}
 use Rattle.std.specs.Prelude.{◌==◌}
 use Rattle.std.specs.declared.result.Result.{Result}
 use Rattle.std.proofs.lemmas.Bool.{cases_lt, le-ltb, lt-ltb, ne_eqb}
 use Rattle.std.proofs.lemmas.List.{length-drop, length-take-le, take-append-drop}
-use Rattle.std.proofs.lemmas.List.Sums.{fold-append}
 use Rattle.interval_file.specs.declared.fault.IntervalFileFault.{IntervalFileFault}
 use Rattle.interval_file.specs.declared.fault.IntervalFileFault.TheVariants as fault
-use Rattle.interval_file.specs.declared.decoder.Taken.TheVariants.{Interval}
 use Rattle.interval_file.specs.declared.header.IntervalHeader.{IntervalHeader}
 use Rattle.interval_file.specs.Contents.{contents_behind}
-use Rattle.interval_file.specs.Decoding.{Decoding, fault_at_end, with_byte, with_number, with_taken}
 use Rattle.tc_io.specs.Bytes.{AreBytes}
-use Rattle.interval_file.specs.Grammar.{Contents, InRange, IsFile, Says, fault_of, faulty}
-use Rattle.interval_file.specs.IntervalFile.{end}
+use Rattle.interval_file.specs.Grammar.{Contents, InRange, IsFile, Says, faulty, file}
 use Rattle.interval_file.specs.Piece.{interval_in, ticks_in, piece_width}
-use Rattle.interval_file.specs.Recording.{Recording, read_of, within_limit}
-use Rattle.tc_io.specs.Verdict.{good}
-use Rattle.interval_file.proofs.FileReadBack.{IsGood, may_end, one_taken}
-use Rattle.interval_file.proofs.FrontInterval.{least, widths}
+use Rattle.interval_file.proofs.FileMore.{file_more}
+use Rattle.interval_file.proofs.FrontInterval.{in_range_is, least, widths, wrong_interval}
 use Rattle.interval_file.proofs.FrontOfBytes.{in_range_or_not, is_spelled}
 use Rattle.tc_io.specs.ByteLemmas.{bytes_behind}
-use Rattle.interval_file.proofs.OneByteMore.{file_more, in_range_is}
-use Rattle.interval_file.proofs.RestFault.{cut_off, interval_fails, wrong_interval}
-use Rattle.interval_file.proofs.WholeNumbers.{whole_number}
 
 -- ---- the steps
 
@@ -75,44 +66,22 @@ one_on more header intervals place x l whole range =
     whole_one more header intervals place x l whole
     ∙ ap (brought more header intervals place (x ∷ l)) (in_range_is header.version place (x ∷ l) range)
 
--- ---- the decoder reads it
+-- ---- the number that is counted down does not matter
 
--- what a decoder read, and how it ends
-abbrev pub IsDecoded : Decoding → Contents → Type 0
-IsDecoded d contents = (d.recording ≡ read_of contents) × (fault_at_end (end d.progress) ≡ fault_of contents)
+pub at_end : (n : ℕ) (header : IntervalHeader) (intervals : List ℕ) (place : ℕ)
+    → contents_behind n header intervals place [] ≡ file header intervals
+at_end zero header intervals place = refl
+at_end (suc n) header intervals place = refl
 
--- an interval more
-good_on : (d : Decoding) (header : IntervalHeader) (intervals : List ℕ) (place : ℕ) (bytes : List ℕ)
-    → IsGood d header intervals place
-    → piece_width header.version bytes ≤ length bytes → InRange header.version bytes
-    → IsGood (fold with_byte d (take (piece_width header.version bytes) bytes)) header
-    (intervals ++ ticks_in header.version bytes ∷ [])
-    (place + piece_width header.version bytes)
-good_on d header intervals place bytes is whole range =
-    let width = piece_width header.version bytes in
-    let x = ticks_in header.version bytes in
-    let number = whole_number d header.version bytes is.between is.version whole
-    ∙ ap (with_number d width) (in_range_is header.version d.progress.taken bytes range) in
-    subst (λ (e : Decoding). IsGood e header (intervals ++ x ∷ []) (place + width)) (sym number) (record {
-      between = record {
-        no_fault = is.between.no_fault;
-        header = (let late = is.between.header in omega arith);
-        no_part = is.between.no_part;
-      };
-      version = is.version;
-      taken = ap (λ (n : ℕ). n + width) is.taken;
-      says = ap (λ (r : Recording). with_taken r (Interval x)) is.says ∙ one_taken header intervals x;
-    })
-
-pub decoded_behind : (more : ℕ) (d : Decoding) (header : IntervalHeader) (intervals : List ℕ) (place : ℕ)
-    (bytes : List ℕ)
-    → IsGood d header intervals place → length bytes ≤ more
-    → IsDecoded (fold with_byte d bytes) (contents_behind more header intervals place bytes)
-decoded_behind zero d header intervals place [] is few = (is.says, may_end d.progress is.between)
-decoded_behind zero d header intervals place (x ∷ l) is few = absurd (omega (arith, few))
-decoded_behind (suc more) d header intervals place [] is few = (is.says, may_end d.progress is.between)
-decoded_behind (suc more) d header intervals place (x ∷ l) is few =
-    by_width (cases_lt (length bytes) width) (in_range_or_not header.version bytes) (decoded_behind more)
+pub enough : (n m : ℕ) (header : IntervalHeader) (intervals : List ℕ) (place : ℕ) (bytes : List ℕ)
+    → length bytes ≤ n → length bytes ≤ m
+    → contents_behind n header intervals place bytes ≡ contents_behind m header intervals place bytes
+enough n m header intervals place [] few also =
+    at_end n header intervals place ∙ sym (at_end m header intervals place)
+enough zero m header intervals place (x ∷ l) few also = absurd (omega (arith, few))
+enough (suc n) zero header intervals place (x ∷ l) few also = absurd (omega (arith, also))
+enough (suc n) (suc m) header intervals place (x ∷ l) few also =
+    by_width (cases_lt (length bytes) width) (in_range_or_not header.version bytes) (enough n m header)
   where
     bytes : List ℕ
     bytes = x ∷ l
@@ -120,38 +89,62 @@ decoded_behind (suc more) d header intervals place (x ∷ l) is few =
     width : ℕ
     width = piece_width header.version bytes
 
-    so : (contents : Contents) → contents_behind (suc more) header intervals place bytes ≡ contents
-        → IsDecoded (fold with_byte d bytes) contents
-        → IsDecoded (fold with_byte d bytes) (contents_behind (suc more) header intervals place bytes)
-    so contents e read = subst (IsDecoded (fold with_byte d bytes)) (sym e) read
-
     by_width : (length bytes < width) ⊎ (width ≤ length bytes) → InRange header.version bytes
         ⊎ (¬ InRange header.version bytes)
-        → ((d : Decoding) (header : IntervalHeader) (intervals : List ℕ) (place : ℕ) (bytes : List ℕ)
-        → IsGood d header intervals place → length bytes ≤ more
-        → IsDecoded (fold with_byte d bytes) (contents_behind more header intervals place bytes))
-        → IsDecoded (fold with_byte d bytes) (contents_behind (suc more) header intervals place bytes)
+        → ((intervals : List ℕ) (place : ℕ) (bytes : List ℕ) → length bytes ≤ n → length bytes ≤ m
+        → contents_behind n header intervals place bytes ≡ contents_behind m header intervals place bytes)
+        → contents_behind (suc n) header intervals place bytes ≡ contents_behind (suc m) header intervals place bytes
     by_width (inl short) range next =
-        let read = cut_off d header intervals place bytes is (omega arith) short in
-        let none : length intervals ≡ length intervals + 0 = omega arith in
-        so (faulty header intervals (fault.Truncated (place + length bytes)))
-        (cut_short more header intervals place x l short)
-        (read.0 ∙ ap (λ (n : ℕ). within_limit header intervals n good) none, read.1)
+        cut_short n header intervals place x l short ∙ sym (cut_short m header intervals place x l short)
     by_width (inr whole) (inr wrong) next =
-        so (faulty header intervals (fault.Interval place)) (wrong_one more header intervals place x l whole wrong)
-        (interval_fails d header intervals place bytes is whole wrong)
+        wrong_one n header intervals place x l whole wrong ∙ sym (wrong_one m header intervals place x l whole wrong)
     by_width (inr whole) (inl range) next =
         let left = length-drop width bytes in
         let two = (widths header.version bytes).0 in
         let longer = intervals ++ ticks_in header.version bytes ∷ [] in
-        let rest = next (fold with_byte d (take width bytes)) header longer (place + width) (drop width bytes)
-        (good_on d header intervals place bytes is whole range) (omega (arith, few, two, left)) in
-        let parts = fold-append with_byte d (take width bytes) (drop width bytes) in
-        let all = ap (fold with_byte d) (sym (take-append-drop width bytes)) ∙ parts in
-        so (contents_behind more header longer (place + width) (drop width bytes))
-        (one_on more header intervals place x l whole range)
-        (subst (λ (e : Decoding). IsDecoded e (contents_behind more header longer (place + width) (drop width bytes)))
-        (sym all) rest)
+        one_on n header intervals place x l whole range
+        ∙ next longer (place + width) (drop width bytes) (omega (arith, few, two, left))
+        (omega (arith, also, two, left))
+        ∙ sym (one_on m header intervals place x l whole range)
+
+-- ---- each step, of any bytes
+
+-- they end inside an interval
+pub cut_behind : (n : ℕ) (header : IntervalHeader) (intervals : List ℕ) (place : ℕ) (bytes : List ℕ) → 0 < length bytes
+    → length bytes < piece_width header.version bytes → length bytes ≤ n
+    → contents_behind n header intervals place bytes
+    ≡ faulty header intervals (fault.Truncated (place + length bytes))
+cut_behind n header intervals place [] some short few = absurd (omega (arith, some))
+cut_behind zero header intervals place (x ∷ l) some short few = absurd (omega (arith, few))
+cut_behind (suc n) header intervals place (x ∷ l) some short few = cut_short n header intervals place x l short
+
+-- the interval is out of range
+pub wrong_behind : (n : ℕ) (header : IntervalHeader) (intervals : List ℕ) (place : ℕ) (bytes : List ℕ)
+    → piece_width header.version bytes ≤ length bytes → ¬ InRange header.version bytes → length bytes ≤ n
+    → contents_behind n header intervals place bytes ≡ faulty header intervals (fault.Interval place)
+wrong_behind n header intervals place [] whole wrong few =
+    let two = (widths header.version []).0 in absurd (omega (arith, whole, two))
+wrong_behind zero header intervals place (x ∷ l) whole wrong few = absurd (omega (arith, few))
+wrong_behind (suc n) header intervals place (x ∷ l) whole wrong few =
+    wrong_one n header intervals place x l whole wrong
+
+-- it is in range, and what is behind it is read
+pub one_behind : (n m : ℕ) (header : IntervalHeader) (intervals : List ℕ) (place : ℕ) (bytes : List ℕ)
+    → piece_width header.version bytes ≤ length bytes → InRange header.version bytes → length bytes ≤ n
+    → length (drop (piece_width header.version bytes) bytes) ≤ m
+    → contents_behind n header intervals place bytes
+    ≡ contents_behind m header (intervals ++ ticks_in header.version bytes ∷ [])
+    (place + piece_width header.version bytes) (drop (piece_width header.version bytes) bytes)
+one_behind n m header intervals place [] whole range few also =
+    let two = (widths header.version []).0 in absurd (omega (arith, whole, two))
+one_behind zero m header intervals place (x ∷ l) whole range few also = absurd (omega (arith, few))
+one_behind (suc n) m header intervals place (x ∷ l) whole range few also =
+    let width = piece_width header.version (x ∷ l) in
+    let left = length-drop width (x ∷ l) in
+    let two = (widths header.version (x ∷ l)).0 in
+    one_on n header intervals place x l whole range
+    ∙ enough n m header (intervals ++ ticks_in header.version (x ∷ l) ∷ []) (place + width) (drop width (x ∷ l))
+    (omega (arith, few, two, left)) also
 
 -- ---- the bytes say it
 

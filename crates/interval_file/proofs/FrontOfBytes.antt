@@ -28,8 +28,10 @@ use Rattle.tc_io.specs.Bytes.{AreBytes}
 use Rattle.interval_file.specs.Grammar.{Contents, InRange, IsFirstWrong, IsHeaderFault, MayStand}
 use Rattle.interval_file.specs.Grammar.{fault_unless, may_stand, no_header}
 use Rattle.interval_file.specs.IntervalHeader.{IsTickRate, header_bytes, system_at, version_at, version_byte}
+use Rattle.interval_file.specs.Recording.{shown}
+use Rattle.tc_io.specs.Verdict.{refused}
 use Rattle.interval_file.specs.Piece.{least_in, ticks_in, piece_width, spelling}
-use Rattle.interval_file.proofs.InTheHeader.{fault_is, place_fault}
+use Rattle.interval_file.proofs.PlaceFault.{fault_is, place_fault}
 
 -- ---- the first eight bytes
 
@@ -82,24 +84,28 @@ stand_or_not (byte ∷ more) place = by_test (cases_Bool (may_stand place byte))
 -- the fault of the first that may not
 wrong_place : (bytes : List ℕ) (place : ℕ) → place < 8 → IsFirstWrong place bytes
     → (first : IntervalFileFault) × IsHeaderFault first bytes × (place_fault place ≡ first)
+    × (shown first ≡ refused first)
 wrong_place bytes place low is = by_row (cases_lt place 4) (cases_eq place 4) (cases_eq place 5)
   where
     by_row : (place < 4) ⊎ (4 ≤ place) → (place ≡ 4) ⊎ (place ≡ 4 → ⊥) → (place ≡ 5) ⊎ (place ≡ 5 → ⊥)
         → (first : IntervalFileFault) × IsHeaderFault first bytes × (place_fault place ≡ first)
-    by_row (inl magic) four five = (fault.Magic place, (magic, is), rw (lt-ltb place 4 magic) refl)
-    by_row (inr more) (inl four) five = (fault.Version place, (four, is), rw four refl)
-    by_row (inr more) (inr not_four) (inl five) = (fault.System place, (five, is), rw five refl)
+        × (shown first ≡ refused first)
+    by_row (inl magic) four five = (fault.Magic place, (magic, is), rw (lt-ltb place 4 magic) refl, refl)
+    by_row (inr more) (inl four) five = (fault.Version place, (four, is), rw four refl, refl)
+    by_row (inr more) (inr not_four) (inl five) = (fault.System place, (five, is), rw five refl, refl)
     by_row (inr more) (inr not_four) (inr not_five) = (
       fault.Reserved place,
       (omega (arith, more, not_four, not_five), low, is),
       rw (le-ltb place 4 more, ne_eqb place 4 not_four, ne_eqb place 5 not_five) refl,
+      refl,
     )
 
-abbrev HeadOrFault : List ℕ → Type 0
+abbrev pub HeadOrFault : List ℕ → Type 0
 HeadOrFault bytes = (MayStand 0 (take 8 bytes) × (first_wrong 0 (take 8 bytes) ≡ None))
-    ⊎ ((first : IntervalFileFault) × IsHeaderFault first bytes × (first_wrong 0 (take 8 bytes) ≡ Some first))
+    ⊎ ((first : IntervalFileFault) × IsHeaderFault first bytes × (first_wrong 0 (take 8 bytes) ≡ Some first)
+    × (shown first ≡ refused first))
 
-head_or_fault : (bytes : List ℕ) → HeadOrFault bytes
+pub head_or_fault : (bytes : List ℕ) → HeadOrFault bytes
 head_or_fault bytes = by_answer (stand_or_not (take 8 bytes) 0)
   where
     by_answer : StandOrNot 0 (take 8 bytes) → HeadOrFault bytes
@@ -117,7 +123,12 @@ head_or_fault bytes = by_answer (stand_or_not (take 8 bytes) 0)
         let is : IsFirstWrong k bytes = record { there = omega (arith, below, long); wrong = wrong; before = before } in
         let place = wrong_place bytes k low is in
         let first = subst (λ (n : ℕ). first_wrong 0 (take 8 bytes) ≡ Some (place_fault n)) here found.4 in
-        inr (place.0, place.1, subst (λ (f : IntervalFileFault). first_wrong 0 (take 8 bytes) ≡ Some f) place.2 first)
+        inr (
+          place.0,
+          place.1,
+          subst (λ (f : IntervalFileFault). first_wrong 0 (take 8 bytes) ≡ Some f) place.2 first,
+          place.3,
+        )
 
 -- ---- the header
 
@@ -171,7 +182,7 @@ held : (holds : Bool) (first : IntervalFileFault) → is_none (fault_unless hold
 held true first e = refl
 held false first e = absurd cc
 
-head_is : (l : List ℕ) → length l ≡ 8 → MayStand 0 l → (version : FileVersion) × (system : System)
+pub head_is : (l : List ℕ) → length l ≡ 8 → MayStand 0 l → (version : FileVersion) × (system : System)
     × (l ≡ head_of version system)
 head_is [] long may = absurd (omega (arith, long))
 head_is (a ∷ []) long may = absurd (omega (arith, long))
@@ -232,7 +243,7 @@ header_is bytes header are begins =
     ∙ ap₂ (λ (l r : List ℕ). l ++ r) begins.head (rate ∙ ap (λ (l : List ℕ). big_bytes 4 header.tick_rate ++ l) four)
 
 -- the header that is read from them
-header_read : (bytes : List ℕ) (version : FileVersion) (system : System) → take 8 bytes ≡ head_of version system
+pub header_read : (bytes : List ℕ) (version : FileVersion) (system : System) → take 8 bytes ≡ head_of version system
     → header_of bytes ≡ header_with (Some version) (Some system) (big_number 4 (drop 8 bytes))
 header_read bytes version system head =
     let fifth : version_at (slice_index bytes 4) ≡ Some version =
@@ -308,13 +319,13 @@ in_range_or_not version rest = by_order (cases_lt (ticks_in version rest) (least
 
 -- ---- what is read from the front
 
-out_of_range : (rate : ℕ) → (nat_le 1 rate && nat_le rate MAX_TICK_RATE) ≡ false → ¬ IsTickRate rate
+pub out_of_range : (rate : ℕ) → (nat_le 1 rate && nat_le rate MAX_TICK_RATE) ≡ false → ¬ IsTickRate rate
 out_of_range rate wrong range =
     let both : (nat_le 1 rate && nat_le rate MAX_TICK_RATE) ≡ true =
     rw (le-leb 1 rate range.0, le-leb rate MAX_TICK_RATE range.1) refl in
     false≢true (sym wrong ∙ both)
 
-rate_or_not : (rate : ℕ) → IsTickRate rate ⊎ ((nat_le 1 rate && nat_le rate MAX_TICK_RATE) ≡ false)
+pub rate_or_not : (rate : ℕ) → IsTickRate rate ⊎ ((nat_le 1 rate && nat_le rate MAX_TICK_RATE) ≡ false)
 rate_or_not rate = by_order (cases_lt rate 1) (cases_lt MAX_TICK_RATE rate)
   where
     by_order : (rate < 1) ⊎ (1 ≤ rate) → (MAX_TICK_RATE < rate) ⊎ (rate ≤ MAX_TICK_RATE)
@@ -373,3 +384,32 @@ read_front bytes = by_head (head_or_fault bytes) (cases_lt (length bytes) 12)
     by_head (inl may) (inr long) =
         by_rate may.0 long (head_is (take 8 bytes) (length-take-le 8 bytes (omega (arith, long))) may.0)
         (rw (may.1, le-ltb (length bytes) 12 long) refl) (rate_or_not rate)
+
+-- the bytes begin with a header that is read from them
+pub header_begun : (bytes : List ℕ) (header : IntervalHeader) → 12 ≤ length bytes
+    → first_wrong 0 (take 8 bytes) ≡ None → header_of bytes ≡ Some header → Begins header bytes
+header_begun bytes header long may is = by_head (head_or_fault bytes)
+  where
+    rate : ℕ
+    rate = big_number 4 (drop 8 bytes)
+
+    by_rate : (version : FileVersion) (system : System) → take 8 bytes ≡ head_of version system
+        → IsTickRate rate ⊎ ((nat_le 1 rate && nat_le rate MAX_TICK_RATE) ≡ false) → Begins header bytes
+    by_rate version system head (inr wrong) =
+        let none : header_with (Some version) (Some system) rate ≡ None = rw wrong refl in
+        let read = header_read bytes version system head in
+        absurd (cc)
+    by_rate version system head (inl range) =
+        let header_read_is : header_with (Some version) (Some system) rate
+        ≡ Some (record { version = version; system = system; tick_rate = rate }) =
+        rw (le-leb 1 rate range.0, le-leb rate MAX_TICK_RATE range.1) refl in
+        let read = header_read bytes version system head in
+        let same : (record { version = version; system = system; tick_rate = rate }) ≡ header = (cc) in
+        subst (λ (h : IntervalHeader). Begins h bytes) same
+        record { long = long; head = head; rate = refl; range = range }
+
+    by_head : HeadOrFault bytes → Begins header bytes
+    by_head (inr found) = let wrong = found.2 in absurd (cc)
+    by_head (inl stands) =
+        let head = head_is (take 8 bytes) (length-take-le 8 bytes (omega (arith, long))) stands.0 in
+        by_rate head.0 head.1 head.2 (rate_or_not rate)

@@ -10,7 +10,7 @@ use Rattle.tc_io.specs.Bytes.{AreBytes}
 use Rattle.interval_file.specs.Grammar.{Contents, IsFile, Says, fault_of, faulty, file, no_header}
 use Rattle.interval_file.specs.Recording.{end_fault_of, read_of, recording_of}
 use Rattle.tc_io.specs.Verdict.{Verdict, good, past_limit}
-use Rattle.interval_file.proofs.DecoderReads.{they_say_it}
+use Rattle.interval_file.proofs.ContentsRead.{they_say_it}
 
 abbrev IsWithin : List ℕ → Type 0
 IsWithin bytes = (header : IntervalHeader) × (intervals : List ℕ) × IsFile bytes header intervals

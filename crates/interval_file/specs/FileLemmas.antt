@@ -1,13 +1,11 @@
 -- What holds of files that are cut, for the proofs of the crates above. No promise speaks of it.
-use Rattle.std.proofs.Common.{◌≡◌, ℕ, List, ◌++◌, None, refl, sym, ◌∙◌, ap, append_assoc}
+use Rattle.std.proofs.Common.{ℕ, List, ◌++◌, sym, ◌∙◌, ap, append_assoc}
 use Rattle.std.proofs.lemmas.Grind.{flat_map-append}
 use Rattle.tc_io.specs.Sink.{IsFront}
 use Rattle.interval_file.specs.declared.header.IntervalHeader.{IntervalHeader}
 use Rattle.interval_file.specs.Grammar.{file_of, intervals_bytes}
-use Rattle.interval_file.specs.IntervalFile.{after, answer, fault_in}
 use Rattle.interval_file.specs.IntervalHeader.{header_bytes}
 use Rattle.interval_file.specs.Piece.{spelling}
-use Rattle.interval_file.specs.Progress.{Progress}
 
 -- a file of intervals begins with that of the first of them
 pub file_first : (header : IntervalHeader) (xs more : List ℕ)
@@ -18,7 +16,3 @@ file_first header xs more = (
       ∙ sym (append_assoc (header_bytes header) (intervals_bytes header.version xs)
       (intervals_bytes header.version more)),
 )
-
--- the fault after a byte is that of its answer
-pub next_fault : (p : Progress) (byte : ℕ) → p.fault ≡ None → (after p byte).fault ≡ fault_in (answer p byte)
-next_fault p byte none = rw none refl

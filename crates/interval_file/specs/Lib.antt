@@ -1,13 +1,11 @@
 pub mod Contents
-pub mod Decoding
 pub mod Fault
+pub mod Front
 pub mod Grammar
-pub mod IntervalFile
+pub mod Growing
 pub mod IntervalHeader
 pub mod KeptIntervals
 pub mod Next
-pub mod NextByte
 pub mod Piece
-pub mod Progress
 pub mod Recording
 pub mod FileLemmas

@@ -1,12 +1,15 @@
--- The interval at the front of bytes.
-use Rattle.std.specs.Prelude.{◌≡◌, ◌≤◌, ◌<◌, ℕ, List, length, take, fold, nat_le, Result, Ok, Err, if◌then◌else◌}
+-- The interval at the front of bytes, and what it brings to a file that ends before them.
+use Rattle.std.specs.Prelude.{◌≡◌, ◌⊎◌, ◌≤◌, ◌<◌, ℕ, ◌+◌, List, [], ◌∷◌, ◌++◌, length, take, nat_le, Result, Ok, Err}
+use Rattle.std.specs.Prelude.{if◌then◌else◌}
 use Rattle.limits.specs.declared.recording.TheConstants.{MAX_INTERVAL}
 use Rattle.interval_file.specs.declared.fault.IntervalFileFault.{IntervalFileFault}
+use Rattle.interval_file.specs.declared.fault.IntervalFileFault.TheVariants as fault
 use Rattle.interval_file.specs.declared.header.FileVersion.{FileVersion}
+use Rattle.interval_file.specs.declared.header.IntervalHeader.{IntervalHeader}
 use Rattle.interval_file.specs.declared.piece.Next.{Next}
 use Rattle.interval_file.specs.declared.piece.Next.TheVariants.{Short, Interval, Fault}
-use Rattle.interval_file.specs.Piece.{MayBeWhole, interval_in, piece_width}
-use Rattle.interval_file.specs.Decoding.{Decoding, IsBetween, with_byte, with_number}
+use Rattle.interval_file.specs.Grammar.{IsFaulty, IsFile}
+use Rattle.interval_file.specs.Piece.{interval_in, piece_width}
 
 -- an interval of this many bytes, or its fault
 abbrev pub next_with : ℕ → Result ℕ IntervalFileFault → Next
@@ -20,17 +23,18 @@ next_of version place bytes =
     then next_with (piece_width version bytes) (interval_in version place bytes)
     else Short
 
--- a decoder that stands at the place between two intervals makes this of a number of bytes
-abbrev pub Makes : FileVersion → ℕ → List ℕ → ℕ → Result ℕ IntervalFileFault → Type 0
-Makes version place bytes width result =
-    (d : Decoding) → IsBetween d.progress → d.progress.version ≡ version → d.progress.taken ≡ place
-    → fold with_byte d (take width bytes) ≡ with_number d width result
-
--- it makes of the bytes what stands at their front
+-- how many bytes it has, and its range; the fault of one out of range is where it begins
 abbrev pub IsNext : FileVersion → ℕ → List ℕ → Next → Type 0
 IsNext version place bytes Short = length bytes < piece_width version bytes
 IsNext version place bytes (Interval x width) =
     (1 ≤ x) × (x ≤ MAX_INTERVAL) × (2 ≤ width) × (width ≤ 6) × (width ≤ length bytes)
-    × Makes version place bytes width (Ok x) × MayBeWhole version width
-IsNext version place bytes (Fault first) =
-    (width : ℕ) × (width ≤ length bytes) × Makes version place bytes width (Err first)
+IsNext version place bytes (Fault first) = first ≡ fault.Interval place
+
+-- what more bytes bring that stand behind the file of this header and these intervals: no whole interval, as they are
+-- none or end inside one; an interval and its number of bytes; or one that is out of range
+abbrev pub BringNext : List ℕ → IntervalHeader → List ℕ → List ℕ → Next → Type 0
+BringNext front header intervals bytes Short =
+    (bytes ≡ []) ⊎ IsFaulty (front ++ bytes) header intervals (fault.Truncated (length front + length bytes))
+BringNext front header intervals bytes (Interval x width) =
+    (width ≤ length bytes) × IsFile (front ++ take width bytes) header (intervals ++ x ∷ [])
+BringNext front header intervals bytes (Fault first) = IsFaulty (front ++ bytes) header intervals first

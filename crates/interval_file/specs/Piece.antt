@@ -1,6 +1,6 @@
 -- The bytes of an interval, in each version of the file. A number is the sum of its bytes by their weights, the most
 -- significant one first.
-use Rattle.std.specs.Prelude.{◌≡◌, ◌%◌, ℕ, List, ◌∷◌, drop, nat_le, nat_lt, ◌==◌, ◌&&◌, Result, Ok, Err, if◌then◌else◌}
+use Rattle.std.specs.Prelude.{ℕ, List, ◌∷◌, drop, nat_le, nat_lt, ◌==◌, ◌&&◌, Result, Ok, Err, if◌then◌else◌}
 use Rattle.byteorder.specs.Endian.{big_bytes, big_number}
 use Rattle.limits.specs.declared.recording.TheConstants.{MAX_INTERVAL}
 use Rattle.interval_file.specs.declared.fault.IntervalFileFault.{IntervalFileFault}
@@ -19,11 +19,6 @@ piece_width Two bytes = if big_number 2 bytes == 0 then 6 else 2
 abbrev pub most_width : FileVersion → ℕ
 most_width One = 4
 most_width Two = 6
-
--- this many bytes may be whole intervals: in version 1 a multiple of four, in version 2 an even number
-abbrev pub MayBeWhole : FileVersion → ℕ → Type 0
-MayBeWhole One count = count % 4 ≡ 0
-MayBeWhole Two count = count % 2 ≡ 0
 
 -- the number that the bytes of an interval spell; six bytes spell it behind two that are 0
 abbrev pub ticks_in : FileVersion → List ℕ → ℕ

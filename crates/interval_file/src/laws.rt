@@ -4,7 +4,7 @@ ghost use Rattle.std.specs.Prelude.{◌≡◌, ◌≤◌, ℕ, List, [], ◌∷�
 ghost use Rattle.limits.specs.declared.recording.TheConstants.{MAX_INTERVALS};
 ghost use Rattle.interval_file.specs.declared.header.IntervalHeader.{IntervalHeader};
 ghost use Rattle.interval_file.specs.Contents.{contents_of};
-ghost use Rattle.interval_file.specs.Decoding.{ReadsWhatIsSaid};
+ghost use Rattle.interval_file.specs.Growing.{RecordingsGrow};
 ghost use Rattle.tc_io.specs.Bytes.{AreBytes};
 ghost use Rattle.interval_file.specs.Grammar.{Contents, IsFile, Says, fault_of};
 ghost use Rattle.interval_file.specs.Recording.{end_fault_of, read_of, recording_of};
@@ -56,9 +56,10 @@ pub fn bytes_are_read_as_the_text_says()
         × (length intervals ≤ MAX_INTERVALS) }
 {}
 
-/// The decoder's steps make of bytes what is read of them, and it ends with their fault.
-pub fn the_decoder_reads_what_is_said()
-    ensures { ReadsWhatIsSaid }
+/// What bytes say of a recording grows with more bytes, and stays as it is behind a fault and behind the
+/// limit. Of an input it has a header.
+pub fn recordings_grow()
+    ensures { RecordingsGrow }
 {}
 
 /// The file of a recording is read as its header and its intervals, and the input may end there. So

@@ -1,15 +1,14 @@
-//! The bytes of an interval, in each version of the file. Read next: `decoder`.
-ghost use Rattle.std.specs.Prelude.{◌≡◌, ℕ, List, ◌≤◌, ◌<◌, ◌++◌, ◌==◌, ◌&&◌, length, drop, fold, nat_le, Some, None};
+//! The bytes of an interval, in each version of the file.
+ghost use Rattle.std.specs.Prelude.{◌≡◌, ℕ, List, ◌≤◌, ◌<◌, ◌++◌, ◌==◌, ◌&&◌, length, drop, nat_le, Some, None};
 ghost use Rattle.std.specs.Prelude.{Ok, Err, IfOk, OnErr, if◌then◌else◌};
 ghost use Rattle.interval_file.specs.declared.fault.IntervalFileFault.TheVariants as fault;
 ghost use Rattle.interval_file.specs.declared.header.FileVersion.TheVariants.{One};
 ghost use Rattle.interval_file.specs.Piece.{interval_in, most_width, piece_width, spelling};
 ghost use Rattle.limits.specs.declared.recording.TheConstants.{MAX_INTERVAL};
 ghost use Rattle.interval_file.specs.Grammar.{IsFile};
-ghost use Rattle.interval_file.specs.Next.{IsNext, next_of};
-ghost use Rattle.interval_file.specs.NextByte.{BringNext};
+ghost use Rattle.interval_file.specs.Next.{BringNext, IsNext, next_of};
 ghost use Rattle.interval_file.specs.declared.header.IntervalHeader.{IntervalHeader};
-ghost use Rattle.interval_file.specs.Decoding.{Decoding, IsBetween, with_byte, with_number};
+ghost use Rattle.interval_file.specs.declared.piece.Next.TheVariants.{Interval};
 
 use crate::fault::IntervalFileFault;
 use crate::header::FileVersion;
@@ -41,12 +40,11 @@ pub fn most_width(version: FileVersion) -> usize
     }
 }
 
-/// The next interval of bytes, the first of which is at this place between two intervals. It is
-/// what a decoder at that place makes of the bytes of the interval, taken one by one.
+/// The next interval of bytes, the first of which is at this place between two intervals.
 #[inline(always)]
 pub fn next_interval(version: FileVersion, place: u64, bytes: &[u8]) -> Next
     ensures exact { result ≡ next_of version place bytes.now }
-    ensures makes { IsNext version place bytes.now result }
+    ensures bounds { IsNext version place bytes.now result }
     // Behind a file that ends there, it is what the bytes bring to what the file says as a text.
     ensures text { (front : List ℕ) (header : IntervalHeader) (intervals : List ℕ) → IsFile front header intervals
         → header.version ≡ version → length front ≡ place → BringNext front header intervals bytes.now result }
@@ -131,9 +129,9 @@ pub fn interval_bytes(version: FileVersion, x: u32, room: &mut [u8; 6]) -> usize
     requires most { x ≤ MAX_INTERVAL }
     ensures length { result ≡ length (spelling version x) }
     ensures bytes { room.new ≡ spelling version x ++ drop (length (spelling version x)) room.old }
-    // What is written is read back.
-    ensures back { (d : Decoding) → IsBetween d.progress → d.progress.version ≡ version
-        → fold with_byte d (spelling version x) ≡ with_number d (length (spelling version x)) (Ok x) }
+    // What is written is read back, whatever comes behind it.
+    ensures back { (place : ℕ) (rest : List ℕ)
+        → next_of version place (spelling version x ++ rest) ≡ Interval x (length (spelling version x)) }
 {
     match version {
         FileVersion::One => {

@@ -95,6 +95,8 @@ impl Engine for LabelAnswers {
 
     ghost budget = { λ s. bytes_left s.reader };
 
+    ghost is_short = { λ s bytes. ⊥ };
+
     ghost stands_well = { λ s bytes written stands. stands_well s bytes written stands };
 
     fn take<O: Output>(&mut self, bytes: &[u8], out: &mut O) -> Result<usize, Halt> {
@@ -108,6 +110,10 @@ impl Engine for LabelAnswers {
             LineRead::Fault(fault) => Err(Halt::Refused(InputFault::Labels(fault))),
             LineRead::Limit => Err(Halt::Limit),
         }
+    }
+
+    fn cut_off(&self, _bytes: &[u8]) -> InputFault {
+        unreachable!()
     }
 
     fn finish<O: Output>(&mut self, out: &mut O) -> Result<(), InputFault> {

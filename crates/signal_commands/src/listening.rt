@@ -104,6 +104,8 @@ impl<C: Container, L: Listener> Engine for Listening<C, L> {
 
     ghost budget = { λ s. ContainerKind.left C.kind s.container };
 
+    ghost is_short = { λ s bytes. ⊥ };
+
     ghost stands_well = { λ s bytes written stands.
         stands_well C.kind L.kind C.is_good L.hears_well s.container s.listener s.words bytes written stands };
 
@@ -121,6 +123,10 @@ impl<C: Container, L: Listener> Engine for Listening<C, L> {
             }
             Brought::Halt(halt) => Err(halt),
         }
+    }
+
+    fn cut_off(&self, _bytes: &[u8]) -> InputFault {
+        unreachable!()
     }
 
     fn finish<O: Output>(&mut self, out: &mut O) -> Result<(), InputFault> {

@@ -122,6 +122,8 @@ impl Engine for ReadPixels {
 
     ghost budget = { λ s. most_pixels s.run + 1 - s.taken };
 
+    ghost is_short = { λ s bytes. ⊥ };
+
     ghost stands_well = { λ s bytes written stands. stands_well s bytes written stands };
 
     fn take<O: Output>(&mut self, bytes: &[u8], out: &mut O) -> Result<usize, Halt> {
@@ -136,6 +138,10 @@ impl Engine for ReadPixels {
             out.gather(field_of(&lines).as_slice());
         }
         Ok(count)
+    }
+
+    fn cut_off(&self, _bytes: &[u8]) -> InputFault {
+        unreachable!()
     }
 
     fn finish<O: Output>(&mut self, _out: &mut O) -> Result<(), InputFault> {

@@ -131,6 +131,8 @@ impl Engine for MtcReport {
 
     ghost budget = { λ s. MAX_BYTES - s.reader.bytes };
 
+    ghost is_short = { λ s bytes. ⊥ };
+
     ghost stands_well = { λ s bytes written stands. stands_well s bytes written stands };
 
     fn take<O: Output>(&mut self, bytes: &[u8], out: &mut O) -> Result<usize, Halt> {
@@ -142,6 +144,10 @@ impl Engine for MtcReport {
             self.print(&event, out);
         }
         Ok(count)
+    }
+
+    fn cut_off(&self, _bytes: &[u8]) -> InputFault {
+        unreachable!()
     }
 
     fn finish<O: Output>(&mut self, out: &mut O) -> Result<(), InputFault> {

@@ -108,6 +108,8 @@ impl Engine for FieldReport {
 
     ghost budget = { λ s. most_bytes - (s.decoder.place + length s.decoder.part) };
 
+    ghost is_short = { λ s bytes. ⊥ };
+
     ghost stands_well = { λ s bytes written stands. stands_well s bytes written stands };
 
     fn take<O: Output>(&mut self, bytes: &[u8], out: &mut O) -> Result<usize, Halt> {
@@ -121,6 +123,10 @@ impl Engine for FieldReport {
             Taken::Fault(fault) => Err(Halt::Refused(InputFault::Lines(fault))),
             Taken::Limit => Err(Halt::Limit),
         }
+    }
+
+    fn cut_off(&self, _bytes: &[u8]) -> InputFault {
+        unreachable!()
     }
 
     fn finish<O: Output>(&mut self, out: &mut O) -> Result<(), InputFault> {

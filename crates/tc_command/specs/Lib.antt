@@ -20,5 +20,6 @@ pub mod Stops
 pub mod TextLemmas
 pub mod Told
 pub mod ToldLemmas
+pub mod TooFew
 pub mod WholeInput
 pub mod Worked

@@ -1,11 +1,10 @@
 -- What is left of an input behind what was pulled of it, and what follows from a stop. No promise speaks of it.
-use Rattle.std.proofs.Common.{◌≡◌, ℕ, ◌<◌, List, [], ◌++◌, length, take, append-nil, subst}
-use Rattle.std.proofs.Common.{refl, inr, sym, ◌∙◌, ap}
-use Rattle.std.specs.Prelude.{OnErr, IfErr, Ok, Err, Some, None}
+use Rattle.std.proofs.Common.{◌≡◌, ℕ, List, ◌++◌, append-nil}
+use Rattle.std.proofs.Common.{inr, sym, ◌∙◌, ap}
+use Rattle.std.specs.Prelude.{OnOk, OnErr, IfErr, Ok, Err, Some, None}
 use Rattle.std.specs.declared.result.Result.{Result}
 use Rattle.std.specs.declared.option.Option.{Option}
 use Rattle.std.specs.Io.KnownBytes.{Consumes, IsAtEnd, Keeps}
-use Rattle.std.proofs.KnownBytes.{Consumes-trans}
 use Rattle.tc_command.specs.Meaning.{Meaning}
 use Rattle.tc_command.specs.declared.stop.Stop.{Stop}
 use Rattle.tc_command.specs.declared.stop.Stop.TheVariants.{Refused, ReadFault, WriteFault, Limit}
@@ -22,15 +21,11 @@ pub if_err : {P Q : Stop → Type 0} (result : Result (Unit {0}) Stop) → IfErr
 if_err (Ok done) says to = tt
 if_err (Err stop) says to = to stop says
 
--- a pull that gives no byte is the end
-pub ended_at : (a b c : Option (List ℕ)) (bytes read : List ℕ) (count : ℕ) → Consumes a b bytes → count ≡ 0
-    → 0 < length read
-    → Consumes b c (take count read) × (count ≡ 0 → 0 < length read → IsAtEnd c) → Consumes a c bytes × IsAtEnd c
-ended_at a b c bytes read count first none room pulled =
-    let nothing : take count read ≡ [] = rw none refl in
-    let all = Consumes-trans a b c bytes (take count read) first pulled.0 in
-    let same : bytes ++ take count read ≡ bytes = rw nothing (append-nil bytes) in
-    (subst (Consumes a c) same all, pulled.1 none room)
+-- and of an end
+pub if_ok : {P Q R : Type 0} (result : Result (Unit {0}) Stop) → OnOk result P → OnOk result Q → (P → Q → R)
+    → OnOk result R
+if_ok (Ok done) says also to = to says also
+if_ok (Err stop) says also to = tt
 
 -- a pull that failed took nothing
 pub still_consumed : (a b c : Option (List ℕ)) (bytes : List ℕ) → Consumes a b bytes → Keeps b c → Consumes a c bytes

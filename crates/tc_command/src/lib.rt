@@ -2,7 +2,8 @@
 //! source and a sink, and how it ends.
 //!
 //! A command that reads is an `Engine`: it takes what was pulled, and writes to an `Output` that cannot fail. `run`
-//! pulls its input to the end and pushes what it wrote, and there alone a pull or a push may fail. A command that
+//! pulls its input to the end, keeps the few bytes that a pull cuts off from what they belong to, and pushes what it
+//! wrote; there alone a pull or a push may fail. A command that
 //! reads nothing is a `Maker`, whose output `make` pushes piece by piece. Both run in fixed memory.
 //!
 //! What this crate promises, for all sources and sinks:
@@ -18,11 +19,12 @@
 //!   is one output of an input, and what bytes show stays. From it follow the status of a whole input
 //!   (`specs/WholeInput.antt`) and that what was written is a front of the whole output.
 //!
-//! Read `output`, `engine`, `running`, `outlet`, `halt`, `making`, `piece`, `input_fault`, `stop`, `status` and `notes`.
+//! Read `output`, `engine`, `running`, `inlet`, `outlet`, `halt`, `making`, `piece`, `input_fault`, `stop`, `status` and `notes`.
 #![tactic(auto)]
 
 mod engine;
 mod halt;
+mod inlet;
 mod input_fault;
 mod making;
 mod notes;
@@ -35,11 +37,12 @@ mod stop;
 
 pub use engine::Engine;
 pub use halt::Halt;
+pub use inlet::{KEPT, PULLED};
 pub use input_fault::InputFault;
 pub use making::{Maker, give_all, make};
 pub use notes::{push_note, stop_note, usage_note};
 pub use output::Output;
 pub use piece::{PIECE, Piece, put_interval};
-pub use running::{PULLED, run, run_behind};
+pub use running::{run, run_behind};
 pub use status::Status;
 pub use stop::Stop;

@@ -1,6 +1,5 @@
 use Rattle.std.proofs.Common.{◌∙◌, sym}
-use Rattle.interval_file.proofs.DecoderReads.{file_read}
-use Rattle.interval_file.proofs.OneText.{one_recording}
+use Rattle.interval_file.proofs.ContentsRead.{file_read, one_recording}
 use Rattle.interval_file.proofs.laws.a_file_is_read_as_it_was_written.Goals as goal
 
 pub returns-clause-read : goal.returns-clause-read

@@ -1,4 +1,4 @@
-use Rattle.interval_file.proofs.DecoderReads.{text_read}
+use Rattle.interval_file.proofs.ContentsRead.{text_read}
 use Rattle.interval_file.proofs.InputIsAFile.{input_is_a_file}
 use Rattle.interval_file.proofs.laws.bytes_are_read_as_the_text_says.Goals as goal
 

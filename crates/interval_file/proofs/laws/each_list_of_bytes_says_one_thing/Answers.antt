@@ -1,5 +1,4 @@
-use Rattle.interval_file.proofs.DecoderReads.{they_say_it}
-use Rattle.interval_file.proofs.OneText.{one_answer}
+use Rattle.interval_file.proofs.ContentsRead.{one_answer, they_say_it}
 use Rattle.interval_file.proofs.laws.each_list_of_bytes_says_one_thing.Goals as goal
 
 pub returns-clause-some : goal.returns-clause-some

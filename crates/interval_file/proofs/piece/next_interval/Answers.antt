@@ -1,15 +1,14 @@
 use Rattle.std.proofs.Common.{ℕ, length, subst}
 use Rattle.interval_file.specs.declared.header.FileVersion.{FileVersion}
-use Rattle.interval_file.specs.Next.{next_of}
-use Rattle.interval_file.specs.NextByte.{BringNext}
+use Rattle.interval_file.specs.Next.{BringNext, next_of}
 use Rattle.interval_file.proofs.BytesBehind.{they_bring}
 use Rattle.tc_io.specs.ByteLemmas.{are_bytes}
 use Rattle.interval_file.proofs.FrontInterval.{is_next}
 use Rattle.interval_file.proofs.piece.next_interval.Goals as goal
 
--- what a decoder makes of the bytes
-pub returns-clause-makes : goal.returns-clause-makes
-returns-clause-makes c = rw c.front_interval.ensures (is_next c.args.version c.args.place c.args.bytes.now)
+-- how many bytes it has, and its range
+pub returns-clause-bounds : goal.returns-clause-bounds
+returns-clause-bounds c = rw c.front_interval.ensures (is_next c.args.version c.args.place c.args.bytes.now)
 
 -- and what they bring to a file
 pub returns-clause-text : goal.returns-clause-text

@@ -1,62 +1,93 @@
-use Rattle.std.proofs.Common.{◌++◌, List, ℕ, take, drop, refl, sym, ap, inr, append_assoc, ◌∙◌}
-use Rattle.std.proofs.lemmas.List.{take-append-drop}
-use Rattle.interval_file.specs.Recording.{recording_of}
-use Rattle.interval_engine.specs.KeptAlong.{printed_well}
-use Rattle.interval_engine.proofs.ByteMore.{fewer_follow}
+use Rattle.std.proofs.Common.{◌++◌, [], refl, take, arith, inr}
+use Rattle.std.proofs.lemmas.List.{length-take-le}
+use Rattle.tc_command.specs.Halt.{IsHalt as IsHaltOf}
+use Rattle.tc_command.specs.declared.halt.Halt.TheVariants.{Limit}
+use Rattle.interval_engine.specs.Along.{along_intervals}
+use Rattle.interval_engine.specs.KeptAlong.{StandsWithin}
+use Rattle.interval_engine.proofs.SoFar.{from_start, refused_in_header, waits_in_header, waits_inside}
+use Rattle.interval_engine.proofs.SpentOrNot.{goes_on_within, halts_along, spent_along, waits_along, within_too}
 use Rattle.interval_engine.proofs.along.AlongEngine.take.Goals as goal
 
--- the bytes so far pass a limit of the command's own
+-- behind the header
+pub returns-in-Some-clause-waits : goal.returns-in-Some-clause-waits
+returns-in-Some-clause-waits g c =
+    let s = c.in-Some.begun in
+    let n = c.take.new.self in
+    let choice = c.args.self.now.choice in
+    let said = c.bytes_are_read_as_the_text_says.ensures.recording in
+    waits_along g.O.Output.given g.B.Behind.fits g.B.Behind.stands s.version n.version s.behind n.behind s.taken n.taken
+    s.intervals n.intervals c.args.out.now c.take.new.out c.args.bytes.now _ c.take.result c.take.ensures.advances
+    (λ fewer limit short. (
+      rw c.in-Some.is (omega (arith, fewer)),
+      short,
+      waits_inside said g.B.Behind.printing g.B.Behind.stands g.B.Behind.stands_well n.version n.behind n.taken
+          n.intervals choice c.args.bytes.now short limit,
+    ))
+
+pub returns-in-Some-clause-works : goal.returns-in-Some-clause-works
+returns-in-Some-clause-works g c =
+    let s = c.in-Some.begun in
+    let n = c.take.new.self in
+    rw c.in-Some.is (goes_on_within g.B.Behind.printing g.B.Behind.stands g.O.Output.given g.B.Behind.fits s.version
+    n.version s.behind n.behind s.taken n.taken s.intervals n.intervals c.args.self.now.choice c.args.out.now
+    c.take.new.out c.args.bytes.now c.take.result c.take.ensures.advances c.take.ensures.within)
+
+pub returns-in-Some-clause-halts : goal.returns-in-Some-clause-halts
+returns-in-Some-clause-halts g c =
+    let s = c.in-Some.begun in
+    rw c.in-Some.is (halts_along g.B.Behind.printing g.B.Behind.stands g.O.Output.given s.version s.behind s.taken
+    s.intervals c.args.self.now.choice c.args.out.now c.take.new.out c.args.bytes.now c.take.result
+    c.take.ensures.halts)
+
+-- the header alone passes a limit of the command's own
 pub returns-then-is_spent-clause-halts : goal.returns-then-is_spent-clause-halts
 returns-then-is_spent-clause-halts g c = λ front written stands.
-    let s = c.args.self.now in
     let bytes = c.args.bytes.now in
-    let count = c.in-Ok.count in
-    let due = front ++ take count bytes in
-    let w = c.in-Ok.ensures.advances.2.works front written stands.stands in
-    let rest = ap (λ (l : List ℕ). front ++ l) (sym (take-append-drop count bytes))
-    ∙ sym (append_assoc front (take count bytes) (drop count bytes)) in
-    let printed = w.2.printed in (
-      w.0,
-      w.1,
-      inr (
-        due,
-        (drop count bytes, rest),
-        c.if-is_spent.ensures.spent refl s.choice (recording_of due) _ printed,
-        printed_well g.B.Behind.printing g.B.Behind.stands g.B.Behind.stands_well c.advance.new.self.behind s.choice
-            (recording_of due) _ printed,
-      ),
+    let choice = c.args.self.now.choice in
+    let b = c.new-begun.result in
+    let is = rw c.in-Ok-Some.field-0-is at c.in-Ok-Some.ensures in
+    let begun = c.new-begun.ensures.begins (take 12 bytes) is.1 (length-take-le 12 bytes is.0) in (
+      begun.0,
+      begun.1,
+      from_start (λ f w. IsHaltOf (along_intervals (g.B.Behind.printing choice)) Limit (f ++ bytes) (w ++ begun.0))
+          front written (rw c.in_default.is at stands)
+          (spent_along g.B.Behind.printing g.B.Behind.stands b.version b.behind b.taken b.intervals choice [] bytes
+          begun.0 12 g.B.Behind.stands_well (c.if-is_spent.ensures.spent refl) begun.2),
     )
 
--- they do not
-pub returns-else-is_spent : goal.returns-else-is_spent
-returns-else-is_spent g c =
-    let s = c.args.self.now in
+-- it does not
+pub returns-else-is_spent-clause-works : goal.returns-else-is_spent-clause-works
+returns-else-is_spent-clause-works g c = λ front written stands.
     let bytes = c.args.bytes.now in
-    let count = c.in-Ok.count in
-    let e = c.in-Ok.ensures in
-    let a = e.advances in
-    record {
-      going = a.2.going;
-      budget = fewer_follow g.B.Behind.fits s.decoder s.behind s.intervals _ count bytes c.requires.going a.0 a.1
-          a.2.taken;
-      choice = e.choice;
-      count = (a.0, a.1);
-      works = λ front written stands.
-          let w = a.2.works front written stands.stands in
-          let due = recording_of (front ++ take count bytes) in (
-            w.0,
-            w.1,
-            rw e.choice record {
-              stands = w.2;
-              unspent = c.if-is_spent.ensures.going refl s.choice due _ w.2.printed;
-            },
-          );
-      halts = tt;
-    }
+    let choice = c.args.self.now.choice in
+    let b = c.new-begun.result in
+    let is = rw c.in-Ok-Some.field-0-is at c.in-Ok-Some.ensures in
+    let begun = c.new-begun.ensures.begins (take 12 bytes) is.1 (length-take-le 12 bytes is.0) in (
+      begun.0,
+      begun.1,
+      from_start (λ f w. StandsWithin g.B.Behind.printing g.B.Behind.stands b.version b.behind b.taken b.intervals
+          choice (f ++ take 12 bytes) (w ++ begun.0)) front written (rw c.in_default.is at stands)
+          (within_too g.B.Behind.printing g.B.Behind.stands b.version b.behind b.taken b.intervals choice
+          (take 12 bytes) begun.0 (c.if-is_spent.ensures.going refl) begun.2),
+    )
 
--- a fault of the file, or a limit
+-- the header is not whole
+pub returns-in-Ok-None-clause-waits : goal.returns-in-Ok-None-clause-waits
+returns-in-Ok-None-clause-waits g c =
+    let short = rw c.in-Ok-None.field-0-is at c.in-Ok-None.ensures in
+    inr (
+      omega arith,
+      rw c.in_default.is short,
+      rw c.in_default.is (waits_in_header c.bytes_are_read_as_the_text_says.ensures.recording
+          (g.B.Behind.printing c.args.self.now.choice) c.args.bytes.now short),
+    )
+
+-- or it has a fault
 pub returns-in-Err-clause-halts : goal.returns-in-Err-clause-halts
-returns-in-Err-clause-halts g c = λ front written stands.
-    let e = c.in-Err.ensures in
-    let h = e.halts front written stands.stands in
-    (h.0, h.1, rw (← e.choice) (c.halted.ensures _ _ (rw (← e.choice) at h.2)))
+returns-in-Err-clause-halts g c = λ front written stands. (
+  [],
+  g.O.Output.given_none c.args.out.now,
+  refused_in_header c.bytes_are_read_as_the_text_says.ensures.recording (g.B.Behind.printing c.args.self.now.choice)
+      c.args.bytes.now c.in-Err.fault c.in-Err.ensures.0 c.in-Err.ensures.1 front written
+      (rw c.in_default.is at stands),
+)

@@ -31,7 +31,7 @@ returns-in-Nothing-clause-going g c =
     c.take.ensures.next
 
 pub returns-in-Nothing-clause-budget : goal.returns-in-Nothing-clause-budget
-returns-in-Nothing-clause-budget g c =
+returns-in-Nothing-clause-budget g c = λ some.
     let byte = get_or c.args.bytes.now 0 0 in
     let is = sym c.take.ensures.said ∙ c.in-Nothing.is in
     fewer_left c.args.self.now.reader c.take.new.self byte c.take.ensures.valid
@@ -59,7 +59,7 @@ returns-in-Label-clause-going g c =
     c.take.ensures.next
 
 pub returns-in-Label-clause-budget : goal.returns-in-Label-clause-budget
-returns-in-Label-clause-budget g c =
+returns-in-Label-clause-budget g c = λ some.
     let byte = get_or c.args.bytes.now 0 0 in
     let is = sym c.take.ensures.said ∙ c.in-Label.is in
     a_line_less c.args.self.now.reader c.take.new.self byte c.in-Label.label c.requires.going.place c.take.ensures.valid

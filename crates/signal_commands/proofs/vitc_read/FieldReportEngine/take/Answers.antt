@@ -35,7 +35,7 @@ returns-in-Field-clause-going g c =
     c.in-Field.ensures.takes.fields c.in-Field.ensures.bounds.0 c.print.ensures.counted
 
 pub returns-in-Field-clause-budget : goal.returns-in-Field-clause-budget
-returns-in-Field-clause-budget g c =
+returns-in-Field-clause-budget g c = λ some.
     let adds = c.in-Field.ensures.takes in
     less_to_come c.args.self.now c.print.new.self c.take.new.self c.in-Field.answer c.in-Field.count adds.some
     adds.taken c.in-Field.ensures.bounds c.print.ensures.counted
