@@ -2,7 +2,7 @@
 -- given lie within those of the cells.
 use Rattle.std.proofs.Common.{◌≡◌, ◌≤◌, ℕ, ◌+◌, ◌-◌, Bool, true, false, List, [], ◌∷◌, ◌++◌, length, Option, Some}
 use Rattle.std.proofs.Common.{None, IfSome}
-use Rattle.std.proofs.Common.{ap, sym, ◌∙◌, arith, refl, subst, length-append, append-nil, inl, inr, map}
+use Rattle.std.proofs.Common.{ap, sym, ◌∙◌, arith, refl, subst, length-append, inl, inr, map}
 use Rattle.std.specs.Prelude.{nat_lt}
 use Rattle.std.specs.Option.{option_map}
 use Rattle.std.proofs.lemmas.Bool.{cases_lt}
@@ -21,8 +21,8 @@ use Rattle.direction_reader.specs.declared.waiting.Waiting.{Waiting}
 use Rattle.direction_reader.specs.Beside.{BesideBits, none_beside, beside_with, is_firm_before, is_sync_behind}
 use Rattle.direction_reader.specs.Brings.{IsWordAt}
 use Rattle.direction_reader.specs.Events.{tick_of}
-use Rattle.direction_reader.specs.Firm.{judged, firm_events_of_cells, told_tick, DoNotFall}
-use Rattle.direction_reader.specs.FirmStandsFor.{KeptFirm, FirmCellsStandFor, WaitsFor, beside_of}
+use Rattle.direction_reader.specs.Firm.{judged, told_tick, DoNotFall}
+use Rattle.direction_reader.specs.FirmStandsFor.{KeptFirm, FirmCellsStandFor, beside_of}
 use Rattle.direction_reader.specs.FirmStep.{FindsAt, AreWindowCandidates, heard, began, or_else, ended, firm_list}
 use Rattle.direction_reader.specs.FirmStep.{IsPlayedBackward, IsToldBackward, IsWithin, IsToldWithin, firm_listed, until_of}
 use Rattle.direction_reader.specs.declared.firm_event.FirmEvents.{FirmEvents}

@@ -9,7 +9,6 @@ use Rattle.std.proofs.lemmas.List.{take-append-le, take_all}
 use Rattle.lemmas.specs.Lists.{length-last}
 use Rattle.biphase.specs.declared.cell.Cell.{Cell}
 use Rattle.biphase.specs.declared.cell.Cell.TheVariants as cell
-use Rattle.biphase.specs.declared.profile.Profile.{Profile}
 use Rattle.biphase.specs.Tolerance.{length_of}
 use Rattle.biphase.specs.Chain.{bit_of}
 use Rattle.cell_tracker.specs.Stretch.{Stretch, begun, with_cell, with_break}
@@ -21,16 +20,13 @@ use Rattle.direction_reader.specs.declared.firm_event.FirmEvent.TheVariants.{Tol
 use Rattle.direction_reader.specs.declared.state.Step.{Step}
 use Rattle.direction_reader.specs.declared.state.Step.TheVariants.{Nothing, FirstZero, ZeroBefore, Break}
 use Rattle.direction_reader.specs.declared.waiting.Waiting.{Waiting}
-use Rattle.direction_reader.specs.Firm.{AreFirmEvents, firm_events_of_cells, firm_events_of_stretch}
+use Rattle.direction_reader.specs.Firm.{firm_events_of_cells, firm_events_of_stretch}
 use Rattle.direction_reader.specs.FirmReader.{FirmState, FirmTakes, FirmOpen, FirmLatest, FirmStandsFor}
 use Rattle.direction_reader.specs.FirmStandsFor.{KeptFirm, no_firm_cells, FirmCellsStandFor}
 use Rattle.direction_reader.specs.FirmStep.{ended, firm_list, firm_listed}
 use Rattle.direction_reader.specs.Gathered.{begin_of}
 use Rattle.direction_reader.specs.ListEvents.{duration, break_events}
-use Rattle.direction_reader.specs.StandsFor.{waiting, AreInside, TrackerStandsFor, StandsAfter, MayBreak, IsLastZero}
-use Rattle.direction_reader.specs.Tracker.{profile_of}
-use Rattle.direction_reader.specs.Tracking.{Tracking}
-use Rattle.direction_reader.specs.Tracking.{AtCell, MidCell, Hunting}
+use Rattle.direction_reader.specs.StandsFor.{waiting, AreInside, TrackerStandsFor, StandsAfter, MayBreak}
 use Rattle.direction_reader.proofs.CellsGrow.{none_yet, duration_more}
 use Rattle.direction_reader.proofs.EventsJoin.{begin_stays, break_stays, all_inside, one_inside}
 use Rattle.direction_reader.proofs.KnownSteps.{end_stands}

@@ -1,9 +1,9 @@
 -- The candidates of a window bear the tick at its end, and windows end one after another.
 use Rattle.std.proofs.Common.{◌≡◌, ◌≤◌, ◌⊎◌, ℕ, zero, suc, ◌+◌, Bool, true, false, List, [], ◌∷◌}
-use Rattle.std.proofs.Common.{take, drop, map, All, Option, Some, None, inl, inr}
+use Rattle.std.proofs.Common.{take, drop, All, Option, Some, None}
 use Rattle.std.proofs.Common.{arith, refl, subst}
 use Rattle.std.proofs.lemmas.List.{take_all}
-use Rattle.std.proofs.lemmas.List.Elements.{All-nil, All-cons, All-append, All-head, All-tail}
+use Rattle.std.proofs.lemmas.List.Elements.{All-nil, All-cons}
 use Rattle.biphase.specs.declared.cell.Cell.{Cell}
 use Rattle.ltc_word.specs.Reading.{fault_in}
 use Rattle.ltc_word.specs.Reversal.{reversed_bits, ends_in_sync}
@@ -16,7 +16,7 @@ use Rattle.direction_reader.specs.declared.event.Event.TheVariants.{Word, Refuse
 use Rattle.direction_reader.specs.declared.firm_event.FirmEvent.{FirmEvent}
 use Rattle.direction_reader.specs.Candidate.{event_of, candidate_in}
 use Rattle.direction_reader.specs.Events.{tick_of}
-use Rattle.direction_reader.specs.Firm.{is_firm, judged, candidate_at, firm_candidate_at, firm_events_at, told_tick}
+use Rattle.direction_reader.specs.Firm.{judged, candidate_at, told_tick}
 use Rattle.direction_reader.specs.FirmTold.{end_of_window}
 use Rattle.direction_reader.specs.ListEvents.{bits_in, duration}
 use Rattle.direction_reader.proofs.AsLists.{by_fault}

@@ -1,8 +1,8 @@
 -- One cell more makes one window more, and decides of one window alone whether it has its witness: the one that ended
 -- sixteen cells before. So what was given stays.
-use Rattle.std.proofs.Common.{◌≡◌, ◌<◌, ◌≤◌, ℕ, zero, suc, ◌+◌, ◌-◌, Bool, true, false, List, [], ◌∷◌, ◌++◌, length}
+use Rattle.std.proofs.Common.{◌≡◌, ◌<◌, ◌≤◌, ℕ, ◌+◌, ◌-◌, Bool, true, List, [], ◌∷◌, ◌++◌, length}
 use Rattle.std.proofs.Common.{take, drop, map}
-use Rattle.std.proofs.Common.{ap, ap₂, sym, ◌∙◌, arith, refl, append_assoc, append-nil, length-append, inl, inr}
+use Rattle.std.proofs.Common.{ap, ap₂, ◌∙◌, arith, refl, inl, inr}
 use Rattle.std.specs.Prelude.{nat_lt}
 use Rattle.std.proofs.lemmas.Bool.{cases_lt}
 use Rattle.std.proofs.lemmas.Grind.{common_steps}
@@ -12,8 +12,7 @@ use Rattle.tc_address.specs.declared.direction.Direction.{Direction}
 use Rattle.tc_address.specs.declared.direction.Direction.TheVariants.{Forward, Backward}
 use Rattle.tc_address.specs.declared.system.System.{System}
 use Rattle.direction_reader.specs.declared.event.Event.{Event}
-use Rattle.direction_reader.specs.declared.firm_event.FirmEvent.{FirmEvent}
-use Rattle.direction_reader.specs.Firm.{is_firm, judged, candidate_at, firm_candidate_at, firm_events_at}
+use Rattle.direction_reader.specs.Firm.{is_firm, judged, candidate_at, firm_candidate_at}
 
 -- ---- a window that was there
 

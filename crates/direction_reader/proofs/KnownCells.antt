@@ -2,19 +2,18 @@
 -- are their events.
 use Rattle.std.proofs.Common.{◌≡◌, ◌<◌, ◌≤◌, ℕ, zero, suc, ◌+◌, ◌-◌, Bool, true, false, List, [], ◌∷◌, ◌++◌}
 use Rattle.std.proofs.Common.{length, take, drop, map, Option, Some, None, inl, inr, ap, ap₂, sym, ◌∙◌}
-use Rattle.std.proofs.Common.{arith, refl, subst, append_assoc, append-nil, length-append}
+use Rattle.std.proofs.Common.{arith, refl, append_assoc, length-append}
 use Rattle.std.specs.Prelude.{nat_lt, ◌==◌, if◌then◌else◌}
 use Rattle.std.specs.List.{flat_map, range_with_len}
 use Rattle.std.proofs.lemmas.Bool.{cases_lt}
 use Rattle.std.proofs.lemmas.Grind.{common_steps}
-use Rattle.std.proofs.lemmas.List.{drop-append-le, length-drop, length-map, map-append, take-append-le}
+use Rattle.std.proofs.lemmas.List.{drop-append-le, length-drop, map-append, take-append-le}
 use Rattle.biphase.specs.declared.cell.Cell.{Cell}
 use Rattle.tc_address.specs.declared.direction.Direction.TheVariants.{Forward, Backward}
 use Rattle.tc_address.specs.declared.system.System.{System}
 use Rattle.direction_reader.specs.declared.event.Event.{Event}
 use Rattle.direction_reader.specs.declared.event.Event.TheVariants.{Word, Refused, Lost}
 use Rattle.direction_reader.specs.declared.firm_event.FirmEvent.{FirmEvent}
-use Rattle.direction_reader.specs.declared.firm_event.FirmEvent.TheVariants.{Told}
 use Rattle.direction_reader.specs.Firm.{is_firm, judged, candidate_at, firm_candidate_at, firm_events_at, sync_in_time}
 use Rattle.direction_reader.specs.Firm.{firm_events_of_cells}
 use Rattle.direction_reader.specs.FirmKnown.{Known, Sure, Open, Sight, Judged, Beside, all_sure, closed, known}
@@ -66,7 +65,7 @@ from_more system tick cells more a (suc n) within =
     (from_more system tick cells more (a + 1) n (omega arith))
     ∙ sym (map-append (extended more) (sights_at system tick cells a) (sights_from system tick cells (a + 1) n))
 
-sights_join : (system : System) (tick : ℕ) (cells : List Cell) (a n m : ℕ)
+pub sights_join : (system : System) (tick : ℕ) (cells : List Cell) (a n m : ℕ)
     → sights_from system tick cells a (n + m)
     ≡ sights_from system tick cells a n ++ sights_from system tick cells (a + n) m
 sights_join system tick cells a zero m =
@@ -202,16 +201,16 @@ closed_judged goes_on [] = refl
 closed_judged goes_on (f ∷ fs) = ap (λ (es : List FirmEvent). f ∷ es) (closed_judged goes_on fs)
 
 -- what a list of candidates is, where no cell follows
-abbrev ends_as : Bool → List Sight → List FirmEvent
+abbrev pub ends_as : Bool → List Sight → List FirmEvent
 ends_as goes_on ss = map closed (map (known goes_on) ss)
 
-ends_append : (goes_on : Bool) (ss ts : List Sight)
+pub ends_append : (goes_on : Bool) (ss ts : List Sight)
     → ends_as goes_on (ss ++ ts) ≡ ends_as goes_on ss ++ ends_as goes_on ts
 ends_append goes_on ss ts =
     ap (map closed) (map-append (known goes_on) ss ts)
     ∙ map-append closed (map (known goes_on) ss) (map (known goes_on) ts)
 
-closed_at : (goes_on : Bool) (system : System) (tick : ℕ) (cells : List Cell) (k : ℕ)
+pub closed_at : (goes_on : Bool) (system : System) (tick : ℕ) (cells : List Cell) (k : ℕ)
     → ends_as goes_on (sights_at system tick cells k) ≡ firm_events_at system tick cells k
 unfolding sights_at firm_events_at
 closed_at goes_on system tick cells k =

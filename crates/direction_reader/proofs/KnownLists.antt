@@ -1,9 +1,8 @@
 -- What is told comes first among events of which some are known, and what follows ends no sooner than the first word
 -- that waits. If more becomes known, and other events follow, it stays so.
-use Rattle.std.proofs.Common.{◌≡◌, ◌≤◌, ◌⊎◌, ℕ, ◌+◌, List, [], ◌∷◌, ◌++◌, length, map, All, inl, inr, ap, ap₂, sym, ◌∙◌}
-use Rattle.std.proofs.Common.{arith, refl, append-nil, drop}
-use Rattle.std.proofs.lemmas.List.Elements.{All-nil, All-cons, All-head, All-tail}
-use Rattle.direction_reader.specs.declared.event.Event.{Event}
+use Rattle.std.proofs.Common.{◌≡◌, ◌≤◌, ◌⊎◌, ℕ, ◌+◌, List, [], ◌∷◌, ◌++◌, length, map, All, inl, inr, ap, ap₂, ◌∙◌}
+use Rattle.std.proofs.Common.{arith, refl, drop}
+use Rattle.std.proofs.lemmas.List.Elements.{All-nil, All-cons}
 use Rattle.direction_reader.specs.declared.firm_event.FirmEvent.{FirmEvent}
 use Rattle.direction_reader.specs.declared.firm_event.FirmEvent.TheVariants.{Told}
 use Rattle.direction_reader.specs.Events.{tick_of}

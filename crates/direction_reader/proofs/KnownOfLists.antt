@@ -1,28 +1,22 @@
 -- What is told of a list of intervals while more may follow comes first among its events, and in what is told of more
 -- intervals; and what follows ends no sooner than all is told. A list has one such list of events.
 use Rattle.std.proofs.Common.{◌≡◌, ◌<◌, ◌≤◌, ◌⊎◌, ℕ, zero, suc, ◌+◌, List, [], ◌∷◌, ◌++◌, length, drop, map, sum}
-use Rattle.std.proofs.Common.{Option, Some, None, MatchOption, All, ap, ap₂, sym, ◌∙◌, arith, refl, subst, inl, inr}
-use Rattle.std.proofs.Common.{length-append}
+use Rattle.std.proofs.Common.{Option, Some, None, MatchOption, All, ap, ap₂, sym, ◌∙◌, arith, refl, subst}
 use Rattle.std.specs.List.{flat_map, AllZip}
-use Rattle.std.proofs.lemmas.Bool.{cases_lt}
 use Rattle.std.proofs.lemmas.List.{drop-map, length-map, map-append}
-use Rattle.std.proofs.lemmas.List.Elements.{All-head, All-tail}
+use Rattle.std.proofs.lemmas.List.Elements.{All-head}
 use Rattle.std.proofs.lemmas.List.Sums.{sum_by-append}
-use Rattle.biphase.specs.declared.cell.Cell.{Cell}
 use Rattle.biphase.specs.declared.profile.Profile.{Profile}
 use Rattle.cell_tracker.specs.Stretch.{Stretch, AreStretches, AreStretchesFrom}
-use Rattle.tc_address.specs.declared.direction.Direction.TheVariants.{Backward}
 use Rattle.tc_address.specs.declared.system.System.{System}
 use Rattle.direction_reader.specs.declared.event.Event.{Event}
-use Rattle.direction_reader.specs.declared.event.Event.TheVariants.{Word, Refused, Lost}
 use Rattle.direction_reader.specs.declared.firm_event.FirmEvent.{FirmEvent}
-use Rattle.direction_reader.specs.Events.{is_word, tick_of}
-use Rattle.direction_reader.specs.Firm.{AreFirmEvents, candidate_at, firm_events_of_cells, firm_events_of_stretch}
+use Rattle.direction_reader.specs.Events.{tick_of}
+use Rattle.direction_reader.specs.Firm.{AreFirmEvents, firm_events_of_stretch}
 use Rattle.direction_reader.specs.Firm.{told_tick, DoNotFall}
-use Rattle.direction_reader.specs.FirmKnown.{Known, closed, known_of, told_of, told_to}
+use Rattle.direction_reader.specs.FirmKnown.{closed, known_of, told_of, told_to}
 use Rattle.direction_reader.specs.FirmTape.{IsJudged}
 use Rattle.direction_reader.specs.FirmTold.{AreTold, ComesFirst}
-use Rattle.direction_reader.specs.Gathered.{begin_of}
 use Rattle.direction_reader.specs.ListEvents.{AreEvents}
 use Rattle.direction_reader.specs.StandsFor.{AreInside}
 use Rattle.direction_reader.proofs.FirmJudges.{list_judged}

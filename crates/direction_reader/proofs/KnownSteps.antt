@@ -1,13 +1,13 @@
 -- One cell more ends one window more, and each candidate before has one cell more behind it. So a word that waits waits
 -- on, or is decided by its sixteen cells, and what comes in the meantime comes behind it, one event at most.
-use Rattle.std.proofs.Common.{◌≡◌, ◌<◌, ◌≤◌, ◌⊎◌, ℕ, zero, suc, ◌+◌, ◌-◌, Bool, true, false, List, [], ◌∷◌, ◌++◌}
+use Rattle.std.proofs.Common.{◌≡◌, ◌<◌, ◌≤◌, ◌⊎◌, ℕ, ◌+◌, ◌-◌, Bool, true, false, List, [], ◌∷◌, ◌++◌}
 use Rattle.std.proofs.Common.{length, take, drop, map, Option, Some, None, inl, inr, ap, ap₂, sym, ◌∙◌}
-use Rattle.std.proofs.Common.{arith, refl, subst, append_assoc, append-nil, length-append}
+use Rattle.std.proofs.Common.{arith, refl, append_assoc, append-nil, length-append}
 use Rattle.std.specs.Prelude.{nat_lt, ◌==◌}
 use Rattle.std.specs.Option.{option_map}
 use Rattle.std.proofs.lemmas.Bool.{cases_lt}
 use Rattle.std.proofs.lemmas.Grind.{common_steps}
-use Rattle.std.proofs.lemmas.List.{drop-append-le, drop_all, length-drop, map-append, take_all}
+use Rattle.std.proofs.lemmas.List.{drop-append-le, drop_all, length-drop, map-append}
 use Rattle.biphase.specs.declared.cell.Cell.{Cell}
 use Rattle.ltc_word.specs.SyncLemmas.{in_sync_or_not}
 use Rattle.tc_address.specs.declared.direction.Direction.TheVariants.{Forward, Backward}
@@ -20,8 +20,8 @@ use Rattle.direction_reader.specs.declared.waiting.Waiting.{Waiting}
 use Rattle.direction_reader.specs.Events.{is_word, listed}
 use Rattle.direction_reader.specs.Firm.{judged, candidate_at, firm_candidate_at, firm_events_of_cells, sync_in_time}
 use Rattle.direction_reader.specs.FirmKnown.{Known, Sure, Open, Sight, Judged, Beside, all_sure, closed, known}
-use Rattle.direction_reader.specs.FirmKnown.{known_by, known_of_cells, sights_at, sights_from, sights_of, witness_in}
-use Rattle.direction_reader.specs.FirmStandsFor.{AreBefore, OneWaits, WaitsFor}
+use Rattle.direction_reader.specs.FirmKnown.{known_by, known_of_cells, sights_at, sights_from, sights_of}
+use Rattle.direction_reader.specs.FirmStandsFor.{OneWaits, WaitsFor}
 use Rattle.direction_reader.specs.FirmStep.{firm_listed, firm_list, heard, began, ended, or_else, nothing_told}
 use Rattle.direction_reader.specs.ListEvents.{bits_in}
 use Rattle.direction_reader.proofs.FirmWindows.{candidate_stays, taken_stays}
@@ -81,12 +81,12 @@ last_window system tick cells cell forward backward found many =
 
 -- ---- what is known of candidates
 
-sure_both : (ss ts : List Sight) (es fs : List FirmEvent) → AreSure ss es → AreSure ts fs
+pub sure_both : (ss ts : List Sight) (es fs : List FirmEvent) → AreSure ss es → AreSure ts fs
     → AreSure (ss ++ ts) (es ++ fs)
 sure_both ss ts es fs one two =
     map-append (known true) ss ts ∙ ap₂ (λ (ks ls : List Known). ks ++ ls) one two ∙ sym (sure_append es fs)
 
-sure_judged : (fs : List FirmEvent) → AreSure (map (λ (e : FirmEvent). Judged e) fs) fs
+pub sure_judged : (fs : List FirmEvent) → AreSure (map (λ (e : FirmEvent). Judged e) fs) fs
 sure_judged [] = refl
 sure_judged (f ∷ fs) = ap (λ (ks : List Known). Sure f ∷ ks) (sure_judged fs)
 
@@ -390,7 +390,7 @@ abbrev pub pending : Option Waiting → List Known
 pending None = []
 pending (Some w) = Open w.word ∷ all_sure (firm_listed w.behind)
 
-open_word : (w : Event) (behind : List Cell) → is_word w ≡ true → length behind < 16
+pub open_word : (w : Event) (behind : List Cell) → is_word w ≡ true → length behind < 16
     → known true (Beside w behind) ≡ Open w
 open_word (Word d w t n) behind is young = let none = witness_young behind young in rw none refl
 open_word (Refused d f t) behind is young = absurd cc

@@ -33,6 +33,7 @@ pub mod NextWordLists
 pub mod NextWordTicks
 pub mod OneList
 pub mod OneListOfEvents
+pub mod OneWaits
 pub mod ReaderSteps
 pub mod TellsTheTape
 pub mod SyncInTime

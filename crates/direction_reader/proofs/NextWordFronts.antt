@@ -1,26 +1,21 @@
 -- What is given while more may follow comes first in what is given of more: with witnesses alone it does, and the next
 -- event changes nothing but what is held, which ends no later than the tick up to which all is told.
-use Rattle.std.proofs.Common.{◌≡◌, ◌≤◌, ℕ, true, List, [], ◌∷◌, ◌++◌, map, All, Option, Some, None, IfSome}
+use Rattle.std.proofs.Common.{◌≡◌, ◌≤◌, ℕ, true, List, [], ◌∷◌, ◌++◌, All, Option, Some, None, IfSome}
 use Rattle.std.proofs.Common.{inl, inr, ap, ap₂, sym, ◌∙◌, refl, subst, append-nil, append_assoc, arith, sum}
-use Rattle.std.specs.List.{AllZip}
 use Rattle.std.proofs.lemmas.List.{append_cancel_right}
 use Rattle.std.proofs.lemmas.List.Elements.{All-nil, All-cons, All-append, All-head, All-tail}
 use Rattle.biphase.specs.declared.profile.Profile.{Profile}
 use Rattle.tc_address.specs.declared.direction.Direction.TheVariants.{Forward, Backward}
 use Rattle.tc_address.specs.declared.system.System.{System}
-use Rattle.direction_reader.specs.declared.event.Event.{Event}
 use Rattle.direction_reader.specs.declared.firm_event.FirmEvent.{FirmEvent}
 use Rattle.direction_reader.specs.declared.firm_event.FirmEvent.TheVariants.{Told, Alone}
 use Rattle.direction_reader.specs.Consecutive.{all_between, between, consecutive, first_of, last_of, or_other}
 use Rattle.direction_reader.specs.ConsecutiveStep.{given}
 use Rattle.direction_reader.specs.ConsecutiveTold.{held_of, until_held, AreConsecutiveTold}
-use Rattle.direction_reader.specs.Events.{tick_of}
-use Rattle.direction_reader.specs.Firm.{told_tick, AreFirmEvents, DoNotFall}
+use Rattle.direction_reader.specs.Firm.{told_tick, DoNotFall}
 use Rattle.direction_reader.specs.FirmKnown.{known_of, told_of, told_to}
 use Rattle.direction_reader.specs.FirmStep.{firm_listed}
-use Rattle.direction_reader.specs.FirmTape.{IsJudged}
 use Rattle.direction_reader.specs.FirmTold.{AreTold, ComesFirst}
-use Rattle.direction_reader.specs.ListEvents.{AreEvents}
 use Rattle.direction_reader.proofs.BetweenNeighbours.{all_between-append, all_settled, last_event, last_given, last_is}
 use Rattle.direction_reader.proofs.BetweenNeighbours.{last_of-append, last_some}
 use Rattle.direction_reader.proofs.FirmTicks.{IsFrom}

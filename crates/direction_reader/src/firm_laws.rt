@@ -1,7 +1,7 @@
 //! What follows from the definition of a witness alone.
 ghost use Rattle.std.specs.Prelude.{◌≡◌, ℕ, ◌<◌, ◌+◌, ◌*◌, ◌^◌, List, [], ◌∷◌, ◌++◌, true, false};
 ghost use Rattle.std.specs.Prelude.{All, length, map, reverse, sum, take, drop};
-ghost use Rattle.std.specs.List.{AllZip};
+ghost use Rattle.std.specs.List.{AllZip, flat_map, range_with_len};
 ghost use Rattle.biphase.specs.declared.cell.Cell.{Cell};
 ghost use Rattle.biphase.specs.declared.profile.Profile.{Profile};
 ghost use Rattle.biphase.specs.Chain.{bits, flat, IsChain};
@@ -10,10 +10,10 @@ ghost use Rattle.direction_reader.specs.declared.event.Event.{Event};
 ghost use Rattle.direction_reader.specs.declared.firm_event.FirmEvent.{FirmEvent};
 ghost use Rattle.direction_reader.specs.declared.firm_event.FirmEvent.TheVariants.{Told, Alone};
 ghost use Rattle.direction_reader.specs.Firm.{AreFirmEvents, candidate_at, firm_candidate_at, firm_events_of_cells};
-ghost use Rattle.direction_reader.specs.Firm.{is_firm, sync_in_time};
+ghost use Rattle.direction_reader.specs.Firm.{firm_events_at, is_firm, sync_in_time};
 ghost use Rattle.direction_reader.specs.FirmKnown.{known_of_cells, told_of, told_to};
 ghost use Rattle.direction_reader.specs.FirmReader.{FirmState, FirmStandsFor, told_until};
-ghost use Rattle.direction_reader.specs.FirmTold.{AreTold, ComesFirst};
+ghost use Rattle.direction_reader.specs.FirmTold.{AreTold, ComesFirst, IsWaiting, end_of_window};
 ghost use Rattle.direction_reader.specs.Tracker.{profile_of};
 ghost use Rattle.direction_reader.specs.FirmTape.{AreOneWay, AreWitnessed, FirmTellsTheTape, HasWitness, IsJudged};
 ghost use Rattle.direction_reader.specs.FirmTape.{IsTold};
@@ -160,6 +160,23 @@ pub fn some_words_are_alone()
         ≡ Alone Backward (word_in F25 0xbffc0000000000000010) 1920 1920
         ∷ Alone Forward (word_in F25 0xbffc0800000000000000) 2304 1920 ∷ [] }
 {}
+
+/// Of the cells of a stretch that goes on all events are told, up to whatever tick, if no word waits; and if one
+/// waits, all that comes before it is told, up to the tick at its end. At most one waits.
+pub fn what_comes_before_a_word_that_waits_is_told()
+    ensures all { (system : System) (tick now : ℕ) (cells : List Cell)
+        → ((k : ℕ) → ¬ IsWaiting system tick cells k)
+        → (told_of (known_of_cells true system tick cells) ≡ firm_events_of_cells system tick cells)
+        × (told_to now (known_of_cells true system tick cells) ≡ now) }
+    ensures before { (system : System) (tick now : ℕ) (cells : List Cell) (k : ℕ) → IsWaiting system tick cells k
+        → (told_of (known_of_cells true system tick cells)
+        ≡ flat_map (firm_events_at system tick cells) (range_with_len 0 k)
+        ++ firm_candidate_at system tick cells k Forward)
+        × (told_to now (known_of_cells true system tick cells) ≡ end_of_window tick cells k) }
+{
+    reversed_twice_is_the_same();
+    twelve_ones_are_the_sync_word();
+}
 
 /// Played backward, the same word waits before 15 zeros, of a stretch that goes on, and all is told up to its
 /// tick; before 16 zeros it is told, up to whatever tick.
