@@ -91,13 +91,19 @@ known_list : (r : FirmState) (t : Tracking) (l : List ℕ) (told latest : List F
     → (ss : List Stretch) × AreStretches (profile_of t) l ss
     × (known_of r.system l ss ≡ all_sure told ++ pending r.cells.waits)
 known_list r (AtCell a) l told latest earlier None is latest_are all = absurd is
-known_list r (AtCell a) l told latest earlier (Some s) is latest_are all =
-    (earlier ++ s ∷ [], is.stretches_are, open_is r a.profile l told latest earlier s is.stretches_are is.open_yet
-    latest_are.kept.waits all)
+known_list r (AtCell a) l told latest earlier (Some s) is latest_are all = (
+  earlier ++ s ∷ [],
+  is.stretches_are,
+  open_is r a.profile l told latest earlier s is.stretches_are is.open_yet
+      latest_are.kept.waits all,
+)
 known_list r (MidCell m) l told latest earlier None is latest_are all = absurd is
-known_list r (MidCell m) l told latest earlier (Some s) is latest_are all =
-    (earlier ++ s ∷ [], is.stretches_are, open_is r m.profile l told latest earlier s is.stretches_are is.open_yet
-    latest_are.kept.waits all)
+known_list r (MidCell m) l told latest earlier (Some s) is latest_are all = (
+  earlier ++ s ∷ [],
+  is.stretches_are,
+  open_is r m.profile l told latest earlier s is.stretches_are is.open_yet
+      latest_are.kept.waits all,
+)
 known_list r (Hunting h) l told latest earlier (Some s) is latest_are all = absurd is
 known_list r (Hunting h) l told latest earlier None is latest_are all =
     let past = flat_map (firm_events_of_stretch r.system l) earlier in

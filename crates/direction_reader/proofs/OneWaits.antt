@@ -78,12 +78,12 @@ beside_sure system tick cells k e within there none =
     elim (cases_lt (length behind) 16) [
       | inl young ↦ elim (word_or_not (is_word e)) [
         | inl word ↦ absurd (none (record {
-            within = within;
-            young = omega (arith, within, young, long);
-            word = e;
-            there = there;
-            is = word;
-          }))
+          within = within;
+          young = omega (arith, within, young, long);
+          word = e;
+          there = there;
+          is = word;
+        }))
         | inr other ↦ no_word e behind other young
       ]
       | inr old ↦ (let some = witness_old true behind old in rw some refl)
