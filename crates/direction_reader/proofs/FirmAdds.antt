@@ -2,7 +2,7 @@
 -- given lie within those of the cells.
 use Rattle.std.proofs.Common.{◌≡◌, ◌≤◌, ℕ, ◌+◌, ◌-◌, Bool, true, false, List, [], ◌∷◌, ◌++◌, length, Option, Some}
 use Rattle.std.proofs.Common.{None, IfSome}
-use Rattle.std.proofs.Common.{ap, sym, ◌∙◌, arith, refl, subst, length-append, append-nil, inl, inr, map}
+use Rattle.std.proofs.Common.{ap, sym, ◌∙◌, arith, refl, subst, length-append, inl, inr, map}
 use Rattle.std.specs.Prelude.{nat_lt}
 use Rattle.std.specs.Option.{option_map}
 use Rattle.std.proofs.lemmas.Bool.{cases_lt}
@@ -21,8 +21,8 @@ use Rattle.direction_reader.specs.declared.waiting.Waiting.{Waiting}
 use Rattle.direction_reader.specs.Beside.{BesideBits, none_beside, beside_with, is_firm_before, is_sync_behind}
 use Rattle.direction_reader.specs.Brings.{IsWordAt}
 use Rattle.direction_reader.specs.Events.{tick_of}
-use Rattle.direction_reader.specs.Firm.{judged, firm_events_of_cells, told_tick, DoNotFall}
-use Rattle.direction_reader.specs.FirmStandsFor.{KeptFirm, FirmCellsStandFor, WaitsFor, beside_of}
+use Rattle.direction_reader.specs.Firm.{judged, told_tick, DoNotFall}
+use Rattle.direction_reader.specs.FirmStandsFor.{KeptFirm, FirmCellsStandFor, beside_of}
 use Rattle.direction_reader.specs.FirmStep.{FindsAt, AreWindowCandidates, heard, began, or_else, ended, firm_list}
 use Rattle.direction_reader.specs.FirmStep.{IsPlayedBackward, IsToldBackward, IsWithin, IsToldWithin, firm_listed, until_of}
 use Rattle.direction_reader.specs.declared.firm_event.FirmEvents.{FirmEvents}
@@ -31,7 +31,7 @@ use Rattle.direction_reader.specs.LatestBits.{after_bit}
 use Rattle.direction_reader.specs.LatestCells.{with_boundary}
 use Rattle.direction_reader.specs.ListEvents.{duration}
 use Rattle.direction_reader.proofs.CellsGrow.{cell_more, duration_more}
-use Rattle.direction_reader.proofs.FirmCellsGrow.{heard_stands, ended_stands}
+use Rattle.direction_reader.proofs.KnownSteps.{heard_stands}
 use Rattle.direction_reader.proofs.FirmKept.{all_found, beside_more, firm_before, sync_behind}
 use Rattle.direction_reader.proofs.FirmTicks.{judged_tick}
 use Rattle.direction_reader.proofs.SyncInTime.{WordLaws}
@@ -180,11 +180,6 @@ pub in_turn_append : (xs ys : List ℕ) (a b c : ℕ) → DoNotFall a xs b → D
 in_turn_append [] [] a b c one two = omega (arith, one, two)
 in_turn_append [] (y ∷ ys) a b c one two = let first = two.0 in (omega (arith, one, first), two.1)
 in_turn_append (x ∷ xs) ys a b c one two = (one.0, in_turn_append xs ys x b c one.1 two)
-
-one_in_turn : (a b : ℕ) (o : Option FirmEvent) → a ≤ b
-    → IfSome o (λ event. (a ≤ told_tick event) × (told_tick event ≤ b)) → DoNotFall a (map told_tick (firm_listed o)) b
-one_in_turn a b None le is = le
-one_in_turn a b (Some e) le is = is
 
 three_in_turn : (told : FirmEvents) (a b c d : ℕ) → DoNotFall a (map told_tick (firm_listed told.first)) b
     → DoNotFall b (map told_tick (firm_listed told.second)) c
@@ -349,9 +344,3 @@ add_stands laws old new system begin tick bit found cells cell told is_bits is_b
       beside = beside;
       waits = rw waits heard_now;
     }
-
--- what is given when the stretch ends
-pub end_stands : (system : System) (begin : ℕ) (cells : List Cell) (told : List FirmEvent) (waits : Option Waiting)
-    → WaitsFor waits system begin cells told → told ++ firm_list (ended waits) ≡ firm_events_of_cells system begin cells
-end_stands system begin cells told None waits = append-nil told ∙ waits.all
-end_stands system begin cells told (Some w) waits = ended_stands system begin cells w told waits

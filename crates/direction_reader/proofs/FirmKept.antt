@@ -32,7 +32,7 @@ use Rattle.direction_reader.specs.Windows.{CellWindow, number_of, window_at}
 use Rattle.direction_reader.proofs.AsLists.{bits_are}
 use Rattle.direction_reader.proofs.BitsShift.{bit_value-least, number_of-append}
 use Rattle.direction_reader.proofs.CellsGrow.{oldest}
-use Rattle.direction_reader.proofs.FirmCellsGrow.{AreFound, forward_listed}
+use Rattle.direction_reader.proofs.KnownSteps.{AreFound, forward_listed}
 use Rattle.direction_reader.proofs.WindowsGrow.{last_window}
 use Rattle.direction_reader.specs.PlayedLemmas.{duration-append}
 

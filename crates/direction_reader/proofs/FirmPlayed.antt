@@ -29,7 +29,7 @@ use Rattle.direction_reader.specs.Played.{Played, AreSpelled, bits_of_words, eve
 use Rattle.direction_reader.specs.Windows.{number_of}
 use Rattle.direction_reader.proofs.AsLists.{AreListed}
 use Rattle.direction_reader.proofs.ChainIsAStretch.{AreAsSaid, whole, whole_is}
-use Rattle.direction_reader.proofs.FirmCellsGrow.{IsForward, IsBackward, number_is, no_forward, no_backward}
+use Rattle.direction_reader.proofs.WindowCandidates.{IsForward, IsBackward, number_is, no_forward, no_backward}
 use Rattle.direction_reader.proofs.FirmJudges.{all_firm}
 use Rattle.direction_reader.proofs.FirmKept.{cells_number, number_below, number_join}
 use Rattle.direction_reader.proofs.FirmWindows.{not_yet}

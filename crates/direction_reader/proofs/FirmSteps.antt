@@ -9,7 +9,6 @@ use Rattle.std.proofs.lemmas.List.{take-append-le, take_all}
 use Rattle.lemmas.specs.Lists.{length-last}
 use Rattle.biphase.specs.declared.cell.Cell.{Cell}
 use Rattle.biphase.specs.declared.cell.Cell.TheVariants as cell
-use Rattle.biphase.specs.declared.profile.Profile.{Profile}
 use Rattle.biphase.specs.Tolerance.{length_of}
 use Rattle.biphase.specs.Chain.{bit_of}
 use Rattle.cell_tracker.specs.Stretch.{Stretch, begun, with_cell, with_break}
@@ -21,19 +20,16 @@ use Rattle.direction_reader.specs.declared.firm_event.FirmEvent.TheVariants.{Tol
 use Rattle.direction_reader.specs.declared.state.Step.{Step}
 use Rattle.direction_reader.specs.declared.state.Step.TheVariants.{Nothing, FirstZero, ZeroBefore, Break}
 use Rattle.direction_reader.specs.declared.waiting.Waiting.{Waiting}
-use Rattle.direction_reader.specs.Firm.{AreFirmEvents, firm_events_of_cells, firm_events_of_stretch}
+use Rattle.direction_reader.specs.Firm.{firm_events_of_cells, firm_events_of_stretch}
 use Rattle.direction_reader.specs.FirmReader.{FirmState, FirmTakes, FirmOpen, FirmLatest, FirmStandsFor}
 use Rattle.direction_reader.specs.FirmStandsFor.{KeptFirm, no_firm_cells, FirmCellsStandFor}
 use Rattle.direction_reader.specs.FirmStep.{ended, firm_list, firm_listed}
 use Rattle.direction_reader.specs.Gathered.{begin_of}
 use Rattle.direction_reader.specs.ListEvents.{duration, break_events}
-use Rattle.direction_reader.specs.StandsFor.{waiting, AreInside, TrackerStandsFor, StandsAfter, MayBreak, IsLastZero}
-use Rattle.direction_reader.specs.Tracker.{profile_of}
-use Rattle.direction_reader.specs.Tracking.{Tracking}
-use Rattle.direction_reader.specs.Tracking.{AtCell, MidCell, Hunting}
+use Rattle.direction_reader.specs.StandsFor.{waiting, AreInside, TrackerStandsFor, StandsAfter, MayBreak}
 use Rattle.direction_reader.proofs.CellsGrow.{none_yet, duration_more}
 use Rattle.direction_reader.proofs.EventsJoin.{begin_stays, break_stays, all_inside, one_inside}
-use Rattle.direction_reader.proofs.FirmAdds.{end_stands}
+use Rattle.direction_reader.proofs.KnownSteps.{end_stands}
 use Rattle.direction_reader.proofs.ReaderSteps.{sum_more, last_sum}
 
 -- ---- the stretches that were there
@@ -166,7 +162,7 @@ nothing_yet : (system : System) (tick : ℕ) → FirmCellsStandFor (no_firm_cell
 nothing_yet system tick = record {
   latest = none_yet tick;
   beside = refl;
-  waits = record { all = refl; none = λ k within young. absurd (omega arith) };
+  waits = record { front = []; sure = refl; before = refl };
 }
 
 begins : (r n : FirmState) (x : ℕ) (l : List ℕ) (told own : List FirmEvent) (lock first tick end : ℕ) → FirmTakes r x n
@@ -303,52 +299,3 @@ broken r n x l told takes empty stands (s, breaks, tracker) =
           ∙ ap (λ (system : System). past_of system (l ++ x ∷ []) (stands.earlier ++ t ∷ [])) (sym takes.system)
           ∙ sym (append-nil (past_of n.system (l ++ x ∷ []) (stands.earlier ++ t ∷ [])));
     }
-
--- ---- the input ends
-
-open_all : (r : FirmState) (l : List ℕ) (told : List FirmEvent) (profile : Profile) (earlier : List Stretch) (s :
-    Stretch) (latest : List FirmEvent)
-    → Rattle.cell_tracker.specs.Stretch.AreStretches profile l (earlier ++ s ∷ []) → s.broken_at ≡ None
-    → FirmOpen r l s latest
-    → told ≡ past_of r.system l earlier ++ latest
-    → AreFirmEvents r.system profile l (told ++ firm_list (ended r.cells.waits))
-open_all r l told profile earlier s latest stretches open_yet is all =
-    let past = past_of r.system l earlier in
-    let none : map (λ (event : Event). Told event) (break_events l s.broken_at) ≡ [] = rw open_yet refl in
-    let cells = firm_events_of_cells r.system (begin_of l s) s.cells in
-    let own : latest ++ firm_list (ended r.cells.waits) ≡ firm_events_of_stretch r.system l s =
-    end_stands r.system (begin_of l s) s.cells latest r.cells.waits is.kept.waits ∙ sym (append-nil cells)
-    ∙ ap (λ (es : List FirmEvent). cells ++ es) (sym none) in
-    let split : past_of r.system l (earlier ++ s ∷ []) ≡ past ++ firm_events_of_stretch r.system l s =
-    flat_map-append (firm_events_of_stretch r.system l) earlier (s ∷ [])
-    ∙ ap (λ (es : List FirmEvent). past ++ es) (append-nil (firm_events_of_stretch r.system l s)) in (
-      earlier ++ s ∷ [],
-      stretches,
-      ap (λ (es : List FirmEvent). es ++ firm_list (ended r.cells.waits)) all
-          ∙ append_assoc past latest (firm_list (ended r.cells.waits))
-          ∙ ap (λ (es : List FirmEvent). past ++ es) own ∙ sym split,
-    )
-
-all_events : (r : FirmState) (t : Tracking) (l : List ℕ) (told latest : List FirmEvent) (earlier : List Stretch) (o :
-    Option Stretch)
-    → TrackerStandsFor t l earlier o → FirmLatest r l o latest → told ≡ past_of r.system l earlier ++ latest
-    → AreFirmEvents r.system (profile_of t) l (told ++ firm_list (ended r.cells.waits))
-all_events r (AtCell a) l told latest earlier None is latest_are all = absurd is
-all_events r (AtCell a) l told latest earlier (Some s) is latest_are all =
-    open_all r l told a.profile earlier s latest is.stretches_are is.open_yet latest_are all
-all_events r (MidCell m) l told latest earlier None is latest_are all = absurd is
-all_events r (MidCell m) l told latest earlier (Some s) is latest_are all =
-    open_all r l told m.profile earlier s latest is.stretches_are is.open_yet latest_are all
-all_events r (Hunting h) l told latest earlier None is latest_are all =
-    let none : firm_list (ended r.cells.waits) ≡ [] = let e = latest_are.1 in rw e refl in
-    let past = past_of r.system l earlier in (
-      earlier,
-      is.stretches_are,
-      ap (λ (es : List FirmEvent). told ++ es) none ∙ append-nil told ∙ all
-          ∙ ap (λ (es : List FirmEvent). past ++ es) latest_are.0 ∙ append-nil past,
-    )
-all_events r (Hunting h) l told latest earlier (Some s) is latest_are all = absurd is
-
-pub finished : (r : FirmState) (l : List ℕ) (told : List FirmEvent) → FirmStandsFor r l told
-    → AreFirmEvents r.system (profile_of r.tracker) l (told ++ firm_list (ended r.cells.waits))
-finished r l told is = all_events r r.tracker l told is.latest is.earlier is.open_yet is.tracker is.latest_are is.all

@@ -1,9 +1,9 @@
 -- The candidates of a window bear the tick at its end, and windows end one after another.
 use Rattle.std.proofs.Common.{◌≡◌, ◌≤◌, ◌⊎◌, ℕ, zero, suc, ◌+◌, Bool, true, false, List, [], ◌∷◌}
-use Rattle.std.proofs.Common.{take, drop, map, All, Option, Some, None, inl, inr}
+use Rattle.std.proofs.Common.{take, drop, All, Option, Some, None}
 use Rattle.std.proofs.Common.{arith, refl, subst}
 use Rattle.std.proofs.lemmas.List.{take_all}
-use Rattle.std.proofs.lemmas.List.Elements.{All-nil, All-cons, All-append, All-head, All-tail}
+use Rattle.std.proofs.lemmas.List.Elements.{All-nil, All-cons}
 use Rattle.biphase.specs.declared.cell.Cell.{Cell}
 use Rattle.ltc_word.specs.Reading.{fault_in}
 use Rattle.ltc_word.specs.Reversal.{reversed_bits, ends_in_sync}
@@ -16,8 +16,7 @@ use Rattle.direction_reader.specs.declared.event.Event.TheVariants.{Word, Refuse
 use Rattle.direction_reader.specs.declared.firm_event.FirmEvent.{FirmEvent}
 use Rattle.direction_reader.specs.Candidate.{event_of, candidate_in}
 use Rattle.direction_reader.specs.Events.{tick_of}
-use Rattle.direction_reader.specs.Firm.{is_firm, judged, candidate_at, firm_candidate_at, firm_events_at, told_tick}
-use Rattle.direction_reader.specs.FirmStandsFor.{spans}
+use Rattle.direction_reader.specs.Firm.{judged, candidate_at, told_tick}
 use Rattle.direction_reader.specs.FirmTold.{end_of_window}
 use Rattle.direction_reader.specs.ListEvents.{bits_in, duration}
 use Rattle.direction_reader.proofs.AsLists.{by_fault}
@@ -46,12 +45,6 @@ event_tick system d bits end n =
 abbrev pub EndsAt : ℕ → Event → Type 0
 EndsAt end event = tick_of event ≡ end
 
--- bits are one candidate, or none
-pub one_at_most : (system : System) (d : Direction) (bits end n : ℕ) (sync : Bool) → ends_in_sync bits ≡ sync
-    → (candidate_in system d bits end n ≡ []) ⊎ ((e : Event) × (candidate_in system d bits end n ≡ e ∷ []))
-one_at_most system d bits end n true is = inr (event_of system d bits end n, rw is refl)
-one_at_most system d bits end n false is = inl (rw is refl)
-
 found_ticks : (system : System) (d : Direction) (bits end n : ℕ) (sync : Bool) → ends_in_sync bits ≡ sync
     → All (EndsAt end) (candidate_in system d bits end n)
 found_ticks system d bits end n true is =
@@ -70,43 +63,9 @@ candidate_ticks system tick cells k Backward =
     let bits = reversed_bits (bits_in window) in
     found_ticks system Backward bits (end_of_window tick cells k) (duration window) (ends_in_sync bits) refl
 
--- the first candidate of a window
-pub first_tick : (system : System) (tick : ℕ) (cells : List Cell) (k : ℕ) (d : Direction) (e : Event)
-    (more : List Event)
-    → candidate_at system tick cells k d ≡ e ∷ more → tick_of e ≡ end_of_window tick cells k
-first_tick system tick cells k d e more is =
-    let end = end_of_window tick cells k in
-    All-head (EndsAt end) e more
-    (subst (λ (es : List Event). All (EndsAt end) es) is (candidate_ticks system tick cells k d))
-
--- ---- windows from a tick on
-
 -- it has that tick or a later one
 abbrev pub IsFrom : ℕ → FirmEvent → Type 0
 IsFrom until event = until ≤ told_tick event
-
-all_judged : (until end : ℕ) (firm : Bool) (es : List Event) → until ≤ end → All (EndsAt end) es
-    → All (IsFrom until) (map (judged firm) es)
-all_judged until end firm [] from is = All-nil (IsFrom until)
-all_judged until end firm (e ∷ es) from is =
-    let same : tick_of e ≡ end = All-head (EndsAt end) e es is in
-    let told = judged_tick firm e in
-    All-cons (IsFrom until) (judged firm e) (map (judged firm) es) (omega (arith, same, told, from))
-    (all_judged until end firm es from (All-tail (EndsAt end) e es is))
-
-pub candidate_from : (system : System) (tick : ℕ) (cells : List Cell) (k until : ℕ) (d : Direction)
-    → until ≤ end_of_window tick cells k → All (IsFrom until) (firm_candidate_at system tick cells k d)
-candidate_from system tick cells k until d from =
-    all_judged until (end_of_window tick cells k) (is_firm d cells k) (candidate_at system tick cells k d) from
-    (candidate_ticks system tick cells k d)
-
-window_from : (system : System) (tick : ℕ) (cells : List Cell) (k until : ℕ) → until ≤ end_of_window tick cells k
-    → All (IsFrom until) (firm_events_at system tick cells k)
-unfolding firm_events_at
-window_from system tick cells k until from =
-    All-append (IsFrom until) (firm_candidate_at system tick cells k Forward)
-    (firm_candidate_at system tick cells k Backward) (candidate_from system tick cells k until Forward from)
-    (candidate_from system tick cells k until Backward from)
 
 -- a front of more cells lasts as long or longer
 pub front_lasts : (cells : List Cell) (a b : ℕ) → a ≤ b → duration (take a cells) ≤ duration (take b cells)
@@ -119,13 +78,3 @@ front_lasts (c ∷ cells) zero b less = omega arith
 front_lasts (c ∷ cells) (suc a) zero less = absurd (omega arith)
 front_lasts (c ∷ cells) (suc a) (suc b) less =
     omega (arith, duration_of c (take a cells), duration_of c (take b cells), front_lasts cells a b (omega arith))
-
--- so windows from a place on end no sooner than the first of them
-pub spans_from : (system : System) (tick : ℕ) (cells : List Cell) (a n until : ℕ) → until ≤ end_of_window tick cells a
-    → All (IsFrom until) (spans system tick cells a n)
-spans_from system tick cells a zero until from = All-nil (IsFrom until)
-spans_from system tick cells a (suc n) until from =
-    let longer = front_lasts cells (a + 80) (a + 1 + 80) (omega arith) in
-    All-append (IsFrom until) (firm_events_at system tick cells a) (spans system tick cells (a + 1) n)
-    (window_from system tick cells a until from)
-    (spans_from system tick cells (a + 1) n until (omega (arith, from, longer)))

@@ -1,29 +1,26 @@
 -- What is given while more may follow comes first in what is given of more: with witnesses alone it does, and the next
 -- event changes nothing but what is held, which ends no later than the tick up to which all is told.
-use Rattle.std.proofs.Common.{◌≡◌, ◌≤◌, ℕ, true, List, [], ◌∷◌, ◌++◌, map, All, Option, Some, None, IfSome}
+use Rattle.std.proofs.Common.{◌≡◌, ◌≤◌, ℕ, true, List, [], ◌∷◌, ◌++◌, All, Option, Some, None, IfSome}
 use Rattle.std.proofs.Common.{inl, inr, ap, ap₂, sym, ◌∙◌, refl, subst, append-nil, append_assoc, arith, sum}
-use Rattle.std.specs.List.{AllZip}
 use Rattle.std.proofs.lemmas.List.{append_cancel_right}
 use Rattle.std.proofs.lemmas.List.Elements.{All-nil, All-cons, All-append, All-head, All-tail}
 use Rattle.biphase.specs.declared.profile.Profile.{Profile}
 use Rattle.tc_address.specs.declared.direction.Direction.TheVariants.{Forward, Backward}
 use Rattle.tc_address.specs.declared.system.System.{System}
-use Rattle.direction_reader.specs.declared.event.Event.{Event}
 use Rattle.direction_reader.specs.declared.firm_event.FirmEvent.{FirmEvent}
 use Rattle.direction_reader.specs.declared.firm_event.FirmEvent.TheVariants.{Told, Alone}
 use Rattle.direction_reader.specs.Consecutive.{all_between, between, consecutive, first_of, last_of, or_other}
 use Rattle.direction_reader.specs.ConsecutiveStep.{given}
 use Rattle.direction_reader.specs.ConsecutiveTold.{held_of, until_held, AreConsecutiveTold}
-use Rattle.direction_reader.specs.Events.{tick_of}
-use Rattle.direction_reader.specs.Firm.{told_tick, AreFirmEvents, DoNotFall}
+use Rattle.direction_reader.specs.Firm.{told_tick, DoNotFall}
+use Rattle.direction_reader.specs.FirmKnown.{known_of, told_of, told_to}
 use Rattle.direction_reader.specs.FirmStep.{firm_listed}
-use Rattle.direction_reader.specs.FirmTape.{IsJudged}
 use Rattle.direction_reader.specs.FirmTold.{AreTold, ComesFirst}
-use Rattle.direction_reader.specs.ListEvents.{AreEvents}
 use Rattle.direction_reader.proofs.BetweenNeighbours.{all_between-append, all_settled, last_event, last_given, last_is}
 use Rattle.direction_reader.proofs.BetweenNeighbours.{last_of-append, last_some}
-use Rattle.direction_reader.proofs.FirmFronts.{all_of, front_from, judged_ticks, of_behind, told_end, told_ticks}
 use Rattle.direction_reader.proofs.FirmTicks.{IsFrom}
+use Rattle.direction_reader.proofs.KnownLists.{told_ticks}
+use Rattle.direction_reader.proofs.KnownOfLists.{OrderLaws, known_in_turn, told_end}
 use Rattle.direction_reader.proofs.NextWordTicks.{between_tick, ends}
 
 -- ---- what is held
@@ -94,33 +91,25 @@ front_before : (a b : ℕ) (es rest : List FirmEvent) (e : FirmEvent) → DoNotF
 front_before a b [] rest e turn = turn.0
 front_before a b (x ∷ es) rest e turn = (turn.0, front_before (told_tick x) b es rest e turn.1)
 
--- what the laws of events say
-pub record OrderLaws : Type 0 where
-  pub events : (system : System) (profile : Profile) (l : List ℕ) → (es : List Event) × AreEvents system profile l es
-  pub order : (system : System) (profile : Profile) (l : List ℕ) (es : List Event) → AreEvents system profile l es
-      → DoNotFall 0 (map tick_of es) (sum l)
-  pub judged : (system : System) (profile : Profile) (l : List ℕ) (es : List Event) (fs : List FirmEvent)
-      → AreEvents system profile l es → AreFirmEvents system profile l fs → AllZip IsJudged es fs
-
 pub told_by_tick : OrderLaws → (system : System) (profile : Profile) (l : List ℕ) (told : List FirmEvent) (until : ℕ)
     → AreTold system profile l told until → IfSome (last_of told) (EndsBy until)
-told_by_tick laws system profile l told until (ss, stretches, are) =
-    let all = told_end profile system l 0 ss told until stretches are in
-    let plain = laws.events system profile l in
-    let same = judged_ticks plain.0 (all_of system l ss)
-    (laws.judged system profile l plain.0 (all_of system l ss) plain.1 (ss, stretches, refl)) in
-    let turn : DoNotFall 0 (told_ticks (told ++ all.rest)) (sum l) =
-    subst (λ (ns : List ℕ). DoNotFall 0 ns (sum l)) (same ∙ ap told_ticks all.are)
-    (laws.order system profile l plain.0 plain.1) in
-    elim all.next [
-      | inl now ↦ last_ends 0 until told (rw now (front_ends 0 (sum l) told all.rest turn))
+told_by_tick laws system profile l told until (ss, stretches, told_is, until_is) =
+    let all = told_end laws system profile l ss stretches in
+    let front = told_of (known_of system l ss) in
+    let turn : DoNotFall 0 (told_ticks (front ++ all.rest)) (sum l) =
+    subst (λ (fs : List FirmEvent). DoNotFall 0 (told_ticks fs) (sum l)) all.are
+    (known_in_turn laws system profile l ss stretches) in
+    rw (told_is, until_is) (elim all.next [
+      | inl now ↦ last_ends 0 (told_to (sum l) (known_of system l ss)) front
+          (subst (λ (n : ℕ). DoNotFall 0 (told_ticks front) n) (sym now) (front_ends 0 (sum l) front all.rest turn))
       | inr next ↦ (
           let e = next.0 in
-          let behind : DoNotFall 0 (told_ticks (told ++ e ∷ next.1)) (sum l) =
-          subst (λ (es : List FirmEvent). DoNotFall 0 (told_ticks (told ++ es)) (sum l)) next.2 turn in
-          last_ends 0 until told (subst (λ (n : ℕ). DoNotFall 0 (told_ticks told) n) next.3
-          (front_before 0 (sum l) told next.1 e behind)))
-    ]
+          let behind : DoNotFall 0 (told_ticks (front ++ e ∷ next.1)) (sum l) =
+          subst (λ (es : List FirmEvent). DoNotFall 0 (told_ticks (front ++ es)) (sum l)) next.2 turn in
+          last_ends 0 (told_to (sum l) (known_of system l ss)) front
+          (subst (λ (n : ℕ). DoNotFall 0 (told_ticks front) n) next.3
+          (front_before 0 (sum l) front next.1 e behind)))
+    ])
 
 held_by : (now : ℕ) (o : Option FirmEvent) → IfSome o (EndsBy now) → until_held now (held_of o) ≤ now
 held_by now None by = omega arith
@@ -134,6 +123,17 @@ held_by_tick laws system profile l told until are =
     held_by until (last_of told) (told_by_tick laws system profile l told until are)
 
 -- ---- what follows
+
+of_behind : (tail : List FirmEvent) (e : FirmEvent) (more : List FirmEvent) (until : ℕ)
+    → All (IsFrom until) (tail ++ e ∷ more) → until ≤ told_tick e
+of_behind [] e more until all = All-head (IsFrom until) e more all
+of_behind (t ∷ tail) e more until all = of_behind tail e more until (All-tail (IsFrom until) t (tail ++ e ∷ more) all)
+
+front_from : (tail rest : List FirmEvent) (until : ℕ) → All (IsFrom until) (tail ++ rest) → All (IsFrom until) tail
+front_from [] rest until all = All-nil (IsFrom until)
+front_from (t ∷ tail) rest until all =
+    All-cons (IsFrom until) t tail (All-head (IsFrom until) t (tail ++ rest) all)
+    (front_from tail rest until (All-tail (IsFrom until) t (tail ++ rest) all))
 
 -- what becomes of events that end at a tick or later ends there or later
 between_from : (a b : ℕ) (before : Option FirmEvent) (es : List FirmEvent) (behind : Option FirmEvent) → a ≤ b

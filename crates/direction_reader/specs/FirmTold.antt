@@ -1,19 +1,16 @@
 -- What is given of a list of intervals while more may follow, and up to which tick: all but a word that is played
 -- backward and waits for its witness, and what comes behind it.
-use Rattle.std.specs.Prelude.{◌≡◌, ℕ, ◌+◌, ◌<◌, ◌≤◌, ◌⊎◌, List, [], ◌∷◌, ◌++◌, length, All, sum, take, true}
-use Rattle.std.specs.Prelude.{MatchOption}
+use Rattle.std.specs.Prelude.{◌≡◌, ℕ, ◌+◌, ◌<◌, ◌≤◌, List, [], ◌∷◌, ◌++◌, All, length, sum, take, true}
 use Rattle.biphase.specs.declared.cell.Cell.{Cell}
 use Rattle.biphase.specs.declared.profile.Profile.{Profile}
 use Rattle.cell_tracker.specs.Stretch.{Stretch, AreStretchesFrom}
-use Rattle.tc_address.specs.declared.direction.Direction.TheVariants.{Forward, Backward}
+use Rattle.tc_address.specs.declared.direction.Direction.TheVariants.{Backward}
 use Rattle.tc_address.specs.declared.system.System.{System}
 use Rattle.direction_reader.specs.declared.event.Event.{Event}
 use Rattle.direction_reader.specs.declared.firm_event.FirmEvent.{FirmEvent}
 use Rattle.direction_reader.specs.Events.{is_word}
-use Rattle.direction_reader.specs.Firm.{candidate_at, firm_candidate_at, firm_events_of_cells, firm_events_of_stretch}
-use Rattle.direction_reader.specs.Firm.{told_tick}
-use Rattle.direction_reader.specs.FirmStandsFor.{spans}
-use Rattle.direction_reader.specs.Gathered.{begin_of}
+use Rattle.direction_reader.specs.Firm.{candidate_at, told_tick}
+use Rattle.direction_reader.specs.FirmKnown.{known_of, told_of, told_to}
 use Rattle.direction_reader.specs.ListEvents.{duration}
 
 -- the window of 80 cells from place k on ends at a tick, where the cells begin at a tick
@@ -29,29 +26,13 @@ pub record IsWaiting (system : System) (tick : ℕ) (cells : List Cell) (k : ℕ
   pub there : candidate_at system tick cells k Backward ≡ word ∷ []
   pub is : is_word word ≡ true
 
--- what is told of the cells of a stretch that may go on, and up to which tick: where no word waits, all of it, up to
--- the tick `now`, and else what comes before the word that waits, up to the tick at its end
-abbrev pub AreToldOfCells : System → ℕ → List Cell → ℕ → List FirmEvent → ℕ → Type 0
-AreToldOfCells system tick cells now told until =
-    (((k : ℕ) → ¬ IsWaiting system tick cells k) × (told ≡ firm_events_of_cells system tick cells) × (until ≡ now))
-    ⊎ ((k : ℕ) × IsWaiting system tick cells k
-    × (told ≡ spans system tick cells 0 k ++ firm_candidate_at system tick cells k Forward)
-    × (until ≡ end_of_window tick cells k))
-
--- what is told of stretches while more may follow, and up to which tick: all of one that is broken, and of the last
--- one, where it is open, what no further cell changes
-abbrev pub AreToldOfStretches : System → List ℕ → List Stretch → List FirmEvent → ℕ → Type 0
-AreToldOfStretches system intervals [] told until = (told ≡ []) × (until ≡ sum intervals)
-AreToldOfStretches system intervals (stretch ∷ more) told until =
-    MatchOption stretch.broken_at
-    ((more ≡ []) × AreToldOfCells system (begin_of intervals stretch) stretch.cells (sum intervals) told until)
-    (λ place. (rest : List FirmEvent) × (told ≡ firm_events_of_stretch system intervals stretch ++ rest)
-    × AreToldOfStretches system intervals more rest until)
-
--- what is told of a list of intervals while more may follow, and up to which tick
+-- what is told of a list of intervals while more may follow, and up to which tick: all that is known of the events of
+-- its stretches, up to the sum of the intervals, and where a word waits, all that comes before it, up to its tick
 abbrev pub AreTold : System → Profile → List ℕ → List FirmEvent → ℕ → Type 0
 AreTold system profile intervals told until = (stretches : List Stretch)
-    × AreStretchesFrom profile intervals 0 stretches × AreToldOfStretches system intervals stretches told until
+    × AreStretchesFrom profile intervals 0 stretches
+    × (told ≡ told_of (known_of system intervals stretches))
+    × (until ≡ told_to (sum intervals) (known_of system intervals stretches))
 
 -- these events come first among others, of which all that follow end at the tick `until` or later, up to the tick `now`
 pub record ComesFirst (told : List FirmEvent) (until : ℕ) (events : List FirmEvent) (now : ℕ) : Type 0 where

@@ -10,6 +10,7 @@ pub mod ConsecutiveTape
 pub mod ConsecutiveTold
 pub mod Events
 pub mod Firm
+pub mod FirmKnown
 pub mod FirmReader
 pub mod FirmStandsFor
 pub mod FirmStep

@@ -27,6 +27,7 @@ use crate::firm_laws::{
     words_that_are_played_one_way_are_told,
 };
 use crate::laws::{each_list_has_events, events_come_in_order};
+use cell_tracker::laws::a_list_has_one_list_of_stretches;
 
 /// A list of intervals has one list of consecutive events, however it is cut.
 pub fn a_list_has_one_list_of_consecutive_events()
@@ -121,5 +122,5 @@ pub fn consecutive_told_come_first()
     told_events_come_first();
     events_come_in_order();
     each_list_has_events();
-    a_witness_changes_words_alone();
+    a_list_has_one_list_of_stretches();
 }

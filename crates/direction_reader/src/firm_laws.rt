@@ -1,7 +1,7 @@
 //! What follows from the definition of a witness alone.
 ghost use Rattle.std.specs.Prelude.{◌≡◌, ℕ, ◌<◌, ◌+◌, ◌*◌, ◌^◌, List, [], ◌∷◌, ◌++◌, true, false};
 ghost use Rattle.std.specs.Prelude.{All, length, map, reverse, sum, take, drop};
-ghost use Rattle.std.specs.List.{AllZip};
+ghost use Rattle.std.specs.List.{AllZip, flat_map, range_with_len};
 ghost use Rattle.biphase.specs.declared.cell.Cell.{Cell};
 ghost use Rattle.biphase.specs.declared.profile.Profile.{Profile};
 ghost use Rattle.biphase.specs.Chain.{bits, flat, IsChain};
@@ -10,9 +10,10 @@ ghost use Rattle.direction_reader.specs.declared.event.Event.{Event};
 ghost use Rattle.direction_reader.specs.declared.firm_event.FirmEvent.{FirmEvent};
 ghost use Rattle.direction_reader.specs.declared.firm_event.FirmEvent.TheVariants.{Told, Alone};
 ghost use Rattle.direction_reader.specs.Firm.{AreFirmEvents, candidate_at, firm_candidate_at, firm_events_of_cells};
-ghost use Rattle.direction_reader.specs.Firm.{is_firm, sync_in_time};
+ghost use Rattle.direction_reader.specs.Firm.{firm_events_at, is_firm, sync_in_time};
+ghost use Rattle.direction_reader.specs.FirmKnown.{known_of_cells, told_of, told_to};
 ghost use Rattle.direction_reader.specs.FirmReader.{FirmState, FirmStandsFor, told_until};
-ghost use Rattle.direction_reader.specs.FirmTold.{AreTold, ComesFirst};
+ghost use Rattle.direction_reader.specs.FirmTold.{AreTold, ComesFirst, IsWaiting, end_of_window};
 ghost use Rattle.direction_reader.specs.Tracker.{profile_of};
 ghost use Rattle.direction_reader.specs.FirmTape.{AreOneWay, AreWitnessed, FirmTellsTheTape, HasWitness, IsJudged};
 ghost use Rattle.direction_reader.specs.FirmTape.{IsTold};
@@ -25,7 +26,8 @@ ghost use Rattle.tc_address.specs.declared.system.System.{System};
 ghost use Rattle.tc_address.specs.declared.system.System.TheVariants.{F25};
 
 use crate::laws::{
-    each_list_has_events, events_are_those_that_are_spelled, events_of_a_front_come_first,
+    each_list_has_events, events_are_those_that_are_spelled, events_come_in_order,
+    events_of_a_front_come_first,
 };
 use biphase::laws::kinds_are_as_the_cells_say;
 use cell_tracker::laws::{
@@ -127,8 +129,6 @@ pub fn a_list_has_one_list_of_told_events()
         → AreTold system profile intervals others another → (told ≡ others) × (until ≡ another) }
 {
     a_list_has_one_list_of_stretches();
-    reversed_twice_is_the_same();
-    twelve_ones_are_the_sync_word();
 }
 
 /// If more intervals follow, what was given comes first, and all else ends at the tick up to which it was
@@ -144,9 +144,8 @@ pub fn told_events_come_first()
     a_list_has_one_list_of_stretches();
     stretches_go_on();
     each_list_has_events();
+    events_come_in_order();
     events_of_a_front_come_first();
-    reversed_twice_is_the_same();
-    twelve_ones_are_the_sync_word();
 }
 
 /// The word of 00:00:00:00 at 25 frames, in cells of 24 ticks. It is alone behind 16 zeros, and played
@@ -160,6 +159,33 @@ pub fn some_words_are_alone()
     ensures turned { firm_events_of_cells F25 0 (cells_of 96 (0xbffc0800000000000000 * 2 ^ 16 + 0x3ffd))
         ≡ Alone Backward (word_in F25 0xbffc0000000000000010) 1920 1920
         ∷ Alone Forward (word_in F25 0xbffc0800000000000000) 2304 1920 ∷ [] }
+{}
+
+/// Of the cells of a stretch that goes on all events are told, up to whatever tick, if no word waits; and if one
+/// waits, all that comes before it is told, up to the tick at its end. At most one waits.
+pub fn what_comes_before_a_word_that_waits_is_told()
+    ensures all { (system : System) (tick now : ℕ) (cells : List Cell)
+        → ((k : ℕ) → ¬ IsWaiting system tick cells k)
+        → (told_of (known_of_cells true system tick cells) ≡ firm_events_of_cells system tick cells)
+        × (told_to now (known_of_cells true system tick cells) ≡ now) }
+    ensures before { (system : System) (tick now : ℕ) (cells : List Cell) (k : ℕ) → IsWaiting system tick cells k
+        → (told_of (known_of_cells true system tick cells)
+        ≡ flat_map (firm_events_at system tick cells) (range_with_len 0 k)
+        ++ firm_candidate_at system tick cells k Forward)
+        × (told_to now (known_of_cells true system tick cells) ≡ end_of_window tick cells k) }
+{
+    reversed_twice_is_the_same();
+    twelve_ones_are_the_sync_word();
+}
+
+/// Played backward, the same word waits before 15 zeros, of a stretch that goes on, and all is told up to its
+/// tick; before 16 zeros it is told, up to whatever tick.
+pub fn a_word_waits_for_sixteen_cells()
+    ensures fifteen { told_of (known_of_cells true F25 0 (cells_of 95 0x103ffd)) ≡ [] }
+    ensures its_tick { told_to 2280 (known_of_cells true F25 0 (cells_of 95 0x103ffd)) ≡ 1920 }
+    ensures sixteen { told_of (known_of_cells true F25 0 (cells_of 96 0x103ffd))
+        ≡ Alone Backward (word_in F25 0xbffc0800000000000000) 1920 1920 ∷ [] }
+    ensures any_tick { told_to 2304 (known_of_cells true F25 0 (cells_of 96 0x103ffd)) ≡ 2304 }
 {}
 
 /// The same word is `Told` behind 15 zeros, and behind a sync word; and played backward, before 15 zeros

@@ -21,7 +21,8 @@
 //! - `FirmReader` needs a witness beside each word: another word's sync word on the side away from its
 //!   own, or the edge of its stretch (`specs/Firm.antt`, `AreFirmEvents`). It stands for the intervals
 //!   that it was fed and for the events that it has given (`specs/FirmReader.antt`, and of the list alone
-//!   `specs/FirmTold.antt`, `AreTold`), and `finish` gives what still waits (clause `all`). At most one
+//!   `specs/FirmTold.antt`, `AreTold`, over what is known of each candidate by the cells beside it,
+//!   `specs/FirmKnown.antt`), and `finish` gives what still waits (clause `all`). At most one
 //!   word waits, and one candidate behind it. What a witness changes and what not is in `firm_laws`.
 //! - `ConsecutiveReader` tells a word without a witness all the same if the word that follows it on the
 //!   tape is beside it, begins or ends where it does, and has the next label (`specs/Consecutive.antt`,

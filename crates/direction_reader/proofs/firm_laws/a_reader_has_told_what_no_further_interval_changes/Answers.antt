@@ -1,4 +1,4 @@
-use Rattle.direction_reader.proofs.FirmToldYet.{reader_told}
+use Rattle.direction_reader.proofs.KnownByReader.{reader_told}
 use Rattle.direction_reader.proofs.firm_laws.a_reader_has_told_what_no_further_interval_changes.Goals as goal
 
 pub returns : goal.returns

@@ -1,6 +1,6 @@
 use Rattle.std.proofs.Common.{subst, sym}
 use Rattle.direction_reader.specs.FirmStandsFor.{KeptFirm, FirmCellsStandFor}
-use Rattle.direction_reader.proofs.FirmAdds.{end_stands}
+use Rattle.direction_reader.proofs.KnownSteps.{end_stands}
 use Rattle.direction_reader.proofs.firm_cells.FirmCells.end.Goals as goal
 
 -- with what waits all events are given

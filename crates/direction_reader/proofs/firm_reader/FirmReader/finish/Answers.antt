@@ -3,7 +3,7 @@ use Rattle.direction_reader.specs.Firm.{AreFirmEvents}
 use Rattle.direction_reader.specs.FirmReader.{FirmState, FirmStandsFor}
 use Rattle.direction_reader.specs.FirmStep.{firm_list}
 use Rattle.direction_reader.specs.Tracker.{profile_of}
-use Rattle.direction_reader.proofs.FirmSteps.{finished}
+use Rattle.direction_reader.proofs.KnownByReader.{finished}
 use Rattle.direction_reader.proofs.firm_reader.FirmReader.finish.Goals as goal
 
 -- with what waits all events are given
