@@ -121,7 +121,7 @@ def intervals_a_frame(reading: Reading) -> float:
     """How many intervals a frame of this code has, by words from all of it."""
     ones = []
     for word in some_words_in(reading.path, reading.words // WORDS_ASKED + 1):
-        digits = int("".join(it for it in word.label if it.isdigit()), 16)
+        digits = int(word.label.replace(":", "").replace(";", ""), 16)
         ones.append(SYNC_ONES + digits.bit_count() + int(word.user, 16).bit_count() + word.flags.count("1"))
     return CELLS + sum(ones) / len(ones) if ones else COMMON_INTERVALS
 
