@@ -11,9 +11,10 @@ import time
 
 from tape_tries.running import has, run, want
 
-from .pages import Served
+from . import pages
+from .pages import Browser, Served
 from .sources import Card, jack_server
-from .stage import LIVE, PYTHON, RATE, environment, free_port, on_terminal, raw, read_of, runs, silence, tape
+from .stage import LIVE, PYTHON, RATE, Runs, environment, free_port, on_terminal, raw, read_of, runs, silence, tape
 from .stage import wait_for, words
 from .terminal import Terminal
 
@@ -209,6 +210,76 @@ def try_jack_port_that_goes(room):
             assert there.end() == 130
     text = read_of(log)
     has(text, "there is no such port any more; it is tried each second", "JACK jstdin:input1 is back")
+
+
+def try_no_samples_of_jack(room):
+    """A server of JACK that stands still is NO SAMPLES, though its port is there."""
+    name, path = f"try{os.getpid()}", os.path.join(room, "raw")
+    env = {"JACK_DEFAULT_SERVER": name, "JACK_NO_START_SERVER": "1"}
+    with open(path, "wb") as file:
+        file.write(raw(words("25", "10:00:00:00", 750)))
+    with jack_server(name) as server, player(path, {**os.environ, **env}):
+        there = on_terminal("--jack", "jstdin:input1", "--system", "25", columns=140, more=env)
+        there.until(r"HEARD")
+        server.send_signal(signal.SIGSTOP)
+        try:
+            text = there.until(r"NO SAMPLES", 2)
+            assert "HEARD" not in text, text
+        finally:
+            server.send_signal(signal.SIGCONT)
+        there.send(signal.SIGINT)
+        assert there.end() == 130
+
+
+def try_no_samples_of_a_pipe(room):
+    """A pipe that gives nothing, with the station's lines where there is no terminal."""
+    reading, writing = os.pipe()
+    feeder = Feeder(writing, words("25", "10:00:00:00", 250))
+    out = os.path.join(room, "out")
+    with open(out, "wb") as file:
+        station = Runs("-", "--tracks", "1", "--system", "25", stdin=reading, stdout=file)
+        os.close(reading)
+        try:
+            wait_for(lambda: " heard " in read_of(out), what="the code")
+            feeder.is_still = True
+            wait_for(lambda: " no samples " in read_of(out).split(" heard ")[-1], 3, "NO SAMPLES")
+            feeder.is_still = False
+            wait_for(lambda: " heard " in read_of(out).split(" no samples ")[-1], 3, "the code again")
+        finally:
+            feeder.end()
+        assert station.end(signal.SIGINT)[0] == 130
+    assert re.search(r" samples +10:00:\d\d:\d\d none from standard input", read_of(out)), read_of(out)
+
+
+def try_no_samples_on_the_page(room):
+    """The page in a browser says NO SAMPLES and not HEARD, and HEARD again when they are back."""
+    browser, port, fifo = Browser(room), free_port(), os.path.join(room, "fifo")
+    os.mkfifo(fifo)
+    there = fed(room, fifo, None, "--page", str(port))
+    feeder = Feeder(os.open(fifo, os.O_WRONLY), words("25", "10:00:00:00", 1500))
+    try:
+        there.until(r"HEARD")
+        browser.opens(f"http://127.0.0.1:{port}/", 1280, 720)
+        for is_still, said, other in ((False, "HEARD", "NO SAMPLES"), (True, "NO SAMPLES", "HEARD"), (False, "HEARD", "NO SAMPLES")):
+            feeder.is_still = is_still
+            wait_for(lambda: said in shown_by(browser, there), 4, said)
+            assert other not in shown_by(browser, there), shown_by(browser, there)
+            time.sleep(1.5)
+            assert said in shown_by(browser, there), shown_by(browser, there)
+            if is_still and pages.pictures:
+                with open(os.path.join(pages.pictures, "live-no-samples.png"), "wb") as file:
+                    file.write(browser.picture())
+        there.send(signal.SIGINT)
+        assert there.end() == 130
+    finally:
+        feeder.end()
+        browser.end()
+
+
+def shown_by(browser, there):
+    """What the page says of the state; meanwhile the terminal is read, so that it holds nobody up."""
+    there.look(0.02)
+    return browser.says("document.getElementById('state').innerText")
 
 
 SINK = """context.objects = [ { factory = adapter args = { factory.name = support.null-audio-sink node.name = "tape"

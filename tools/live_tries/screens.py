@@ -41,6 +41,19 @@ def try_moments(room):
     none_left(there.mark)
 
 
+def try_speed_in_words(room):
+    """A speed is written as a part of play speed, 1.007 and not 1007, on the screen and in the lines."""
+    path = tape(room, words("25", "10:00:00:00", 100, rate=25 * 1.007))
+    there = on_terminal("--file", path, "--system", "25")
+    text = there.until(r"HEARD +forward +speed \d")
+    assert re.search(r"speed 1\.00[678] ", text) and "speed 1007" not in text, text
+    there.send(signal.SIGINT)
+    assert there.end() == 130
+    _, out, _ = runs("--file", path, "--system", "25")
+    told = set(re.findall(r"heard forward speed (\S+)", out))
+    assert told and told <= {"1.006", "1.007", "1.008"}, told
+
+
 def try_redrawn(room):
     """The screen is redrawn 25 times a second at most, and nothing is written beside it."""
     there = on_terminal("--file", tape(room, words("25", "10:00:00:00", 75)))

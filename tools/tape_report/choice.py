@@ -121,7 +121,7 @@ def intervals_a_frame(reading: Reading) -> float:
     """How many intervals a frame of this code has, by words from all of it."""
     ones = []
     for word in some_words_in(reading.path, reading.words // WORDS_ASKED + 1):
-        digits = int("".join(it for it in word.label if it.isdigit()), 16)
+        digits = int(word.label.replace(":", "").replace(";", ""), 16)
         ones.append(SYNC_ONES + digits.bit_count() + int(word.user, 16).bit_count() + word.flags.count("1"))
     return CELLS + sum(ones) / len(ones) if ones else COMMON_INTERVALS
 
@@ -173,6 +173,7 @@ def tried_further(
     if wants_path(sound, mine):
         tried.before_path = mine.heard
         readings = better(sound, readings, front_ends.BEST_PATH, wanted, room, tried, progress)
+        readings = path_twice(sound, readings, wanted, room, tried, progress)
     if is_code(best(readings)):
         return readings, tried
     for front in front_ends_for(sound, mine):
@@ -196,6 +197,28 @@ def better(
     words, track = wanted.all_words, readings[0].track
     found = read_track(sound, track, wanted.systems, front, wanted.limit, room, words, progress)
     return found if is_code(best(found)) and best(found).merit() > best(readings).merit() else readings
+
+
+def path_twice(
+    sound: Sound, readings: list[Reading], wanted: Wanted, room: str, tried: Tried, progress: Progress | None
+) -> list[Reading]:
+    """The readings by the path through a filter that is fitted to it, if the path was taken, misses frames, and hears
+    more so.
+    """
+    mine = best(readings)
+    if not mine.made.is_path or not misses(mine):
+        return readings
+    # Few tapes need it, and what it stands on takes its time to be loaded.
+    from . import twice
+
+    front = twice.front_of(sound, mine)
+    if front is None:
+        return readings
+    found = better(sound, readings, front, wanted, room, tried, progress)
+    for again in found:
+        if again.made.taps:
+            again.moved = twice.moved(mine, again)
+    return found
 
 
 def wants_path(sound: Sound, mine: Reading) -> bool:

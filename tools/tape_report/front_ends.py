@@ -30,6 +30,8 @@ class FrontEnd:
     is_path: bool = False
     # The samples a second that it is brought to; those of the file without.
     resampled: int | None = None
+    # The filter before the path, if it has one.
+    taps: tuple[float, ...] = ()
 
     def at(self, rate: int) -> "FrontEnd":
         """The same, for sound of this rate."""

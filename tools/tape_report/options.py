@@ -3,7 +3,7 @@ import argparse
 import os
 import sys
 from collections.abc import Callable, Sequence
-from typing import Any
+from typing import IO, Any
 
 from .choice import SYSTEMS
 from .labels import RATES, system_of
@@ -27,8 +27,18 @@ def typed_name() -> str:
     return os.path.basename(sys.argv[0])
 
 
+class Words(argparse.ArgumentParser):
+    """The words of a tool. Its help is output as any other: argparse passes over what can't be written."""
+
+    def _print_message(self, message: str, file: IO[str] | None = None) -> None:
+        if file is sys.stdout:
+            print(message, end="", flush=True)
+        else:
+            super()._print_message(message, file)
+
+
 def parser_of(what: str) -> argparse.ArgumentParser:
-    words = argparse.ArgumentParser(prog=typed_name(), description=what, allow_abbrev=False)
+    words = Words(prog=typed_name(), description=what, allow_abbrev=False)
     words.add_argument("--version", action="version", version=f"{typed_name()} {version()}")
     return words
 

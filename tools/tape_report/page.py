@@ -43,13 +43,13 @@ def data_of(reading: Reading) -> dict[str, Any]:
             "heard": span.heard,
             "bridged": span.bridged,
             "speed": span.speed / 1000,
-            "gap": "" if span.gap is None else f"{reading.seconds_at(span.gap):.3f} s",
+            "gap": "" if span.gap is None else f"{reading.seconds_of(span.gap):.3f} s",
             "relation": span.relation or "",
             "kind": kind,
         }
         for span, kind in zip(reading.spans, kinds)
     ]
-    return {"seconds": reading.seconds_at(reading.ticks), "words": words, "lost": lost, "spans": spans}
+    return {"seconds": reading.seconds_of(reading.ticks), "words": words, "lost": lost, "spans": spans}
 
 
 def form_of(name: str) -> str:

@@ -81,7 +81,7 @@ def begin_of(reading: Reading, count: str, rate: Fraction) -> tuple[Fraction, Fr
     if len(words) > 1 and words[-1][0] > 0:
         length = Fraction(words[-1][1] - words[0][1], words[-1][0] - words[0][0])
     ends = [tick - steps * length for steps, tick in words] or [Fraction(reading.spans[0].begin)]
-    return sorted(ends)[len(ends) // 2] - length, length
+    return sorted(ends)[len(ends) // 2] - length - Fraction(reading.moved), length
 
 
 def frames_that_go_on(reading: Reading) -> int:

@@ -30,7 +30,7 @@ def clock(seconds: float) -> str:
 def span_rows(name: str, reading: Reading) -> Iterator[list[object]]:
     for number, span in enumerate(reading.spans, 1):
         begins, ends = (f"{reading.seconds_at(tick):.4f}" for tick in (span.begin, span.end))
-        gap = "" if span.gap is None else f"{reading.seconds_at(span.gap):.4f}"
+        gap = "" if span.gap is None else f"{reading.seconds_of(span.gap):.4f}"
         yield [
             name,
             reading.track,
@@ -114,7 +114,7 @@ def code_lines(choice: Choice, level: Level, sound: Sound, given: Fraction | Non
 def span_lines(reading: Reading) -> Iterator[str]:
     for span in reading.spans:
         if span.gap is not None:
-            yield f"    gap of {reading.seconds_at(span.gap):.3f} s: {span.relation}"
+            yield f"    gap of {reading.seconds_of(span.gap):.3f} s: {span.relation}"
         begins, ends = clock(reading.seconds_at(span.begin)), clock(reading.seconds_at(span.end))
         heard = f"heard {span.heard} bridged {span.bridged} speed {span.speed / 1000:.3f}"
         yield f"    {span.direction:8} {span.first} to {span.last}  {begins} to {ends}  {heard}"

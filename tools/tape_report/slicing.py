@@ -15,7 +15,7 @@ from .faults import Fault, NoProgram, NoSound, NotThere
 from .front_ends import FrontEnd
 from .programs import program
 from .sound import Input, Sound
-from .track import track_samples
+from .track import opened_for, track_samples
 from .spans import Reading, spans_in
 
 # Under this tolerance sound is read: the command that prints its words, and the word of `ltc-spans`. With the last word
@@ -27,6 +27,8 @@ EARLY_SECONDS = 0.5
 Progress = Callable[[Input], None]
 # With less room than this, in bytes, a disk is full.
 ROOM = 65_536
+# Of a path so many bytes of intervals are kept, half an hour or more.
+MOST_KEPT = 16 << 20
 # How often it is shown how far a sound is read, while nothing comes of it.
 SHOWN_SECONDS = 0.5
 # An interval of the greatest length: a silence is written as so many of them.
@@ -90,6 +92,16 @@ class Silences:
         self.rest = data[-3:]
 
 
+class Kept:
+    """The first intervals of a path, in a file: a filter is fitted to them where frames are missing."""
+
+    def __init__(self, path: str) -> None:
+        self.file, self.left = open(path, "wb"), MOST_KEPT
+
+    def take(self, data: bytes) -> None:
+        self.left -= self.file.write(data[: self.left])
+
+
 class Slicing:
     """`tc` of a track, by `wav-ltc` or the best path: the bytes of its interval file, and then how it and the decoder
     ended.
@@ -99,12 +111,17 @@ class Slicing:
         self.sound = sound
         self.stream, number = sound.place_of(track)
         self.front = front = front.at(self.stream.rate)
-        self.input = sound.open(self.stream, front.filters) if front.filters else sound.open_kept(self.stream)
+        self.input = opened_for(sound, track, front)
         self.notes = tempfile.TemporaryFile()
         words = ["wav-ltc", "25", str(number)]
         samples: IO[bytes] = self.input.output
         if front.is_path:
             words, samples = ["pcm-ltc", "25", str(self.rate)], track_samples(sound, self.input, track)
+        if front.taps:
+            # Few tapes need it, and what it stands on takes its time to be loaded.
+            from .twice import filtered
+
+            samples = filtered(samples, front.taps)
         command = [program(), *words, *front.words()]
         self.slicer = subprocess.Popen(command, stdin=samples, stdout=subprocess.PIPE, stderr=self.notes)
         if front.is_path:
@@ -184,11 +201,14 @@ def read_track(
     """A track read as each of the systems, by a front end. The lines of the words stay in the room."""
     slicing = Slicing(sound, track, front)
     begin = f"{track}-{front.name}".replace(" ", "-")
+    kept = Kept(os.path.join(room, f"{begin}-intervals")) if front.is_path and not front.taps else None
     readers = [Reader(room, begin, system, limit, all_words) for system in systems]
     is_empty, silences = True, Silences()
     try:
         for data in slicing.pieces(progress):
             silences.take(data)
+            if kept:
+                kept.take(data)
             for reader in readers:
                 # The system is in byte 5 of the header, and nothing else depends on it.
                 reader.take(data[:5] + bytes([reader.system]) + data[6:] if is_empty else data)
@@ -199,9 +219,12 @@ def read_track(
     finally:
         are_whole = all([reader.close() for reader in readers])
         slicing.close()
+        if kept:
+            kept.file.close()
     if not are_whole and not is_empty:
         raise not_read(room)
-    return [told(reader, track, slicing, note, silences.count) for reader in readers]
+    sliced = kept.file.name if kept else ""
+    return [told(reader, track, slicing, note, silences.count, sliced) for reader in readers]
 
 
 def not_read(room: str) -> Fault:
@@ -212,7 +235,7 @@ def not_read(room: str) -> Fault:
     return NoProgram("tc did not read the intervals that it made")
 
 
-def told(reader: Reader, track: int, slicing: Slicing, note: str, silent: int) -> Reading:
+def told(reader: Reader, track: int, slicing: Slicing, note: str, silent: int, sliced: str) -> Reading:
     """What a reader wrote, as a reading."""
     spans, ticks = spans_in(reader.lines(0))
     front = slicing.front
@@ -229,6 +252,7 @@ def told(reader: Reader, track: int, slicing: Slicing, note: str, silent: int) -
         note=note,
         made=front,
         file_rate=slicing.stream.rate,
+        sliced=sliced,
     )
     for line in reader.lines(1, last=1):
         words = line.split()

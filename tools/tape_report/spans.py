@@ -76,6 +76,10 @@ class Reading:
     made: FrontEnd = PLAIN
     # The samples a second of the file; ticks are those of `rate`, to which its sound may have been brought.
     file_rate: int = 0
+    # The file of the intervals of a path, or of their beginning.
+    sliced: str = ""
+    # By how many ticks a filter moved its words.
+    moved: float = 0.0
 
     @property
     def heard(self) -> int:
@@ -104,7 +108,11 @@ class Reading:
         return self.heard - len(self.spans), self.heard, -self.refused, -len(self.spans), -abs(self.speed - 1000)
 
     def seconds_at(self, tick: int) -> float:
-        return tick / FINENESS / self.rate
+        """When a tick of this reading was, from the first sample on."""
+        return (tick - self.moved) / FINENESS / self.rate
+
+    def seconds_of(self, ticks: int) -> float:
+        return ticks / FINENESS / self.rate
 
 
 def spans_in(lines: Iterable[str]) -> tuple[list[Span], int]:

@@ -4,8 +4,15 @@ import os
 import threading
 from typing import IO
 
+from .front_ends import FrontEnd
 from .levels import DECODED_BITS, PIECE_BLOCKS, skip_to_samples, words_of
 from .sound import Input, Sound
+
+
+def opened_for(sound: Sound, track: int, front: FrontEnd) -> Input:
+    """The stream of a track as a front end has it."""
+    stream, _ = sound.place_of(track)
+    return sound.open(stream, front.filters) if front.filters else sound.open_kept(stream)
 
 
 def track_samples(sound: Sound, source: Input, track: int) -> IO[bytes]:

@@ -70,6 +70,21 @@ def try_help_of_all(_room):
         assert ended == 2 and "Traceback" not in notes, f"{name}: {ended} {notes}"
 
 
+def try_help_that_nobody_reads(_room):
+    """Help and version are output as any other: status 3 where they can't be written, and 141 where nobody reads them;
+    whether Python keeps output back or not.
+    """
+    plain = {key: value for key, value in os.environ.items() if key != "PYTHONUNBUFFERED"}
+    for name in ("tape", "archive", "live", "draw_report", "plot_chase", "line_rows", "line_runs"):
+        command = f"'{os.path.join(TOP, 'tools', name)}' {'--version' if name == 'live' else '--help'}"
+        for there in (plain, {**plain, "PYTHONUNBUFFERED": "1"}):
+            for where in (">&-", "> /dev/full"):
+                ended, _, notes = shell(f"{command} {where}", env=there)
+                assert ended == 3 and notes.strip(), f"{command} {where}: {ended} {notes}"
+        _, _, notes = shell(f"{{ sleep 0.3; {command}; echo $? >&2; }} | true")
+        assert notes.split()[-1] == "141", f"{command} | true: {notes}"
+
+
 def try_broken_lines(room):
     """What is no line file is refused with status 3."""
     rows = os.path.join(TOP, "tools", "line_rows")

@@ -27,6 +27,12 @@ def timecode_in(path):
     return next(iter(re.findall(r"\d\d:\d\d:\d\d[:;]\d\d", told)), None)
 
 
+def timecodes_in(path):
+    """All that the container says, of its streams and of the whole: of MXF each package has a start of its own."""
+    words = ["ffprobe", "-v", "error", "-show_entries", "stream_tags=timecode:format_tags=timecode", "-of", "csv=p=0"]
+    return set(re.findall(r"\d\d:\d\d:\d\d[:;]\d\d", run(*words, path)[1]))
+
+
 def try_containers(room):
     """MOV, MP4 and MXF files with their code on their second sound, and their stamps; of MOV also from Matroska."""
     made = code(48_000, intervals("25", "10:00:00:00", 100), lead=9600)
@@ -124,7 +130,7 @@ def try_pictures(room):
         assert timecode_in(before) == "01:00:00:00", timecode_in(before)
         copy = os.path.join(room, "copy." + form)
         tape(before, "--stamp", copy, "--force")
-        assert timecode_in(copy) == "09:59:59:20", f"{form}: {timecode_in(copy)}"
+        assert timecodes_in(copy) == {"09:59:59:20"}, f"{form}: {timecodes_in(copy)}"
     other = os.path.join(room, "other.mov")
     _, notes = tape(video(room, "film.mov", made, "24"), "--stamp", other, status=3)
     has(notes, "25 frames a second and the picture 24")

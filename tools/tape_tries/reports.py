@@ -9,7 +9,7 @@ import shutil
 import sys
 
 from .making import TC, TOP, code, intervals, tone, wav
-from .running import ARCHIVE, TAPE, has, run, tape, want
+from .running import ARCHIVE, TAPE, NotTried, has, run, tape, want
 
 sys.path.insert(0, os.path.join(TOP, "tools"))
 from tape_report.breaks import breaks_of
@@ -219,6 +219,46 @@ def try_path_where_nothing_is_heard(room):
         heard = int(re.search(r"\nheard         (\d+) frames", out)[1])
         assert heard >= least, f"at {rate} {heard} frames\n{out}"
         has(out, "front end     best path", "25 frames a second; sure")
+
+
+def behind_a_capacitor(samples, hertz, rate):
+    """The samples through a high-pass of two poles."""
+    keep = 1 / (1 + 2 * math.pi * hertz / rate)
+    for _ in range(2):
+        held, last, behind = 0.0, 0.0, []
+        for sample in samples:
+            held, last = keep * (held + sample - last), sample
+            behind.append(held)
+        samples = behind
+    return samples
+
+
+def try_path_twice(room):
+    """Sound of a capacitor, of which the path misses frames, is read through a filter that is fitted to them: nearly all
+    of it is heard, the report and the JSON say how, and the words lie where the path had them, as does the stamp.
+    """
+    if run("/usr/bin/env", "python3", "-c", "import numpy")[0] != 0:
+        raise NotTried("numpy (Debian: python3-numpy)")
+    chance = random.Random(86)
+    made = code(48_000, intervals("25", "10:00:00:00", 200), lead=4_801, size=8_000)
+    noisy = [round(it + chance.gauss(0, 2_600)) for it in behind_a_capacitor(made, 1_500, 48_000)]
+    path = wav(os.path.join(room, "tape.wav"), 48_000, [[max(-32_768, min(32_767, it)) for it in noisy]])
+    once, twice = heard_of(path, "--path"), heard_of(path)
+    assert once < 180 and twice > 190, f"{once} frames with the path, {twice} with the path twice"
+    out, _ = tape(path)
+    has(out, "front end     best path twice; tried best path, best path twice; without the path")
+    said = json.loads(tape(path, "--json")[0])
+    assert said["front_end"] == "best path twice" and said["stamp"] == "yes", said
+    before = json.loads(tape(path, "--json", "--path")[0])
+    assert abs(said["reference"] - before["reference"]) <= 1, f"{said['reference']} for {before['reference']}"
+    assert abs(said["spans"][0]["begins"] - before["spans"][0]["begins"]) * 25 % 1 < 0.002, (said, before)
+    # Without numpy the path stands as it is.
+    os.mkdir(os.path.join(room, "none"))
+    with open(os.path.join(room, "none", "numpy.py"), "w", encoding="ascii") as file:
+        file.write("raise ImportError('none here')\n")
+    ended, out, notes = run(TAPE, path, env={**os.environ, "PYTHONPATH": os.path.join(room, "none")})
+    assert ended == 0 and not notes, notes
+    has(out, "front end     best path; tried best path; without the path", f"heard         {once} frames")
 
 
 def try_right_system_in_noise(room):

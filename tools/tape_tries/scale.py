@@ -3,6 +3,7 @@ import contextlib
 import os
 import re
 import shutil
+import signal
 import socket
 import struct
 import subprocess
@@ -14,7 +15,7 @@ from live_tries.terminal import Terminal
 from tape_report.jobs import JOB
 
 from . import running
-from .folders import archive_of, table_of
+from .folders import archive_of, many_tapes, table_of
 from .left_out import archive
 from .machines import hosts
 from .making import TC, code, intervals, packed, wav
@@ -168,6 +169,33 @@ def try_slurm(room):
     assert ended == 0, told + notes
     archive(folder, out, "--resume")
     assert table_of(out) == table_of(alone), "the tables differ"
+
+
+def try_requeued_part(room):
+    """A job of an array that is killed goes on where it was when it is requeued: what it had read it reads no more."""
+    want("parallel")
+    folder, alone, out = many_tapes(room, 12), os.path.join(room, "alone"), os.path.join(room, "out")
+    words = [ARCHIVE, "--resume", "--part", "0/2", folder, out]
+    first = subprocess.Popen(words, stdout=subprocess.DEVNULL, stderr=subprocess.DEVNULL, start_new_session=True)
+    wait_for(lambda: len(rows_below(out)) >= 2 or first.poll() is not None, 60, "two tapes")
+    os.killpg(first.pid, signal.SIGKILL)
+    first.wait()
+    stood = rows_below(out)
+    assert 2 <= len(stood) < 6, stood
+    told, _ = archive(folder, out, "--resume", "--part", "0/2")
+    has(told, "part 0/2: 6 tapes: 5 with code, 1 without")
+    again = rows_below(out)
+    assert len(again) == 6 and {path: again[path] for path in stood} == stood, "a tape that was done was read again"
+    archive(folder, out, "--resume", "--part", "1/2")
+    archive(folder, out, "--resume")
+    archive(folder, alone)
+    assert table_of(out) == table_of(alone), "the tables differ"
+
+
+def rows_below(out):
+    """When each tape's row was written."""
+    found = (os.path.join(place, "row.json") for place, _, files in os.walk(out) if "row.json" in files)
+    return {path: os.stat(path).st_mtime_ns for path in found}
 
 
 def watched(room, name, log, script):
