@@ -127,6 +127,8 @@ impl Engine for ColumnAnswers {
 
     ghost budget = { λ s. s.left };
 
+    ghost is_short = { λ s bytes. ⊥ };
+
     ghost stands_well = { λ s bytes written stands. stands_well s bytes written stands };
 
     fn take<O: Output>(&mut self, bytes: &[u8], out: &mut O) -> Result<usize, Halt> {
@@ -142,6 +144,10 @@ impl Engine for ColumnAnswers {
         self.go_on(&bytes[..count], out);
         self.left -= count as u64;
         Ok(count)
+    }
+
+    fn cut_off(&self, _bytes: &[u8]) -> InputFault {
+        unreachable!()
     }
 
     fn finish<O: Output>(&mut self, out: &mut O) -> Result<(), InputFault> {

@@ -26,6 +26,7 @@ mod engine;
 mod halt;
 mod inlet;
 mod input_fault;
+pub mod laws;
 mod making;
 mod notes;
 mod outlet;
