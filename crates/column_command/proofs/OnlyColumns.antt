@@ -57,13 +57,16 @@ behind run first all a bytes written these =
       rest = rest;
       bytes_are = ap (λ (l : List ℕ). a ++ l) is ∙ joined_in a c.before c.column (was changes) rest;
       written_are = ap (λ (l : List ℕ). a ++ l) becoming ∙ joined_in a c.before c.put (becomes changes) rest;
-      each = (record {
-            counted = each.0.counted;
-            from = each.0.from;
-            to = each.0.to;
-            is = each.0.is;
-            answer = each.0.answer;
-          }, each.1);
+      each = (
+        record {
+          counted = each.0.counted;
+          from = each.0.from;
+          to = each.0.to;
+          is = each.0.is;
+          answer = each.0.answer;
+        },
+        each.1,
+      );
     }
 
 -- a column in front that is answered

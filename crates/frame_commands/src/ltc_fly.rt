@@ -13,9 +13,9 @@ use crate::laws::{
 use direction_reader::{ConsecutiveReader, DirectionReader, FirmReader};
 use flywheel::Frame;
 use flywheel::laws::invention_is_bounded_and_marked;
-use interval_file::laws::recordings_grow;
 use interval_engine::work_along;
 use interval_file::IntervalHeader;
+use interval_file::laws::recordings_grow;
 use report_text::frame_text;
 use tc_command::{Output, Stop};
 use tc_io::{Sink, Source};

@@ -18,9 +18,9 @@ use direction_reader::laws::events_come_in_order;
 use direction_reader::{ConsecutiveReader, DirectionReader, FirmReader};
 use flywheel::Frame;
 use flywheel::laws::{a_frame_that_goes_on_is_the_next, invention_is_bounded_and_marked};
-use interval_file::laws::recordings_grow;
 use interval_engine::work_along;
 use interval_file::IntervalHeader;
+use interval_file::laws::recordings_grow;
 use tape_spans::laws::{
     a_span_ends_stepped, spans_come_in_order, spans_share_the_frames_out,
     the_open_span_has_the_last_line,

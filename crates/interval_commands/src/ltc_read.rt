@@ -24,9 +24,9 @@ use direction_reader::laws::{
     events_tell_the_tape,
 };
 use direction_reader::{Brought, DirectionReader, Event, Events};
-use interval_file::laws::recordings_grow;
 use interval_engine::{Behind, work_along};
 use interval_file::IntervalHeader;
+use interval_file::laws::recordings_grow;
 use limits::{MAX_INTERVAL, MAX_INTERVALS};
 use line_text::Text;
 use report_text::{event_text, read_end_text};

@@ -79,16 +79,21 @@ pub halts_of_file : {B C : Type 0} (printing : C → Printing) (stands : Relatio
     (halt : Halt) (pulled written : List ℕ) → StandsWell printing stands → IsWithin printing stands behind
     → IsHalt stands behind choice halt pulled written
     → IsHaltOf (along_intervals (printing choice)) halt pulled written
-halts_of_file printing stands behind choice (Refused fault) pulled written well within is =
-    (record {
-      is = is.shows;
-      unspent = unspent_of printing stands behind choice (recording_of pulled) written within is.printed;
-    }, printed_well printing stands well behind choice (recording_of pulled) written is.printed)
+halts_of_file printing stands behind choice (Refused fault) pulled written well within is = (
+  record {
+    is = is.shows;
+    unspent = unspent_of printing stands behind choice (recording_of pulled) written within is.printed;
+  },
+  printed_well printing stands well behind choice (recording_of pulled) written is.printed,
+)
 halts_of_file printing stands behind choice Limit pulled written well within is =
-    inl (record {
-      is = is.shows;
-      unspent = unspent_of printing stands behind choice (recording_of pulled) written within is.printed;
-    }, printed_well printing stands well behind choice (recording_of pulled) written is.printed)
+    inl (
+      record {
+        is = is.shows;
+        unspent = unspent_of printing stands behind choice (recording_of pulled) written within is.printed;
+      },
+      printed_well printing stands well behind choice (recording_of pulled) written is.printed,
+    )
 
 -- ---- either way
 
@@ -147,9 +152,12 @@ pub goes_on_within : {B C O : Type 0} (printing : C → Printing) (stands : Rela
     (StandsWithin printing stands next behind now many choice) old new (take n bytes))
 goes_on_within printing stands given fits version next before behind taken now count many choice old new bytes (Ok n)
     advances within = λ front written s.
-    let w = advances.works choice front written s.stands in
-    (w.0, w.1, within_too printing stands next behind now many choice (front ++ take n bytes) (written ++ w.0) within
-    w.2)
+    let w = advances.works choice front written s.stands in (
+      w.0,
+      w.1,
+      within_too printing stands next behind now many choice (front ++ take n bytes) (written ++ w.0) within
+          w.2,
+    )
 goes_on_within printing stands given fits version next before behind taken now count many choice old new bytes (Err h)
     advances within = tt
 

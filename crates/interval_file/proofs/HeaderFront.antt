@@ -19,9 +19,10 @@ a_fault bytes first is = by_head (head_or_fault bytes)
   where
     stays : (f : IntervalFileFault) → IsHeaderFault f bytes → first_wrong 0 (take 8 bytes) ≡ Some f
         → (shown f ≡ refused f) → IsHeaderFault first bytes × (shown first ≡ refused first)
-    stays f found e stands = let same : f ≡ first = (cc) in
-        (subst (λ (g : IntervalFileFault). IsHeaderFault g bytes) same found,
-        subst (λ (g : IntervalFileFault). shown g ≡ refused g) same stands)
+    stays f found e stands = let same : f ≡ first = (cc) in (
+      subst (λ (g : IntervalFileFault). IsHeaderFault g bytes) same found,
+      subst (λ (g : IntervalFileFault). shown g ≡ refused g) same stands,
+    )
 
     by_head : HeadOrFault bytes → IsHeaderFault first bytes × (shown first ≡ refused first)
     by_head (inl may) = let none = may.1 in absurd (cc)
@@ -33,9 +34,11 @@ pub a_header : (bytes : List ℕ) (header : IntervalHeader) → AreBytes bytes �
     → (12 ≤ length bytes) × IsFile (take 12 bytes) header []
 a_header bytes header are long may is =
     let begins = header_begun bytes header long may is in
-    let parts = take-append-drop 12 bytes ∙ header_is bytes header are begins in
-    (long, record {
-      tick_rate = begins.range;
-      range = tt;
-      are = append_cancel_right (take 12 bytes) (header_bytes header) (drop 12 bytes) parts;
-    })
+    let parts = take-append-drop 12 bytes ∙ header_is bytes header are begins in (
+      long,
+      record {
+        tick_rate = begins.range;
+        range = tt;
+        are = append_cancel_right (take 12 bytes) (header_bytes header) (drop 12 bytes) parts;
+      },
+    )

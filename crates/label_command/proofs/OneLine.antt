@@ -113,7 +113,6 @@ few_labels counts.C25 n below = omega (arith, below)
 few_labels counts.C30 n below = omega (arith, below)
 few_labels counts.Drop30 n below = omega (arith, below)
 
-
 space : IsOther 32
 space newline = omega (arith, newline)
 

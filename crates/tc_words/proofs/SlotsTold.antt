@@ -113,8 +113,8 @@ row_tells is command place word rows names has =
     one_of (λ (row : ValueRow). bytes_eq row.command command && nat_eq row.place place && is row.named)
     (λ (row : ValueRow). bytes_eq row.command command && nat_eq row.place place && is_named row.named word) rows
     (λ row at.
-      let parts = and_parts (bytes_eq row.command command && nat_eq row.place place) (is row.named) at in
-      rw (parts.0, names row.named parts.1) refl) has
+    let parts = and_parts (bytes_eq row.command command && nat_eq row.place place) (is row.named) at in
+    rw (parts.0, names row.named parts.1) refl) has
 
 range_tells : (command : Word) (place least most : ℕ) (word : Word) (n : ℕ)
     → has_row (names_range least most) command place value_rows ≡ true → number_spelled word ≡ Some n → least ≤ n
