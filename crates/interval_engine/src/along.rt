@@ -324,12 +324,12 @@ impl<B: Behind> Engine for Along<B> {
         }
     }
 
-    fn cut_off(&self, bytes: &[u8]) -> InputFault {
+    fn cut_off(&self, bytes: &[u8]) -> Option<InputFault> {
         bytes_are_read_as_the_text_says();
         let more = bytes.len() as u64;
         match &self.begun {
-            Some(begun) => truncated(begun.taken + more),
-            None => truncated(more),
+            Some(begun) => Some(truncated(begun.taken + more)),
+            None => Some(truncated(more)),
         }
     }
 

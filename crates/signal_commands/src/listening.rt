@@ -125,8 +125,8 @@ impl<C: Container, L: Listener> Engine for Listening<C, L> {
         }
     }
 
-    fn cut_off(&self, _bytes: &[u8]) -> InputFault {
-        unreachable!()
+    fn cut_off(&self, _bytes: &[u8]) -> Option<InputFault> {
+        None
     }
 
     fn finish<O: Output>(&mut self, out: &mut O) -> Result<(), InputFault> {

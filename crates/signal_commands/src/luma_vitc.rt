@@ -140,8 +140,8 @@ impl Engine for ReadPixels {
         Ok(count)
     }
 
-    fn cut_off(&self, _bytes: &[u8]) -> InputFault {
-        unreachable!()
+    fn cut_off(&self, _bytes: &[u8]) -> Option<InputFault> {
+        None
     }
 
     fn finish<O: Output>(&mut self, _out: &mut O) -> Result<(), InputFault> {

@@ -125,8 +125,8 @@ impl Engine for FieldReport {
         }
     }
 
-    fn cut_off(&self, _bytes: &[u8]) -> InputFault {
-        unreachable!()
+    fn cut_off(&self, _bytes: &[u8]) -> Option<InputFault> {
+        None
     }
 
     fn finish<O: Output>(&mut self, out: &mut O) -> Result<(), InputFault> {

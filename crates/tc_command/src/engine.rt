@@ -59,15 +59,16 @@ pub trait Engine {
             → (more : List ℕ) × O.given out.old out.new more
             × IsHalt (meaning (choice self.old)) halt (front ++ bytes.now) (written ++ more)) };
 
-    /// The fault of an input that ends with these bytes, which are too few.
-    fn cut_off(&self, bytes: &[u8]) -> InputFault
+    /// The fault of an input that ends with these bytes, if they are too few. For most engines none ever are.
+    fn cut_off(&self, bytes: &[u8]) -> Option<InputFault>
         requires going { is_going self.now }
-        requires short { is_short self.now bytes.now }
         requires few { length bytes.now < KEPT }
-        ensures { (front written : List ℕ) → stands self.now front written
-            → Meaning.end_fault (meaning (choice self.now)) (front ++ bytes.now) ≡ Some result };
+        ensures { is_short self.now bytes.now → (front written : List ℕ) → stands self.now front written
+            → (fault : InputFault) × (result ≡ Some fault)
+            × (Meaning.end_fault (meaning (choice self.now)) (front ++ bytes.now) ≡ Some fault) };
 
-    /// Works on the end of the input, where no bytes are left, and writes what comes last. Of an input that it refuses it writes nothing more.
+    /// Works on the end of the input, where no bytes are left, and writes what comes last. Of an input that it refuses
+    /// it writes nothing more.
     fn finish<O: Output>(&mut self, out: &mut O) -> Result<(), InputFault>
         requires { is_going self.old }
         ensures ends { OnOk result ((bytes written : List ℕ) → stands self.old bytes written

@@ -153,7 +153,10 @@ fn end<E: Engine, K: Sink>(engine: &mut E, left: &[u8], out: &mut Outlet<'_, K>)
     ensures no_pull { result ≡ Err Stop.ReadFault → ⊥ }
 {
     if !left.is_empty() {
-        return Err(Stop::Refused(engine.cut_off(left)));
+        return match engine.cut_off(left) {
+            Some(fault) => Err(Stop::Refused(fault)),
+            None => unreachable!(),
+        };
     }
     match engine.finish(out) {
         Ok(()) => {
