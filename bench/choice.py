@@ -22,7 +22,10 @@ import time
 import wave
 from collections import Counter
 
-import numpy as np
+try:
+    import numpy as np
+except ImportError:
+    sys.exit("bench/choice.py: numpy is not installed (Debian: python3-numpy)")
 
 TOP = os.path.dirname(os.path.dirname(os.path.abspath(__file__)))
 sys.path.insert(0, os.path.join(TOP, "tools"))
