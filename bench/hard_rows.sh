@@ -18,7 +18,8 @@ for level in 12 8; do
 done
 # (one after the other, since both use the same files)
 noisy 48000 8 "sine 50" < "$room/tape" > "$room/hummed"
-noisy 48000 17.5 "sine 150" < "$room/hummed" > "$room/now" && row "the tape, hum at -8 dB" 48000
+noisy 48000 17.5 "sine 150" < "$room/hummed" > "$room/hum" && cp "$room/hum" "$room/now" && row "the tape, hum at -8 dB" 48000
+hurt 48000 highpass 400 < "$room/hum" > "$room/now" && row "the same, through a high-pass at 400 Hz" 48000
 hurt 48000 lowpass 1200 < "$room/tape" | noisy 48000 26 > "$room/now" && row "low-pass at 1200 Hz, noise at -26 dB" 48000
 noisy 48000 14 < "$room/tape" > "$room/hiss"
 for speed in 0.3 0.5 2 3.5; do
