@@ -8,9 +8,11 @@ code: the functions of tc.h, over ctypes.
     for word in tc.words(samples, system=25):
         print(word.label, word.tick / 16)
 
-Samples are 16 bits wide, of one channel, in the machine's order of bytes: bytes, an array("h"), a memoryview, or
-anything else with the buffer protocol. A tick is a part of a sample, which has `fineness` of them; tick 0 is at the
-first sample. Intervals are 32 bits wide, in the same forms or as whole numbers; a tick is their unit.
+Samples are those of one channel. Bytes hold 16 bits each, in the machine's order; an array, of `array` or numpy, says
+what it holds: whole numbers of 16 bits, or of 32, whose upper 16 count, or floats, whose full scale is 1. What is beyond
+full scale, or no number, counts as full scale. A track of an array of more channels is `samples[:, 1]`. A tick is a part
+of a sample, which has `fineness` of them; tick 0 is at the first sample. Intervals are whole numbers, in bytes 32 bits
+wide; an array has any width that holds them. A tick is their unit.
 
 A `Reader` takes samples, a `Tape` intervals, and both give words, refused words and breaks. A `Wheel` takes words and
 the time, and gives frames: those that were heard, and invented ones for those that were not. An `MtcWriter` makes MIDI
@@ -18,8 +20,9 @@ Time Code of frames, and an `MtcReader` reads its bytes. `bits` gives the 80 bit
 of bits, and a `Sound` samples of intervals. `line` reads a line of vertical interval time code from its runs, and
 `line_runs` makes these of a word.
 
-The library is what TC_LIBRARY names in the environment; else libtc.so.1 in lib/ beside this file's folder, or two
-folders above this one, as `make install` puts it; else the loader's libtc.so.1. Nothing but Python is needed.
+The library is what TC_LIBRARY names in the environment; else libtc.so.1 in tc.libs/ beside this file, as a wheel has it,
+in lib/ beside this file's folder, or two folders above this one, as `make install` puts it; else the loader's
+libtc.so.1. Nothing but Python is needed.
 """
 
 from __future__ import annotations
@@ -28,6 +31,7 @@ import array
 import ctypes
 import enum
 import os
+import sys
 from collections.abc import Iterable, Iterator
 from dataclasses import dataclass
 from typing import NamedTuple, Union
@@ -86,7 +90,7 @@ class Fault(enum.IntEnum):
 
 @dataclass(frozen=True)
 class Settings:
-    """How a sound is read. `Reader` refuses what is out of range."""
+    """How a sound is read. Raises ValueError at once if one is out of range."""
 
     system: int = 25
     """Frames a second: 24, 25 or 30, which reads 29.97 and drop-frame counting too."""
@@ -101,6 +105,9 @@ class Settings:
     pace: int = 0
     """0: an interval is read when it has ended, so a silence is told of when it is over. Else it is read as it passes,
     in pieces of this many ticks, 1 to 16,777,215."""
+
+    def __post_init__(self) -> None:
+        Reader(self)
 
 
 class Kind(enum.IntEnum):
@@ -334,7 +341,8 @@ def library() -> ctypes.CDLL:
     global _library
     if _library is None:
         here = os.path.dirname(os.path.realpath(__file__))
-        places = [os.path.normpath(os.path.join(here, place, "libtc.so.1")) for place in ("../lib", "../..")]
+        folders = "tc.libs", "../lib", "../.."
+        places = [os.path.normpath(os.path.join(here, place, "libtc.so.1")) for place in folders]
         name = os.environ.get("TC_LIBRARY") or next(filter(os.path.exists, places), "libtc.so.1")
         loaded = ctypes.CDLL(name)
         loaded.tc_abi.restype = ctypes.c_uint32
@@ -421,12 +429,83 @@ class _Object:
             raise ValueError(f"out of range: {told}")
 
     def copy(self):
-        """One that goes on from the same place."""
+        """One that goes on from the same place, in a room of its own."""
         other = object.__new__(type(self))
         other.__dict__.update(self.__dict__)
         other._make_room()
         ctypes.memmove(other._handle.value, self._handle.value, self._bytes)
         return other
+
+    __copy__ = copy
+
+    def __deepcopy__(self, _known):
+        return self.copy()
+
+    def __reduce__(self):
+        raise TypeError(f"a {type(self).__name__} lies in the memory of this process, and can't be stored")
+
+
+FULL_SCALE = 32_767
+
+
+def _level(value: float) -> int:
+    """A float as a sample of 16 bits. What is no number is at full scale too."""
+    return FULL_SCALE if value >= 1 else int(value * FULL_SCALE) if value > -1 else -FULL_SCALE
+
+
+def _view(held, what: str) -> memoryview:
+    """A row of numbers, or bytes. Raises ValueError if it is neither."""
+    try:
+        view = memoryview(held)
+    except TypeError:
+        raise ValueError(f"no {what}: {type(held).__name__}") from None
+    if view.ndim != 1:
+        raise ValueError(f"{what} are one behind another, not in {view.ndim} directions")
+    return view
+
+
+def _row(view: memoryview, kinds: str, what: str) -> array.array:
+    """The numbers of a view of one of these kinds, of the machine's order or another. Raises ValueError if it has others."""
+    order, kind = ("@", view.format) if view.format[:1].isalpha() else (view.format[:1], view.format[1:])
+    if kind not in tuple(kinds) or array.array(kind).itemsize != view.itemsize:
+        raise ValueError(f"no {what}: numbers of format {view.format!r}")
+    row = array.array(kind, view.tobytes())
+    if order in ">!" and sys.byteorder == "little" or order == "<" and sys.byteorder == "big":
+        row.byteswap()
+    return row
+
+
+def _samples_of(samples) -> memoryview:
+    """Samples of 16 bits, one behind another."""
+    view = _view(samples, "samples")
+    if view.format in ("B", "b", "c"):
+        if view.nbytes % 2:
+            raise ValueError("samples are of 16 bits: the number of bytes is odd")
+        return view if view.c_contiguous else memoryview(view.tobytes())
+    row = _row(view, "hilfd", "samples of 16 or 32 bits or floats")
+    if row.typecode in "fd":
+        row = array.array("h", map(_level, row))
+    elif row.itemsize == 4:
+        row = array.array("h", (sample >> 16 for sample in row))
+    elif row.itemsize != 2:
+        raise ValueError(f"samples of {8 * row.itemsize} bits: 16 and 32 are known, and floats")
+    return memoryview(row)
+
+
+def _intervals_of(intervals) -> memoryview:
+    """Intervals of 32 bits, one behind another. A number that does not fit becomes 0, which is no interval either."""
+    if isinstance(intervals, (bytes, bytearray, memoryview, array.array)) or hasattr(intervals, "__array_interface__"):
+        view = _view(intervals, "intervals")
+        if view.format in ("B", "b", "c"):
+            if view.nbytes % 4:
+                raise ValueError("intervals are of 32 bits: the bytes hold no whole number of them")
+            return view if view.c_contiguous else memoryview(view.tobytes())
+        row: Iterable[int] = _row(view, "hHiIlLqQ", "intervals")
+    else:
+        row = list(intervals)
+        if not all(isinstance(number, int) for number in row):
+            raise ValueError("intervals are whole numbers")
+    return memoryview(array.array("I", (number if 0 <= number < 1 << 32 else 0 for number in row)))
 
 
 def _numbers(numbers: Iterable[int], told) -> list[int]:
@@ -456,13 +535,10 @@ class Reader(_Object):
         return self._settings
 
     def write(self, samples) -> list[Event]:
-        """Takes all samples, and gives the events that they bring. Raises ValueError if these are no samples of 16
-        bits, and Full if the reader takes no more.
+        """Takes all samples, and gives the events that they bring. Raises ValueError if these are no samples, and Full
+        if the reader takes no more.
         """
-        view = memoryview(samples)
-        if not view.c_contiguous or view.format not in ("h", "<h", "B", "b", "c") or view.nbytes % 2:
-            raise ValueError("samples are of 16 bits, one behind another")
-        return _events_of(self, "write_s16_", view, 2, 2)
+        return _events_of(self, "write_s16_", _samples_of(samples), 2, 2)
 
     def told(self) -> int:
         """Up to which tick all words are told: one that is told later ends there or behind it. This is the time to tell
@@ -489,13 +565,7 @@ class Tape(_Object):
         """Takes all intervals, in ticks from 1 to 16,777,215, and gives the events that they bring. Raises ValueError
         at a number that is no interval, when those before it are taken, and Full if the reader takes no more.
         """
-        if not isinstance(intervals, (bytes, bytearray, memoryview, array.array)):
-            listed = list(intervals)
-            intervals = array.array("I", _numbers(listed, "an interval"))
-        view = memoryview(intervals)
-        if not view.c_contiguous or view.format not in ("I", "<I", "L", "B", "b", "c") or view.nbytes % 4:
-            raise ValueError("intervals are of 32 bits, one behind another")
-        return _events_of(self, "write_", view, 4, self._least)
+        return _events_of(self, "write_", _intervals_of(intervals), 4, self._least)
 
     def last(self) -> list[Event]:
         """The events that come if the tape ends here: a word that still waits for its witness, or for the next word. The
@@ -596,7 +666,7 @@ class MtcReader(_Object):
 
     def write(self, data) -> list[MtcLabel]:
         """Takes all bytes, and gives the labels that they complete. Raises ValueError if these are no bytes."""
-        view = memoryview(data)
+        view = _view(data, "bytes")
         if not view.c_contiguous or view.itemsize != 1:
             raise ValueError("bytes are one behind another")
         return _events_of(self, "read_", view, 1, 1)
@@ -698,7 +768,5 @@ def _label_of(count: str, label: str) -> _Label:
 
 
 def words(samples, **numbers: int) -> Iterator[Word]:
-    """The words of a sound, under settings by name."""
-    for event in Reader(**numbers).write(samples):
-        if isinstance(event, Word):
-            yield event
+    """The words of a sound, under settings by name. Raises ValueError at once, as `Reader` does."""
+    return (event for event in Reader(**numbers).write(samples) if isinstance(event, Word))

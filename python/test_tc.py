@@ -1,13 +1,20 @@
 """python3 -m unittest discover -s python: tc.py over lib/libtc.so.1, on code that bin/tc makes."""
 
 import array
+import copy
 import os
+import pickle
 import random
 import struct
 import subprocess
 import sys
 import threading
 import unittest
+
+try:
+    import numpy
+except ImportError:
+    numpy = None
 
 TOP = os.path.dirname(os.path.dirname(os.path.realpath(__file__)))
 sys.path[:0] = [os.path.join(TOP, "python"), os.path.join(TOP, "tools")]
@@ -50,10 +57,54 @@ class Reading(unittest.TestCase):
             self.assertEqual(tc.Reader().write(samples), wanted)
         self.assertEqual(tc.Reader().write(b""), [])
 
+    def test_arrays_say_what_they_hold(self):
+        wanted = tc.Reader().write(self.samples)
+        wide = array.array("i", (sample << 16 | 77 for sample in self.samples))
+        floats = [array.array(kind, (sample / 32_767 for sample in self.samples)) for kind in "fd"]
+        spaced = array.array("h", (it for sample in self.samples for it in (sample, 0)))
+        swapped = array.array("h", self.samples)
+        swapped.byteswap()
+        for samples in (wide, memoryview(spaced)[::2]):
+            self.assertEqual(tc.Reader().write(samples), wanted)
+        for samples in floats:
+            told = [word.label for word in tc.words(samples)]
+            self.assertEqual(told, [event.label for event in wanted if isinstance(event, tc.Word)])
+        if numpy is not None:
+            for kind in ("<i2", ">i2", ">i4", ">f8"):
+                native = {"i2": self.samples, "i4": wide, "f8": floats[1]}[kind[1:]]
+                self.assertEqual(tc.Reader().write(numpy.array(native).astype(kind)), tc.Reader().write(native))
+            two = numpy.array([self.samples, self.samples], dtype="i2").T
+            self.assertEqual(tc.Reader().write(two[:, 1]), wanted)
+
+    def test_floats_beyond_full_scale(self):
+        for value, level in ((1.0, 32_767), (7.5, 32_767), (-1.0, -32_767), (-9e9, -32_767), (float("nan"), -32_767), (0.5, 16_383)):
+            self.assertEqual(list(tc._samples_of(array.array("d", [value]))), [level])
+
     def test_what_is_no_sample_is_refused(self):
-        for wrong in (b"abc", array.array("i", [1]), memoryview(self.samples)[::2]):
+        wrong = [b"abc", 7, "abc", [1, 2], array.array("H", [1]), array.array("I", [1]), array.array("q", [1])]
+        if numpy is not None:
+            wrong += [numpy.zeros((4, 2), "i2"), numpy.zeros(4, "i8"), numpy.zeros(4, "f2"), numpy.zeros(4, "?"), numpy.zeros((), "i2")]
+        for samples in wrong:
             with self.assertRaises(ValueError):
-                tc.Reader().write(wrong)
+                tc.Reader().write(samples)
+
+    def test_wrong_settings_are_refused_at_once(self):
+        for numbers in ({"system": 29}, {"smooth": 17}, {"fineness": -1}, {"threshold": 1 << 40}):
+            for make in (tc.Settings, tc.Reader, lambda **them: tc.words(self.samples, **them)):
+                with self.assertRaises(ValueError):
+                    make(**numbers)
+
+    def test_each_copy_is_a_reader_of_its_own(self):
+        half = len(self.samples) // 2
+        wanted = tc.Reader().write(self.samples)
+        for way in (tc.Reader.copy, copy.copy, copy.deepcopy):
+            reader = tc.Reader()
+            first = reader.write(self.samples[:half])
+            other = way(reader)
+            reader.write(self.samples[:1_000])
+            self.assertEqual(first + other.write(self.samples[half:]), wanted)
+        with self.assertRaises(TypeError):
+            pickle.dumps(tc.Reader())
 
     def test_settings_at_the_edges(self):
         for numbers in ({"system": 30}, {"fineness": 64}, {"smooth": 16}, {"threshold": 524_272}, {"pace": 16_777_215}):
@@ -113,9 +164,25 @@ class Tapes(unittest.TestCase):
             tape = tc.Tape()
             with self.assertRaises(ValueError):
                 tape.write([5_000, wrong, 5_000])
-        for wrong in (b"abc", [-1], [1 << 32], array.array("h", [1])):
+        for wrong in (b"abc", "abc", 7, [-1], [1 << 32], [1.5], array.array("d", [1]), array.array("q", [1 << 32 | 5_000])):
             with self.assertRaises(ValueError):
                 tc.Tape().write(wrong)
+
+    def test_intervals_of_every_width(self):
+        wanted = tc.Tape().write(self.ticks)
+        for kind in "hHiIlLqQ":
+            self.assertEqual(tc.Tape().write(array.array(kind, self.ticks)), wanted)
+        if numpy is not None:
+            for kind in ("u2", "<u4", ">u4", "i8", "u8"):
+                self.assertEqual(tc.Tape().write(numpy.array(self.ticks).astype(kind)), wanted)
+            self.assertEqual(tc.Tape().write(numpy.repeat(numpy.array(self.ticks), 3)[::3]), wanted)
+
+    def test_what_lies_before_no_interval_is_taken(self):
+        for more in ([0], [-1], array.array("q", [-1]), array.array("Q", [1 << 63])):
+            tape = tc.Tape()
+            with self.assertRaises(ValueError):
+                tape.write(list(self.ticks[:300]) + list(more))
+            self.assertEqual(tape.told(), sum(self.ticks[:300]))
         for settings in ((29,), (25, 3), (25, 0, 3), (25, 0, -1)):
             with self.assertRaises(ValueError):
                 tc.Tape(*settings)
