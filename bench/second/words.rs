@@ -139,7 +139,7 @@ pub fn run(words: &[String], input: &[u8]) -> Run {
         "number" => numbered(words),
         "label" => labelled(words),
         "labels" => answered(words, input),
-        "version" => Words::of(words, 0, 0).map(|_| Run::text("tc 1.1.0\n".into(), End::Done)),
+        "version" => Words::of(words, 0, 0).map(|_| Run::text("tc 1.2.0\n".into(), End::Done)),
         // (what `help` prints is no rule of a format: no case has its words)
         "help" => asked_of_help(words),
         _ => return fault("command"),

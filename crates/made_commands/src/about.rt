@@ -13,7 +13,7 @@ use tc_io::{Sink, Source, put_bytes};
 use tc_job::usages::USAGES;
 
 /// The number of this version, which is in the file `VERSION` at the top too.
-pub const VERSION: &str = "1.1.0";
+pub const VERSION: &str = "1.2.0";
 
 /// The last line of `help`.
 pub const MANUAL: &str = "The manual: man 1 tc, and of files and lines man 5 tc-formats.";

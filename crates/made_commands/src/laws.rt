@@ -38,8 +38,8 @@ pub fn the_lengths_of_a_load_run_are_these()
 /// The line of `version`, a line of `help` with its values and its last line, and a line of `label`, letter by
 /// letter.
 pub fn what_the_program_tells_is_this()
-    ensures number_of_version { VERSION.now ≡ codes "1.1.0" }
-    ensures version { version_line ≡ codes "tc 1.1.0\n" }
+    ensures number_of_version { VERSION.now ≡ codes "1.2.0" }
+    ensures version { version_line ≡ codes "tc 1.2.0\n" }
     ensures usage { usage_line (codes "ltc-fly", codes " LIMIT") ≡ codes "ltc-fly LIMIT\n" }
     ensures manual { MANUAL.now ≡ codes "The manual: man 1 tc, and of files and lines man 5 tc-formats." }
     ensures label { label_line (address C25 1 2 3 4) ≡ codes "01:02:03:04\n" }
