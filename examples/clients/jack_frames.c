@@ -39,8 +39,8 @@ static int process(jack_nframes_t count, void *data) {
         tc_taken taken = tc_reader_write_s16(&deck->reader, samples, piece, events, ROOM);
         for (size_t i = 0; i < taken.made; i++) send(deck, (struct item){.event = events[i]});
         at += taken.used;
-        if (taken.full && tc_reader_start(&deck->reader, &deck->settings))
-            send(deck, (struct item){.event = {.kind = STARTS}});
+        if (taken.full && jack_ringbuffer_write_space(deck->ring) < sizeof(struct item)) break;
+        if (taken.full && tc_reader_start(&deck->reader, &deck->settings)) send(deck, (struct item){.event = {.kind = STARTS}});
     }
     send(deck, (struct item){.tick = tc_reader_told(&deck->reader)});
     return 0;
