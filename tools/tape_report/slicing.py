@@ -22,6 +22,8 @@ from .spans import Reading, spans_in
 # each word needs a witness, or one behind it that joins it and counts on.
 READ, TOLERANCE, WITNESS = "ltc-rough", "rough", "consecutive"
 PIECE = 1 << 20
+# What `tc` writes is gathered to so many bytes: half of what a pipe holds, so that no reader waits for another.
+GATHERED = 1 << 15
 # A decoder that ends at least these seconds before the length that was said has ended early.
 EARLY_SECONDS = 0.5
 Progress = Callable[[Input], None]
@@ -136,16 +138,19 @@ class Slicing:
         return self.front.resampled or self.stream.rate
 
     def pieces(self, progress: Progress | None) -> Iterator[bytes]:
-        """What comes, and meanwhile how far the sound is read: a silence gives nothing for long."""
-        while True:
+        """What comes, gathered, and meanwhile how far the sound is read: a silence gives nothing for long."""
+        gathered, is_ended = bytearray(), False
+        while not is_ended:
             while progress and not select.select([self.output], [], [], SHOWN_SECONDS)[0]:
                 progress(self.input)
             data = os.read(self.output.fileno(), PIECE)
-            if not data:
-                return
-            if progress:
+            gathered += data
+            is_ended = not data
+            if progress and data:
                 progress(self.input)
-            yield data
+            if gathered and (is_ended or len(gathered) >= GATHERED):
+                yield bytes(gathered)
+                gathered.clear()
 
     def close(self) -> None:
         self.output.close()

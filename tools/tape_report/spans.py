@@ -80,6 +80,8 @@ class Reading:
     sliced: str = ""
     # By how many ticks a filter moved its words.
     moved: float = 0.0
+    # How many intervals a frame of it has, once that is known.
+    of_a_frame: float | None = None
 
     @property
     def heard(self) -> int:
