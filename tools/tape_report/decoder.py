@@ -1,6 +1,5 @@
 """ffmpeg, for all sound that `tc` does not take: what it says of a file, and a stream of it as a WAV file."""
 import contextlib
-import json
 import os
 import re
 import subprocess
@@ -20,6 +19,8 @@ SECONDS = 60
 
 def probed(path: str, entries: str) -> dict[str, Any]:
     """What ffprobe says of a file; nothing if it fails."""
+    import json
+
     words = ["ffprobe", "-v", "error", "-show_entries", entries, "-of", "json", FILE + path]
     try:
         asked = subprocess.run(

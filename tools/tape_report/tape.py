@@ -6,16 +6,13 @@ import sys
 from collections.abc import Sequence
 
 from . import options as words
-from . import report, row, stamp, targets, vitc_report
+from . import report, targets
 from .endings import FAILED, FOUND, NONE_FOUND, say
 from .faults import Fault, NoSound, NoTarget, reason_of
 from .front_ends import FINENESS
-from .kinds import TAPE, kind_of
 from .names import shown
-from .plot import draw_part
 from .reading import wanted_of
 from .source import opened
-from .speed_plot import speed_of_report
 from .spans import Reading
 from .work import Silent, Tape, silent_tape, tape_read
 
@@ -47,6 +44,8 @@ def tell(options: argparse.Namespace, name: str, is_first: bool) -> int:
     except (Fault, OSError) as fault:
         reason = reason_of(fault)
         if options.json:
+            from . import row
+
             print(row.Told(row.Row(shown(name), row.FAILED, note=reason)).as_json(), flush=True)
         say(f"{shown(name)}: {reason}")
         return FAILED
@@ -54,7 +53,11 @@ def tell(options: argparse.Namespace, name: str, is_first: bool) -> int:
 
 def refuse_tape(path: str | None) -> None:
     """A page or a picture takes no tape's place, by force neither."""
-    if path is not None and os.path.isfile(path) and os.path.getsize(path) and kind_of(path) == TAPE:
+    if path is None or not os.path.isfile(path) or not os.path.getsize(path):
+        return
+    from .kinds import TAPE, kind_of
+
+    if kind_of(path) == TAPE:
         raise NoTarget(f"{shown(path)}: it is a tape, and is left as it is")
 
 
@@ -114,6 +117,8 @@ def write_asked(options: argparse.Namespace, tape: Tape, text: str) -> list[str]
         with targets.written(options.picture, options.force, tapes) as part:
             draw_reading(part, mine)
     if options.stamp:
+        from . import stamp, vitc_report
+
         vitc_report.refuse_apart(tape.vitc, tape.sound, mine)
         return stamp.stamp(tape.sound, mine.track, tape.place, options.stamp, options.force, tapes)
     return []
@@ -121,6 +126,9 @@ def write_asked(options: argparse.Namespace, tape: Tape, text: str) -> list[str]
 
 def draw_reading(part: targets.Part, reading: Reading) -> None:
     """The picture of the speed over time."""
+    from .plot import draw_part
+    from .speed_plot import speed_of_report
+
     with open(reading.path, encoding="ascii") as lines:
         points, script = speed_of_report(lines, FINENESS * reading.rate)
     draw_part(points, script, part)
