@@ -1,10 +1,10 @@
 """The time code of a sound: each track and each system is tried; the best path, if frames are missing; other front ends
 if neither hears code. The best is chosen, with how sure that is."""
 from collections.abc import Sequence
-from dataclasses import dataclass, field
 
 from . import front_ends, levels
 from .front_ends import FrontEnd
+from .records import dataclass, field
 from .slicing import Progress, read_track
 from .sound import Sound
 from .spans import Reading, some_words_in

@@ -2,10 +2,10 @@
 without a word."""
 import os
 import stat
-from dataclasses import dataclass, field
 
 from .faults import reason_of
 from .kinds import OTHER, TAPE, kind_by_name, kind_of
+from .records import dataclass, field
 from .targets import Identity
 
 

@@ -2,9 +2,9 @@
 import array
 import math
 import sys
-from dataclasses import dataclass
 from typing import IO
 
+from .records import dataclass
 from .sound import Sound
 
 # The level is measured over these seconds.

@@ -4,12 +4,12 @@ import shutil
 import struct
 import threading
 from collections.abc import Callable, Sequence
-from dataclasses import dataclass, field
 from typing import IO, Any
 
 from . import programs
 from .decoder import Decoder, Done, Kept, kept, number_in, streams_of
 from .faults import NoSound, NotThere
+from .records import dataclass, field
 from .source import Source, path_of
 from .wave import NO_SIZE, Wave, is_wave, wave_of
 

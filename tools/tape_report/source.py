@@ -7,10 +7,10 @@ import shutil
 import stat
 import tempfile
 from collections.abc import Iterator
-from dataclasses import dataclass
 from typing import IO
 
 from .faults import NoSound, NotThere
+from .records import dataclass
 from .targets import Identity, identity
 
 STANDARD_INPUT = "-"

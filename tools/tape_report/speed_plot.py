@@ -1,10 +1,10 @@
 """The speed of the words of a report over time, with the breaks of the code, as a picture."""
 from collections.abc import Iterable
-from dataclasses import dataclass
 
 from .faults import Nothing
 from .labels import LABELS_A_DAY, number_of
 from .plot import Points
+from .records import dataclass
 
 SPEED = """
 set terminal pngcairo size 1000,380 font "sans,11"

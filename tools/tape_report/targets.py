@@ -14,12 +14,12 @@ import stat
 import tempfile
 import zlib
 from collections.abc import Iterable, Iterator
-from dataclasses import dataclass
 from typing import IO
 
 from .endings import held_back
 from .faults import NoTarget
 from .names import shown
+from .records import dataclass
 
 # A file by its device and inode.
 Identity = tuple[int, int]

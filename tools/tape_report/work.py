@@ -2,7 +2,6 @@
 import contextlib
 import tempfile
 from collections.abc import Iterator
-from dataclasses import dataclass, replace
 from fractions import Fraction
 from typing import TYPE_CHECKING
 
@@ -11,6 +10,7 @@ from .choice import Choice, Wanted, choose
 from .faults import NoPicture, NoSound, reason_of
 from .names import shown
 from .place import Place, place_of
+from .records import dataclass, replace
 from .sound import Sound, sound_of
 from .spans import Reading
 from .source import Source
