@@ -5,10 +5,11 @@ import re
 import subprocess
 import tempfile
 from collections.abc import Sequence
-from typing import IO, Any, NamedTuple
+from typing import IO, Any
 
 from .faults import NoSound
 from .names import plain
+from .sound import Kept
 
 # Before a name, so that none is taken for an option or a protocol.
 FILE = "file:"
@@ -85,32 +86,6 @@ class Decoder:
         """What it complained of, in one line."""
         self.notes.seek(0)
         return first_line(self.notes.read(65_536))
-
-
-class Done(NamedTuple):
-    """A decoder that has ended well, and gave all."""
-
-    whole: float
-    output: None = None
-
-    def wait(self) -> int:
-        return 0
-
-    def seconds(self) -> float:
-        return self.whole
-
-    def note(self) -> str:
-        return ""
-
-    def close(self) -> None:
-        pass
-
-
-class Kept(NamedTuple):
-    """A stream that was decoded into a file without a name, and how that went."""
-
-    file: IO[bytes]
-    decoder: "Decoder | Done"
 
 
 def kept(path: str, stream: int) -> Kept:

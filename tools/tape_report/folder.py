@@ -6,7 +6,7 @@ import stat
 from .faults import reason_of
 from .kinds import OTHER, TAPE, kind_by_name, kind_of
 from .records import dataclass, field
-from .targets import Identity
+from .source import Identity
 
 
 @dataclass

@@ -7,16 +7,17 @@ import sys
 import tempfile
 from collections import deque
 from collections.abc import Callable, Iterator, Sequence
-from typing import IO
+from typing import IO, TYPE_CHECKING
 
-
-from .decoder import Decoder, Done
 from .faults import Fault, NoProgram, NoSound, NotThere
 from .front_ends import FrontEnd
 from .programs import program
-from .sound import Input, Sound
+from .sound import Done, Input, Sound
 from .track import opened_for, track_samples
 from .spans import Reading, spans_in
+
+if TYPE_CHECKING:
+    from .decoder import Decoder
 
 # Under this tolerance sound is read: the command that prints its words, and the word of `ltc-spans`. With the last word
 # each word needs a witness, or one behind it that joins it and counts on.
@@ -172,7 +173,7 @@ class Slicing:
         is_cut = self.front.is_path and wave is not None and wave.is_cut
         return f"the file ends inside its samples, at byte {wave.length}" if is_cut and wave else note
 
-    def decoder_ended(self, decoder: Decoder | Done, note: str, is_empty: bool) -> str:
+    def decoder_ended(self, decoder: "Decoder | Done", note: str, is_empty: bool) -> str:
         # It has no reader any more, if `tc` gave up.
         self.input.output.close()
         status, seconds, said = decoder.wait(), decoder.seconds() or 0.0, decoder.note()

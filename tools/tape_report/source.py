@@ -11,9 +11,10 @@ from typing import IO
 
 from .faults import NoSound, NotThere
 from .records import dataclass
-from .targets import Identity, identity
 
 STANDARD_INPUT = "-"
+# A file by its device and inode.
+Identity = tuple[int, int]
 
 
 @dataclass(frozen=True)
@@ -23,6 +24,12 @@ class Source:
     name: str
     path: str
     tape: Identity
+
+
+def identity(path: str | int) -> Identity:
+    """The file behind a name or a descriptor, whatever links lead to it."""
+    there = os.stat(path)
+    return there.st_dev, there.st_ino
 
 
 def path_of(file: IO[bytes]) -> str:

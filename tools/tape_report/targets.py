@@ -20,9 +20,8 @@ from .endings import held_back
 from .faults import NoTarget
 from .names import shown
 from .records import dataclass
+from .source import Identity, identity
 
-# A file by its device and inode.
-Identity = tuple[int, int]
 PIECE = 1 << 20
 # What a filesystem without hard links answers.
 NO_LINKS = (errno.EPERM, errno.ENOTSUP, errno.ENOSYS, errno.EMLINK)
@@ -34,12 +33,6 @@ class Part:
 
     file: IO[bytes]
     name: str | None
-
-
-def identity(path: str | int) -> Identity:
-    """The file behind a name or a descriptor, whatever links lead to it."""
-    there = os.stat(path)
-    return there.st_dev, there.st_ino
 
 
 def refuse(path: str, force: bool, tapes: Iterable[Identity] = ()) -> None:
