@@ -10,7 +10,8 @@ from tape_report.spans import Reading
 from tape_report.witnesses import have_witnesses
 
 from . import running
-from .making import TC
+from .making import TC, code, intervals, wav
+from .running import TAPE, has, run, tape
 
 LABELS = ("00:00:59", "23:59:59", "09:59:59", "10:00:00", "00:59:59")
 
@@ -80,6 +81,36 @@ def try_word_alone(room):
         with open(path, encoding="ascii") as lines:
             assert "word forward" in lines.read()
         assert have_witnesses(Reading(1, 25, 48_000, "plain", path=path)) == wanted, wanted
+
+
+def starts_of(room, samples):
+    """The report of a tape, and how `tc` was started for it."""
+    log, program = os.path.join(room, "log"), os.path.join(room, "tc")
+    with open(program, "w", encoding="ascii") as file:
+        file.write(f"#!/bin/sh\necho \"$@\" >> '{log}'\nexec '{os.path.abspath(TC)}' \"$@\"\n")
+    os.chmod(program, 0o755)
+    path = wav(os.path.join(room, "a.wav"), 48_000, [samples])
+    ended, out, notes = run(TAPE, path, env={**os.environ, "TC": program})
+    assert ended == 0, notes
+    with open(log, encoding="ascii") as file:
+        starts = sorted(file.read().splitlines())
+    os.unlink(log)
+    return out, starts
+
+
+def try_starts_of_a_good_tape(room):
+    """A good tape is sliced once and read once as each system, with no witness asked for, which takes five times as
+    long; one with a word alone is read again, and the word is not heard.
+    """
+    good = intervals("25", "10:00:00:00", 60)
+    out, starts = starts_of(room, code(48_000, good))
+    has(out, "heard         60 frames")
+    assert starts == ["ltc-rough"] * 3 + ["ltc-spans 2 rough"] * 3 + ["wav-ltc 25 1 250"], starts
+    # Behind a word that is cut stands one of another place: before it is no sync word, and no word follows.
+    out, starts = starts_of(room, code(48_000, [*good[:-50], *intervals("25", "05:00:00:00", 1)]))
+    has(out, "heard         59 frames", "10:00:00:00 to 10:00:02:08")
+    assert "05:00" not in out and "ltc-rough consecutive" in starts, f"{out}{starts}"
+    assert tape(os.path.join(room, "a.wav"), "--all-words")[0].count("05:00:00:00"), "nothing is left out by the witness"
 
 
 def slow_level(data, bits, tracks, track):
