@@ -1,10 +1,10 @@
 """What lies between the spans of a reading: code that is missing, labels that jump, turns, and changes of the
 count.
 """
-from dataclasses import dataclass, replace
 from fractions import Fraction
 
 from .labels import LABELS_A_DAY, number_of
+from .records import dataclass, replace
 from .spans import Reading, Span
 
 # Labels go on in time if they are as many as frames fit into the gap, to one, and to what a tape's speed may

@@ -3,7 +3,8 @@ between transitions of the same kind."""
 import math
 from collections import defaultdict
 from collections.abc import Sequence
-from dataclasses import dataclass
+
+from .records import dataclass
 
 # How many places a half cell is shared out into. A line is drawn through the samples of a place that has at least LEAST
 # of them; if more than the part RARE of all samples is in places with fewer, nothing is known.

@@ -2,10 +2,10 @@
 behind the last. A span whose rate is undecided is none."""
 import re
 from collections.abc import Iterable
-from dataclasses import dataclass
 
 from .labels import LABELS_A_DAY, label_of, number_of
 from .rates import SPEED
+from .records import dataclass
 from .row import Told
 
 @dataclass(frozen=True)

@@ -1,15 +1,15 @@
 """ffmpeg, for all sound that `tc` does not take: what it says of a file, and a stream of it as a WAV file."""
 import contextlib
-import json
 import os
 import re
 import subprocess
 import tempfile
 from collections.abc import Sequence
-from typing import IO, Any, NamedTuple
+from typing import IO, Any
 
 from .faults import NoSound
 from .names import plain
+from .sound import Kept
 
 # Before a name, so that none is taken for an option or a protocol.
 FILE = "file:"
@@ -20,6 +20,8 @@ SECONDS = 60
 
 def probed(path: str, entries: str) -> dict[str, Any]:
     """What ffprobe says of a file; nothing if it fails."""
+    import json
+
     words = ["ffprobe", "-v", "error", "-show_entries", entries, "-of", "json", FILE + path]
     try:
         asked = subprocess.run(
@@ -84,32 +86,6 @@ class Decoder:
         """What it complained of, in one line."""
         self.notes.seek(0)
         return first_line(self.notes.read(65_536))
-
-
-class Done(NamedTuple):
-    """A decoder that has ended well, and gave all."""
-
-    whole: float
-    output: None = None
-
-    def wait(self) -> int:
-        return 0
-
-    def seconds(self) -> float:
-        return self.whole
-
-    def note(self) -> str:
-        return ""
-
-    def close(self) -> None:
-        pass
-
-
-class Kept(NamedTuple):
-    """A stream that was decoded into a file without a name, and how that went."""
-
-    file: IO[bytes]
-    decoder: "Decoder | Done"
 
 
 def kept(path: str, stream: int) -> Kept:

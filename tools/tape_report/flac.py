@@ -7,7 +7,7 @@ import subprocess
 import tempfile
 from typing import IO, NamedTuple
 
-from .decoder import Done, Kept
+from .sound import Done, Kept
 
 LETTERS = b"fLaC"
 # The first block says what the samples are: its kind, 0, its length, and from here on rate, tracks, bits and length.

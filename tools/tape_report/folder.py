@@ -2,11 +2,11 @@
 without a word."""
 import os
 import stat
-from dataclasses import dataclass, field
 
 from .faults import reason_of
 from .kinds import OTHER, TAPE, kind_by_name, kind_of
-from .targets import Identity
+from .records import dataclass, field
+from .source import Identity
 
 
 @dataclass

@@ -2,7 +2,8 @@
 the best path, and what neither hears by the others.
 """
 import shutil
-from dataclasses import dataclass, replace
+
+from .records import dataclass, replace
 
 THRESHOLD = 250
 LOW_THRESHOLD, LOWEST_THRESHOLD = 50, 20

@@ -1,12 +1,12 @@
 """The page of all tapes, which sorts and filters by column without a network, with what failed first."""
 import html
 import os
-from dataclasses import asdict
 from typing import Any
 from urllib.parse import quote
 
 from . import store
 from .page import data_in_script, form_of
+from .records import asdict
 from .row import COLUMNS, Row
 from .store import Run
 

@@ -1,10 +1,10 @@
 """The chunk iXML of a sound file: the samples since midnight that it says beside those of `bext`, and the rate of the
 code."""
 import re
-from dataclasses import dataclass
 from fractions import Fraction
 
 from .faults import NoStamp
+from .records import dataclass
 
 # Names of the upper and the lower 32 bits of the number, wherever the chunk repeats it.
 PAIRS = (

@@ -2,17 +2,21 @@
 import array
 import math
 import sys
-from dataclasses import dataclass
 from typing import IO
 
+from .records import dataclass
 from .sound import Sound
 
 # The level is measured over these seconds.
 LEVEL_SECONDS = 600
 PIECE_BLOCKS = 65_536
 DECODED_BITS = 24
-# Of the upper byte of a sample: 1 below zero.
+# Of the upper byte of a sample: 1 below zero; how far it lies from zero; and that of a byte without a sign.
 SIGNS = bytes(128) + b"\1" * 128
+APART = bytes(range(128)) + bytes(range(127, -1, -1))
+SIGNED = bytes(range(128, 256)) + bytes(range(128))
+# All bits of a byte the other way round.
+TURNED = bytes(range(255, -1, -1))
 # Below these peaks, of 32,768, there is nothing, and little.
 SILENCE, QUIET = 16, 500
 
@@ -38,15 +42,21 @@ class Level:
         return f"{round(20 * math.log10(self.peak / 32_768), 1) + 0.0} dB" if self.peak else "silence"
 
 
-def words_of(data: bytes, bits: int, tracks: int, track: int) -> array.array:
-    """The upper 16 bits of the samples of a track, of whole blocks."""
+def halves_of(data: bytes, bits: int, tracks: int, track: int) -> tuple[bytes, bytes]:
+    """The lower and the upper bytes of the upper 16 bits of the samples of a track, of whole blocks."""
     width = bits // 8
     block = width * tracks
     data = data[: len(data) // block * block]
     first = width * (track - 1)
     if width == 1:
-        return array.array("h", [256 * (value - 128) for value in data[first::block]])
-    low, high = data[first + width - 2 :: block], data[first + width - 1 :: block]
+        upper = data[first::block].translate(SIGNED)
+        return bytes(len(upper)), upper
+    return data[first + width - 2 :: block], data[first + width - 1 :: block]
+
+
+def words_of(data: bytes, bits: int, tracks: int, track: int) -> array.array:
+    """The upper 16 bits of the samples of a track, of whole blocks."""
+    low, high = halves_of(data, bits, tracks, track)
     both = bytearray(2 * len(low))
     both[0::2], both[1::2] = low, high
     words = array.array("h")
@@ -56,11 +66,40 @@ def words_of(data: bytes, bits: int, tracks: int, track: int) -> array.array:
     return words
 
 
-def crossings_in(words: array.array) -> int:
-    """How often neighbouring samples lie on different sides of zero."""
-    upper = words.tobytes()[1 if sys.byteorder == "little" else 0 :: 2]
+def crossings_in(upper: bytes) -> int:
+    """How often neighbouring samples lie on different sides of zero, by their upper bytes."""
     signs = upper.translate(SIGNS)
     return signs.count(b"\0\1") + signs.count(b"\1\0")
+
+
+def peak_in(low: bytes, upper: bytes, peak: int) -> int:
+    """The greatest distance from zero, if it is above that of samples before. Whole strings of bytes are looked
+    through: a loop over the samples takes ten times as long.
+    """
+    top = greatest(upper.translate(APART), peak >> 8)
+    if top is None:
+        return peak
+    above = greatest_at(low, upper, top)
+    below = greatest_at(low.translate(TURNED), upper, 255 - top)
+    ones = [256 * top + above] if above is not None else []
+    # A byte turned is one less than its distance from zero.
+    others = [256 * top + below + 1] if below is not None else []
+    return max([peak, *ones, *others])
+
+
+def greatest(data: bytes, least: int = 0) -> int | None:
+    """The greatest byte, if it is not below `least`."""
+    return next((value for value in range(255, least - 1, -1) if value in data), None)
+
+
+def greatest_at(low: bytes, upper: bytes, value: int) -> int | None:
+    """The greatest lower byte of the samples with this upper one."""
+    if value not in upper:
+        return None
+    mask = bytearray(256)
+    mask[value] = 255
+    both = int.from_bytes(upper.translate(mask), "little") & int.from_bytes(low, "little")
+    return greatest(both.to_bytes(len(low), "little"))
 
 
 def skip_to_samples(file: IO[bytes]) -> None:
@@ -120,11 +159,11 @@ def level_in(file: IO[bytes], bits: int, tracks: int, track: int, rate: int, lef
     """The level of `left` blocks at most."""
     peak, crossings, count = 0, 0, 0
     while left > 0:
-        words = words_of(file.read(bits // 8 * tracks * min(PIECE_BLOCKS, left)), bits, tracks, track)
-        if not words:
+        low, upper = halves_of(file.read(bits // 8 * tracks * min(PIECE_BLOCKS, left)), bits, tracks, track)
+        if not upper:
             break
-        peak = max(peak, max(words), -min(words))
-        crossings += crossings_in(words)
-        count += len(words)
-        left -= len(words)
+        peak = peak_in(low, upper, peak)
+        crossings += crossings_in(upper)
+        count += len(upper)
+        left -= len(upper)
     return Level(peak, crossings * rate / count if count else 0.0)

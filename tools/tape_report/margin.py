@@ -6,12 +6,12 @@ average, and what is left is the noise. It is made louder, a decibel after anoth
 """
 import bisect
 from collections.abc import Sequence
-from dataclasses import dataclass
 
 from .clean import CLOCK, Clean, clean_of
 from .crossings import crossings_of, sums_of, thresholds_of, turns_of
 from .front_ends import FINENESS, FrontEnd
 from .levels import samples_of
+from .records import dataclass
 from .sound import Sound
 from .spans import Reading
 

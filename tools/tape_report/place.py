@@ -1,7 +1,6 @@
 """Where a file lies in the day: one number, the whole samples since midnight of its first sample, with all that makes
 it doubtful. The report's label, its count and both kinds of stamp come from this number."""
 import itertools
-from dataclasses import dataclass
 from fractions import Fraction
 
 from .breaks import goes_on
@@ -9,6 +8,7 @@ from .choice import Choice
 from .front_ends import FINENESS
 from .labels import FRAMES, LABELS_A_DAY, label_of, number_of
 from .rates import Rated, rated
+from .records import dataclass
 from .spans import Reading, Span, Word, words_in
 
 # How many seconds of code that goes on fix the first label.

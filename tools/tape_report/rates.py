@@ -1,9 +1,9 @@
 """The frame rate of a span's labels, and by what it is known."""
-from dataclasses import dataclass
 from fractions import Fraction
 
 from .front_ends import FINENESS
 from .labels import NTSC, RATES, name_of
+from .records import dataclass
 from .spans import Reading, Span
 
 # The rates of which a system has two differ by 1/1001; a speed as near to one of them shows which.

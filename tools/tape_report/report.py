@@ -1,5 +1,4 @@
 """The report of a tape, for people, and a row a span, for a spreadsheet."""
-import csv
 from collections.abc import Iterator
 from fractions import Fraction
 from typing import TextIO
@@ -9,7 +8,6 @@ from .choice import Choice
 from .codes import own_codes
 from .labels import NTSC, name_of
 from .levels import LEVEL_SECONDS, Level
-from .margin import MOST_DECIBELS
 from .names import in_table
 from .place import Place
 from .rates import SPEED, TOLD, UNDECIDED, Rated, played_rate, rated
@@ -50,6 +48,8 @@ def span_rows(name: str, reading: Reading) -> Iterator[list[object]]:
 
 
 def write_csv(name: str, reading: Reading | None, out: TextIO, has_head: bool) -> None:
+    import csv
+
     rows = csv.writer(out)
     if has_head:
         rows.writerow(SPAN_ROW)
@@ -134,6 +134,8 @@ def first_lines(place: Place | None) -> Iterator[str]:
 def margin_lines(margin: int | None) -> Iterator[str]:
     """Said if all words were read and some decibels are left."""
     if margin:
+        from .margin import MOST_DECIBELS
+
         more = ", or more" if margin == MOST_DECIBELS else ""
         yield f"margin        every word was read; the noise could be some {margin} dB louder{more}"
 

@@ -1,6 +1,5 @@
 """What a table says of a tape: a row of the archive's table, and the JSON object of a tape."""
 import json
-from dataclasses import asdict, dataclass, field, fields, replace
 from fractions import Fraction
 from typing import Any
 
@@ -9,6 +8,7 @@ from .breaks import breaks_of
 from .choice import Choice
 from .place import Place, count_of
 from .rates import UNDECIDED, Rated, rated
+from .records import asdict, dataclass, field, replace
 from .sound import Sound
 from .spans import Reading, Span
 
@@ -59,7 +59,7 @@ class Row:
         return ["" if value is None else value for value in asdict(self).values()]
 
 
-COLUMNS = [each.name for each in fields(Row)]
+COLUMNS = list(Row.__annotations__)
 
 
 @dataclass

@@ -7,21 +7,24 @@ import sys
 import tempfile
 from collections import deque
 from collections.abc import Callable, Iterator, Sequence
-from typing import IO
+from typing import IO, TYPE_CHECKING
 
-
-from .decoder import Decoder, Done
 from .faults import Fault, NoProgram, NoSound, NotThere
 from .front_ends import FrontEnd
 from .programs import program
-from .sound import Input, Sound
+from .sound import Done, Input, Sound
 from .track import opened_for, track_samples
 from .spans import Reading, spans_in
+
+if TYPE_CHECKING:
+    from .decoder import Decoder
 
 # Under this tolerance sound is read: the command that prints its words, and the word of `ltc-spans`. With the last word
 # each word needs a witness, or one behind it that joins it and counts on.
 READ, TOLERANCE, WITNESS = "ltc-rough", "rough", "consecutive"
 PIECE = 1 << 20
+# What `tc` writes is gathered to so many bytes: half of what a pipe holds, so that no reader waits for another.
+GATHERED = 1 << 15
 # A decoder that ends at least these seconds before the length that was said has ended early.
 EARLY_SECONDS = 0.5
 Progress = Callable[[Input], None]
@@ -136,16 +139,19 @@ class Slicing:
         return self.front.resampled or self.stream.rate
 
     def pieces(self, progress: Progress | None) -> Iterator[bytes]:
-        """What comes, and meanwhile how far the sound is read: a silence gives nothing for long."""
-        while True:
+        """What comes, gathered, and meanwhile how far the sound is read: a silence gives nothing for long."""
+        gathered, is_ended = bytearray(), False
+        while not is_ended:
             while progress and not select.select([self.output], [], [], SHOWN_SECONDS)[0]:
                 progress(self.input)
             data = os.read(self.output.fileno(), PIECE)
-            if not data:
-                return
-            if progress:
+            gathered += data
+            is_ended = not data
+            if progress and data:
                 progress(self.input)
-            yield data
+            if gathered and (is_ended or len(gathered) >= GATHERED):
+                yield bytes(gathered)
+                gathered.clear()
 
     def close(self) -> None:
         self.output.close()
@@ -167,7 +173,7 @@ class Slicing:
         is_cut = self.front.is_path and wave is not None and wave.is_cut
         return f"the file ends inside its samples, at byte {wave.length}" if is_cut and wave else note
 
-    def decoder_ended(self, decoder: Decoder | Done, note: str, is_empty: bool) -> str:
+    def decoder_ended(self, decoder: "Decoder | Done", note: str, is_empty: bool) -> str:
         # It has no reader any more, if `tc` gave up.
         self.input.output.close()
         status, seconds, said = decoder.wait(), decoder.seconds() or 0.0, decoder.note()

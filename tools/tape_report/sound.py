@@ -4,15 +4,17 @@ import shutil
 import struct
 import threading
 from collections.abc import Callable, Sequence
-from dataclasses import dataclass, field
-from typing import IO, Any
+from typing import IO, TYPE_CHECKING, Any, NamedTuple
 
 from . import programs
-from .decoder import Decoder, Done, Kept, kept, number_in, streams_of
 from .faults import NoSound, NotThere
+from .records import dataclass, field
 from .source import Source, path_of
 from .wave import NO_SIZE, Wave, is_wave, wave_of
 
+# Most tapes have no need of ffmpeg.
+if TYPE_CHECKING:
+    from .decoder import Decoder
 
 # A decoded stream is kept up to this size, in bytes.
 MOST_KEPT = 64 << 20
@@ -20,6 +22,32 @@ MOST_KEPT = 64 << 20
 ESTIMATED = ("mp3", "aac", "ac3", "eac3")
 # Files of `tc` that are no sound, by their first bytes, and the command that reads each.
 READ_BY_TC = {b"LTCI": ("an interval file", "ltc-read"), b"VITL": ("a line file", "vitc-read")}
+
+
+class Done(NamedTuple):
+    """A decoder that has ended well, and gave all."""
+
+    whole: float
+    output: None = None
+
+    def wait(self) -> int:
+        return 0
+
+    def seconds(self) -> float:
+        return self.whole
+
+    def note(self) -> str:
+        return ""
+
+    def close(self) -> None:
+        pass
+
+
+class Kept(NamedTuple):
+    """A stream that was decoded into a file without a name, and how that went."""
+
+    file: IO[bytes]
+    decoder: "Decoder | Done"
 
 
 @dataclass(frozen=True)
@@ -73,9 +101,14 @@ class Sound:
             return self.open(stream)
         if stream.number not in self.kept:
             by_another = self.other_decoder() if self.other_decoder else None
-            self.kept[stream.number] = by_another or kept(self.source.path, stream.number)
+            self.kept[stream.number] = by_another or self.kept_by_ffmpeg(stream)
         there = self.kept[stream.number]
         return Input(file=open(path_of(there.file), "rb"), decoder=there.decoder)
+
+    def kept_by_ffmpeg(self, stream: Stream) -> Kept:
+        from .decoder import kept
+
+        return kept(self.source.path, stream.number)
 
     def size_of(self, stream: Stream) -> float:
         """How many bytes it has when it is decoded, about."""
@@ -84,6 +117,8 @@ class Sound:
     def open(self, stream: Stream, filters: Sequence[str] = ()) -> "Input":
         """A stream as a WAV file, to read from."""
         if self.is_decoded or filters:
+            from .decoder import Decoder
+
             return Input(decoder=Decoder(self.source.path, stream.number, filters))
         if self.wave is not None and self.wave.is_open and self.wave.data is not None:
             return relayed(self.source.path, self.wave.data.place, self.wave.letters == b"RIFF")
@@ -95,7 +130,7 @@ class Input:
     """Where a WAV file is read from, and what runs for it."""
 
     file: IO[bytes] | None = None
-    decoder: Decoder | Done | None = None
+    decoder: "Decoder | Done | None" = None
 
     @property
     def output(self) -> IO[bytes]:
@@ -140,6 +175,8 @@ def wave_sound(source: Source, form: Wave) -> Sound:
 
 def stream_of(said: dict[str, Any], number: int, is_known: bool) -> Stream:
     """A sound as ffprobe tells it."""
+    from .decoder import number_in
+
     seconds = number_in(said, "duration") if is_known else 0.0
     tracks, rate = int(said["channels"]), int(said["sample_rate"])
     return Stream(tracks, rate, number, number_in(said, "start_time"), seconds or None)
@@ -158,6 +195,8 @@ def decoded_sound(source: Source, form: Wave | None) -> Sound:
         sound = Sound(source, "flac", [stream], header.seconds, form, is_decoded=True)
         sound.other_decoder = lambda: flac.kept(source.path, header)
         return sound
+    from .decoder import number_in, streams_of
+
     sounds, whole = streams_of(source.path)
     kind, coded = str(whole.get("format_name", "sound")).split(",")[0], str(sounds[0].get("codec_name", "unknown"))
     streams = [stream_of(it, number, kind not in ESTIMATED) for number, it in enumerate(sounds)]

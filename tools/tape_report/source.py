@@ -7,13 +7,14 @@ import shutil
 import stat
 import tempfile
 from collections.abc import Iterator
-from dataclasses import dataclass
 from typing import IO
 
 from .faults import NoSound, NotThere
-from .targets import Identity, identity
+from .records import dataclass
 
 STANDARD_INPUT = "-"
+# A file by its device and inode.
+Identity = tuple[int, int]
 
 
 @dataclass(frozen=True)
@@ -23,6 +24,12 @@ class Source:
     name: str
     path: str
     tape: Identity
+
+
+def identity(path: str | int) -> Identity:
+    """The file behind a name or a descriptor, whatever links lead to it."""
+    there = os.stat(path)
+    return there.st_dev, there.st_ino
 
 
 def path_of(file: IO[bytes]) -> str:

@@ -1,10 +1,11 @@
 """What `tc` says of a track: the spans of its labels, the gaps between them, and its words."""
 import itertools
 from collections.abc import Iterable
-from dataclasses import dataclass, field
 from fractions import Fraction
+from typing import NamedTuple
 
 from .front_ends import FINENESS, PLAIN, FrontEnd
+from .records import dataclass, field
 
 # Ticks a sample in the recordings of `wav-ltc`.
 
@@ -41,8 +42,7 @@ class Span:
         return Fraction(self.end - self.begin, self.frames - 1) if self.frames > 1 else None
 
 
-@dataclass(frozen=True)
-class Word:
+class Word(NamedTuple):
     """A line `word` of `ltc-rough`, and the tick at which the word ends."""
 
     direction: str
@@ -80,6 +80,8 @@ class Reading:
     sliced: str = ""
     # By how many ticks a filter moved its words.
     moved: float = 0.0
+    # How many intervals a frame of it has, once that is known.
+    of_a_frame: float | None = None
 
     @property
     def heard(self) -> int:

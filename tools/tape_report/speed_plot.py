@@ -1,6 +1,6 @@
 """The speed of the words of a report over time, with the breaks of the code, as a picture."""
 from collections.abc import Iterable
-from dataclasses import dataclass
+from typing import NamedTuple
 
 from .faults import Nothing
 from .labels import LABELS_A_DAY, number_of
@@ -27,8 +27,7 @@ plot "lost" using 1:({low}):(0):({high} - {low}) with vectors nohead lc rgb "#b0
 LEAST_HEIGHT = 0.02
 
 
-@dataclass(frozen=True)
-class Mark:
+class Mark(NamedTuple):
     """A word of a report: where it ends, how long it is, in ticks, and its speed."""
 
     direction: str

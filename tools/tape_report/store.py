@@ -3,9 +3,9 @@ done."""
 import contextlib
 import json
 import os
-from dataclasses import asdict, dataclass
 from typing import Any
 
+from .records import asdict, dataclass
 from .row import FAILED, MISSING, Row, Told
 from .targets import write_text
 

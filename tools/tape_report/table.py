@@ -3,7 +3,6 @@ jobs.
 """
 import csv
 import io
-from dataclasses import dataclass
 
 from . import output, store
 from .ale import ale_files
@@ -12,6 +11,7 @@ from .folder import Found, sort_key
 from .index import index
 from .names import in_table, shown
 from .output import Made
+from .records import dataclass
 from .remarks import summary, whole
 from .row import COLUMNS, MISSING, STATES, Row, Told
 from .store import Run

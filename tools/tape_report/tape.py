@@ -4,20 +4,21 @@ import argparse
 import os
 import sys
 from collections.abc import Sequence
+from typing import TYPE_CHECKING
 
 from . import options as words
-from . import report, row, stamp, targets, vitc_report
+from . import report
 from .endings import FAILED, FOUND, NONE_FOUND, say
 from .faults import Fault, NoSound, NoTarget, reason_of
 from .front_ends import FINENESS
-from .kinds import TAPE, kind_of
 from .names import shown
-from .plot import draw_part
 from .reading import wanted_of
-from .source import opened
-from .speed_plot import speed_of_report
+from .source import Source, opened
 from .spans import Reading
 from .work import Silent, Tape, silent_tape, tape_read
+
+if TYPE_CHECKING:
+    from .targets import Part
 
 
 def main(arguments: Sequence[str]) -> int:
@@ -30,10 +31,8 @@ def tell(options: argparse.Namespace, name: str, is_first: bool) -> int:
     """One file, and the status that it alone would end with."""
     try:
         with opened(name) as source:
-            asked = (options.page, options.picture, options.stamp)
-            targets.refuse_all(asked, options.force, [source.tape])
-            for path in (options.page, options.picture):
-                refuse_tape(path)
+            if options.page or options.picture or options.stamp:
+                refuse_targets(options, source)
             wanted, rate = wanted_of(words.reading_of(options))
             try:
                 with tape_read(source, name, wanted, rate, is_shown=True, has_vitc=options.vitc) as tape:
@@ -47,14 +46,30 @@ def tell(options: argparse.Namespace, name: str, is_first: bool) -> int:
     except (Fault, OSError) as fault:
         reason = reason_of(fault)
         if options.json:
+            from . import row
+
             print(row.Told(row.Row(shown(name), row.FAILED, note=reason)).as_json(), flush=True)
         say(f"{shown(name)}: {reason}")
         return FAILED
 
 
+def refuse_targets(options: argparse.Namespace, source: Source) -> None:
+    """Raises if a file that is asked for may not be written."""
+    from . import targets
+
+    asked = (options.page, options.picture, options.stamp)
+    targets.refuse_all(asked, options.force, [source.tape])
+    for path in (options.page, options.picture):
+        refuse_tape(path)
+
+
 def refuse_tape(path: str | None) -> None:
     """A page or a picture takes no tape's place, by force neither."""
-    if path is not None and os.path.isfile(path) and os.path.getsize(path) and kind_of(path) == TAPE:
+    if path is None or not os.path.isfile(path) or not os.path.getsize(path):
+        return
+    from .kinds import TAPE, kind_of
+
+    if kind_of(path) == TAPE:
         raise NoTarget(f"{shown(path)}: it is a tape, and is left as it is")
 
 
@@ -107,6 +122,10 @@ def object_of(tape: Tape, notes: Sequence[str]) -> str:
 
 def write_asked(options: argparse.Namespace, tape: Tape, text: str) -> list[str]:
     """The files that the options name; what a copy has not kept."""
+    if not (options.page or options.picture or options.stamp):
+        return []
+    from . import targets
+
     tapes, mine = [tape.source.tape], tape.choice.reading
     if options.page:
         targets.write_text(options.page, tape.page(text), options.force, tapes)
@@ -114,13 +133,18 @@ def write_asked(options: argparse.Namespace, tape: Tape, text: str) -> list[str]
         with targets.written(options.picture, options.force, tapes) as part:
             draw_reading(part, mine)
     if options.stamp:
+        from . import stamp, vitc_report
+
         vitc_report.refuse_apart(tape.vitc, tape.sound, mine)
         return stamp.stamp(tape.sound, mine.track, tape.place, options.stamp, options.force, tapes)
     return []
 
 
-def draw_reading(part: targets.Part, reading: Reading) -> None:
+def draw_reading(part: "Part", reading: Reading) -> None:
     """The picture of the speed over time."""
+    from .plot import draw_part
+    from .speed_plot import speed_of_report
+
     with open(reading.path, encoding="ascii") as lines:
         points, script = speed_of_report(lines, FINENESS * reading.rate)
     draw_part(points, script, part)

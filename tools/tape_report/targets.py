@@ -14,15 +14,14 @@ import stat
 import tempfile
 import zlib
 from collections.abc import Iterable, Iterator
-from dataclasses import dataclass
 from typing import IO
 
 from .endings import held_back
 from .faults import NoTarget
 from .names import shown
+from .records import dataclass
+from .source import Identity, identity
 
-# A file by its device and inode.
-Identity = tuple[int, int]
 PIECE = 1 << 20
 # What a filesystem without hard links answers.
 NO_LINKS = (errno.EPERM, errno.ENOTSUP, errno.ENOSYS, errno.EMLINK)
@@ -34,12 +33,6 @@ class Part:
 
     file: IO[bytes]
     name: str | None
-
-
-def identity(path: str | int) -> Identity:
-    """The file behind a name or a descriptor, whatever links lead to it."""
-    there = os.stat(path)
-    return there.st_dev, there.st_ino
 
 
 def refuse(path: str, force: bool, tapes: Iterable[Identity] = ()) -> None:

@@ -9,10 +9,10 @@ import os
 import statistics
 import threading
 from collections.abc import Iterator
-from dataclasses import replace
 from typing import IO, TYPE_CHECKING, Any
 
 from .front_ends import FINENESS, FrontEnd
+from .records import replace
 from .sound import Sound
 from .spans import Reading, words_in
 from .track import opened_for, track_samples

@@ -4,7 +4,6 @@ import os
 import subprocess
 import tempfile
 from collections.abc import Iterator
-from dataclasses import dataclass, field
 from fractions import Fraction
 from typing import IO, Any
 
@@ -12,6 +11,7 @@ from .decoder import FILE, first_line, number_in, probed
 from .faults import NoPicture, NoProgram
 from .labels import LABELS_A_DAY, NTSC, label_of, name_of, number_of
 from .programs import has_ffmpeg, program
+from .records import dataclass, field
 
 # So many rows of a field `tc` looks at, and so wide they are.
 MOST_ROWS = 40

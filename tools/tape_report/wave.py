@@ -1,8 +1,9 @@
 """The chunks of a WAV, BWF, RF64 or BW64 file. A header of any bytes is read, and what is wrong in it is reported."""
 import os
 import struct
-from dataclasses import dataclass, field
 from typing import BinaryIO
+
+from .records import dataclass, field
 
 LETTERS = (b"RIFF", b"RF64", b"BW64")
 # A size that says nothing: it is in `ds64`, or the writer did not know it.

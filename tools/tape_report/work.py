@@ -2,19 +2,23 @@
 import contextlib
 import tempfile
 from collections.abc import Iterator
-from dataclasses import dataclass, replace
 from fractions import Fraction
+from typing import TYPE_CHECKING
 
-from . import codes, levels, page, report, row, slicing, vitc_report
-from .margin import margin_of
+from . import codes, levels, report, slicing
 from .choice import Choice, Wanted, choose
 from .faults import NoPicture, NoSound, reason_of
 from .names import shown
 from .place import Place, place_of
+from .records import dataclass, replace
 from .sound import Sound, sound_of
 from .spans import Reading
 from .source import Source
-from .vitc import Vitc, vitc_of
+
+# A plain report has no need of the others, and each takes its time to be loaded.
+if TYPE_CHECKING:
+    from .row import Told
+    from .vitc import Vitc
 
 
 @dataclass
@@ -29,7 +33,7 @@ class Tape:
     # The frames a second that were given.
     given: Fraction | None
     # What the rows of the picture say, or why they were not looked at; None where that was not asked for.
-    vitc: Vitc | str | None = None
+    vitc: "Vitc | str | None" = None
 
     @property
     def is_found(self) -> bool:
@@ -38,26 +42,37 @@ class Tape:
 
     def report(self, has_margin: bool = False) -> str:
         """The report, with the margin of the tape where it is asked for: that takes about a second."""
-        mine = None if self.vitc is None else vitc_report.lines(self.vitc, self.sound, self.choice.reading)
-        return self.sound_report(has_margin) + ("" if mine is None else "\n".join(mine) + "\n")
+        if self.vitc is None:
+            return self.sound_report(has_margin)
+        from . import vitc_report
+
+        mine = vitc_report.lines(self.vitc, self.sound, self.choice.reading)
+        return self.sound_report(has_margin) + "\n".join(mine) + "\n"
 
     def sound_report(self, has_margin: bool) -> str:
         mine = self.choice.reading
         if self.choice.is_found:
-            level = levels.level_of(self.sound, mine.track)
-            margin = margin_of(self.sound, mine) if has_margin else None
+            level, margin = levels.level_of(self.sound, mine.track), None
+            if has_margin:
+                from .margin import margin_of
+
+                margin = margin_of(self.sound, mine)
             return report.found_report(self.name, self.sound, self.choice, self.place, level, self.given, margin)
         tracks = sorted({reading.track for reading in self.choice.others})
         heights = {track: levels.level_of(self.sound, track) for track in tracks}
         return report.empty_report(self.name, self.sound, self.choice, heights)
 
-    def told(self) -> row.Told:
+    def told(self) -> "Told":
+        from . import row
+
         told = row.told_of(self.name, self.sound, self.choice, self.place, self.given)
         if self.vitc is not None:
             add_picture(told, self.vitc, self.sound, self.choice.reading)
         return told
 
     def page(self, text: str) -> str:
+        from . import page
+
         return page.page(self.name, text, self.choice.reading)
 
 
@@ -67,32 +82,40 @@ class Silent:
 
     name: str
     reason: str
-    vitc: Vitc
+    vitc: "Vitc"
 
     def report(self) -> str:
+        from . import vitc_report
+
         lines = [self.name, f"sound         not read: {self.reason}", *vitc_report.lines(self.vitc, None, None)]
         return "\n".join(lines) + "\n"
 
-    def told(self) -> row.Told:
+    def told(self) -> "Told":
+        from . import row
+
         told = row.Told(row.Row(self.name, row.CODE, note=self.reason))
         add_picture(told, self.vitc, None, None)
         return told
 
 
-def says_words(vitc: Vitc | str | None) -> bool:
-    return isinstance(vitc, Vitc) and vitc.words > 0
+def says_words(vitc: "Vitc | str | None") -> bool:
+    return vitc is not None and not isinstance(vitc, str) and vitc.words > 0
 
 
-def add_picture(told: row.Told, vitc: Vitc | str, sound: Sound | None, reading: Reading | None) -> None:
+def add_picture(told: "Told", vitc: "Vitc | str", sound: Sound | None, reading: Reading | None) -> None:
     """Adds to a row what the picture says."""
+    from . import row, vitc_report
+
     told.row.vitc = vitc_report.cell(vitc, sound, reading)
     told.picture = vitc_report.as_object(vitc, sound, reading)
     if says_words(vitc):
         told.row.status = row.CODE
 
 
-def picture_read(source: Source, limit: int) -> Vitc | str:
+def picture_read(source: Source, limit: int) -> "Vitc | str":
     """What the rows of the picture say, or why they were not looked at."""
+    from .vitc import vitc_of
+
     try:
         return vitc_of(source.path, limit)
     except NoPicture as fault:
@@ -102,7 +125,7 @@ def picture_read(source: Source, limit: int) -> Vitc | str:
 def silent_tape(source: Source, name: str, limit: int, fault: NoSound) -> Silent:
     """A file without sound, where its picture says words; and where it does not the fault."""
     vitc = picture_read(source, limit)
-    if isinstance(vitc, Vitc) and vitc.words:
+    if not isinstance(vitc, str) and vitc.words:
         return Silent(shown(name), reason_of(fault), vitc)
     raise fault
 

@@ -1,4 +1,5 @@
 """Ends: outputs that are closed or full, each with its status and without a traceback."""
+import contextlib
 import os
 import subprocess
 
@@ -58,6 +59,40 @@ def try_closed_notes(room):
             assert ended == 0 and out, f"{name} {where}: {ended}"
     for where in ("2>&-", "2> /dev/full"):
         assert shell(f"'{TAPE}' '{room}/none.wav' {where}")[0] == 3
+
+
+def try_ends_of_pictures(room):
+    """What draws does so with its outputs closed; a full disk under the picture is status 3, and one under TMPDIR where
+    that is needed.
+    """
+    want("gnuplot")
+    report, trace = os.path.join(room, "report"), os.path.join(room, "trace")
+    words = [TC, "ltc-make", "25", "forward", "10:00:00:00", "60", "24", "48000"]
+    made = subprocess.run(words, stdout=subprocess.PIPE, check=True).stdout
+    with open(report, "wb") as file:
+        subprocess.run([TC, "ltc-read"], input=made, stdout=file, check=True)
+    with open(trace, "wb") as file:
+        file.writelines(b"step %d locked error %d c d cause none p 00:00:00:0%d\n" % (n, n, n) for n in range(9))
+    draw, chase = (os.path.join(TOP, "tools", name) for name in ("draw_report", "plot_chase"))
+    with small_disk(room, "64k") as disk:
+        full = {**os.environ, "TMPDIR": disk}
+        with open(os.path.join(disk, "fill"), "wb") as file, contextlib.suppress(OSError):
+            file.write(bytes(63 * 1024))
+            file.flush()
+        for command, text in ((f"'{draw}' 48000", report), (f"'{chase}'", trace)):
+            for number, where in enumerate((">&-", "2>&-", ">&- 2>&-", "> /dev/full 2> /dev/full")):
+                picture = os.path.join(room, f"{os.path.basename(text)}{number}.png")
+                ended, _, notes = shell(f"{command} '{picture}' < '{text}' {where}")
+                assert ended == 0 and os.path.getsize(picture), f"{command} {where}: {ended} {notes}"
+            ended, _, notes = shell(f"{command} '{room}/none.png' <&-")
+            assert ended in (1, 3) and notes.strip(), f"{command} <&-: {ended} {notes}"
+            for picture, there in ((f"{disk}/full.png", os.environ), (f"{room}/none.png", full)):
+                ended, _, notes = shell(f"{command} '{picture}' < '{text}'", env=there)
+                assert ended in (0, 3) and os.path.exists(picture) == (ended == 0), f"{picture}: {ended} {notes}"
+                assert ended == 3 or there is not os.environ, f"{picture} is written on a full disk"
+                with contextlib.suppress(FileNotFoundError):
+                    os.unlink(picture)
+            assert os.listdir(disk) == ["fill"], os.listdir(disk)
 
 
 def try_help_of_all(_room):
