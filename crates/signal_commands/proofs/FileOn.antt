@@ -16,7 +16,7 @@ use Rattle.wave_file.specs.Wave.{reading_of}
 use Rattle.signal_commands.specs.declared.sound_file.SoundFile.{SoundFile}
 use Rattle.signal_commands.specs.KeptFile.{file_said, file_kind, is_known, HoldsFile}
 use Rattle.signal_commands.specs.declared.brought.Brought.{Brought}
-use Rattle.signal_commands.specs.declared.brought.Brought.TheVariants.{Samples, Begin, Halt}
+use Rattle.signal_commands.specs.declared.brought.Brought.TheVariants.{Samples, Begin, Few, Halt}
 use Rattle.signal_commands.specs.KeptListening.{Adds, Begins, Ends, IsBrought, Takes, ContainerKind}
 
 -- what holds of whatever bytes say
@@ -189,23 +189,24 @@ takes_behind held s mid new bytes count asked left holds t = record {
 pub behind_none : {C A : Type 0} (held : ContainerKind C A) (s mid new : C) (bytes : List ℕ) (room : List ℤ)
     (b : Brought)
     → held.asked mid ≡ held.asked s → held.left mid ≡ held.left s
-    → ((front : List ℕ) → held.holds s front → held.holds mid front)
+    → ((front : List ℕ) → held.holds s front → held.holds mid front) → ¬ (b ≡ Few)
     → IsBrought held mid new bytes room b → IsBrought held s new bytes room b
-behind_none {A = A} held s mid new bytes room (Samples count samples) asked left holds b = (
+behind_none {A = A} held s mid new bytes room (Samples count samples) asked left holds some b = (
   takes_behind held s mid new bytes count asked left holds b.0,
   b.1,
   λ front h.
       subst (λ (a : A). Adds (held.most a) (held.says a front) (held.says a (front ++ take count bytes))
       (take samples room)) asked (b.2 front (holds front h)),
 )
-behind_none {A = A} held s mid new bytes room (Begin count format) asked left holds b = (
+behind_none {A = A} held s mid new bytes room (Begin count format) asked left holds some b = (
   takes_behind held s mid new bytes count asked left holds b.0,
   subst (λ (a : A). held.tells a format) asked b.1,
   λ front h.
       subst (λ (a : A). Begins (held.says a front) (held.says a (front ++ take count bytes)) format) asked
       (b.2 front (holds front h)),
 )
-behind_none {A = A} held s mid new bytes room (Halt halt) asked left holds b = (
+behind_none {A = A} held s mid new bytes room Few asked left holds some b = absurd (some refl)
+behind_none {A = A} held s mid new bytes room (Halt halt) asked left holds some b = (
   b.0 ∙ asked,
   λ front h.
       subst (λ (a : A). Ends (held.says a front) (held.says a (front ++ bytes)) halt) asked (b.1 front (holds front h)),

@@ -43,6 +43,7 @@ file_kind = record {
   most = λ asked. asked.most_samples;
   tells = IsTakenFor;
   holds = HoldsFile;
+  short = λ s bytes. ⊥;
   left = λ s. MAX_BYTES - bytes_taken s.decoder;
 }
 

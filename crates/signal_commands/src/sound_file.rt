@@ -1,6 +1,7 @@
 //! A sound file as a container: the samples of one of its tracks. Read next: `wave_file/src/decoder.rt`.
 ghost use Rattle.std.specs.Prelude.{◌≡◌, ◌≤◌, ◌<◌, ℕ, List, [], length};
 ghost use Rattle.wave_file.specs.Format.{IsAsked};
+ghost use Rattle.signal_commands.specs.declared.brought.Brought.TheVariants.{Few};
 ghost use Rattle.signal_commands.specs.KeptFile.{file_kind};
 ghost use Rattle.signal_commands.specs.KeptListening.{IsBrought, ContainerKind};
 
@@ -33,7 +34,8 @@ impl SoundFile {
     fn take_piece(&mut self, bytes: &[u8], room: &mut Room) -> Brought
         requires some { 0 < length bytes.now }
         requires going { (front : List ℕ) × ContainerKind.holds file_kind self.old front }
-        ensures { IsBrought file_kind self.old self.new bytes.now room.new result }
+        ensures brings { IsBrought file_kind self.old self.new bytes.now room.new result }
+        ensures some { ¬ (result ≡ Few) }
     {
         samples_are_few_and_behind_a_format();
         let taken = self.decoder.take(bytes);
@@ -77,6 +79,10 @@ impl Container for SoundFile {
             bytes: count,
             samples,
         }
+    }
+
+    fn cut_off(&self, _bytes: &[u8]) -> Option<InputFault> {
+        None
     }
 
     fn finish(&self) -> Result<(), InputFault> {

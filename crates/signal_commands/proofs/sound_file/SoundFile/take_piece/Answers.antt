@@ -6,8 +6,8 @@ use Rattle.signal_commands.proofs.FileOn.{takes_on}
 use Rattle.signal_commands.proofs.sound_file.SoundFile.take_piece.Goals as goal
 
 -- bytes without a sample
-pub returns-in-Nothing : goal.returns-in-Nothing
-returns-in-Nothing c =
+pub returns-in-Nothing-clause-brings : goal.returns-in-Nothing-clause-brings
+returns-in-Nothing-clause-brings c =
     let s = c.args.self.now in
     let next = record s { decoder = c.take-taken.new.self } in
     let t = c.in-Nothing.ensures.takes in
@@ -22,8 +22,8 @@ returns-in-Nothing c =
     )
 
 -- the format
-pub returns-in-Begin : goal.returns-in-Begin
-returns-in-Begin c =
+pub returns-in-Begin-clause-brings : goal.returns-in-Begin-clause-brings
+returns-in-Begin-clause-brings c =
     let s = c.args.self.now in
     let next = record s { decoder = c.take-taken.new.self } in
     let t = c.in-Begin.ensures.takes in
@@ -39,8 +39,8 @@ returns-in-Begin c =
     )
 
 -- a sample
-pub returns-in-Sample : goal.returns-in-Sample
-returns-in-Sample c =
+pub returns-in-Sample-clause-brings : goal.returns-in-Sample-clause-brings
+returns-in-Sample-clause-brings c =
     let s = c.args.self.now in
     let next = record s { decoder = c.take-taken.new.self } in
     let t = c.in-Sample.ensures.takes in
@@ -59,8 +59,8 @@ returns-in-Sample c =
     )
 
 -- a fault
-pub returns-in-Fault : goal.returns-in-Fault
-returns-in-Fault c = (
+pub returns-in-Fault-clause-brings : goal.returns-in-Fault-clause-brings
+returns-in-Fault-clause-brings c = (
   ap (λ (d : Decoding). d.asked) c.in-Fault.ensures.takes,
   λ front holds.
       fault_ends c.args.self.now front c.args.bytes.now c.in-Fault.fault holds
@@ -68,8 +68,8 @@ returns-in-Fault c = (
 )
 
 -- the limit
-pub returns-in-Limit : goal.returns-in-Limit
-returns-in-Limit c = (
+pub returns-in-Limit-clause-brings : goal.returns-in-Limit-clause-brings
+returns-in-Limit-clause-brings c = (
   ap (λ (d : Decoding). d.asked) c.in-Limit.ensures.takes,
   λ front holds.
       limit_ends c.args.self.now front c.args.bytes.now holds

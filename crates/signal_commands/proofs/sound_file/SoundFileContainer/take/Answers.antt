@@ -26,7 +26,7 @@ returns-then-count-eq0 c =
     let left : bytes_taken next.decoder ≡ bytes_taken s.decoder = omega (arith, e.adds.taken, c.if-count-eq0.true) in
     behind_none file_kind s next c.take_piece.new.self c.args.bytes.now c.take_piece.new.room c.take_piece.result
     e.adds.asked (ap (λ (n : ℕ). MAX_BYTES - n) left) (none_held s next _ _ _ decodes c.if-count-eq0.true)
-    c.take_piece.ensures
+    c.take_piece.ensures.some c.take_piece.ensures.brings
 
 -- blocks
 pub returns : goal.returns
