@@ -1,6 +1,6 @@
 -- What more bytes of a sound file bring: samples of its track, their format, or the end of the reading.
 use Rattle.std.proofs.Common.{◌≡◌, ℕ, ◌+◌, ◌≤◌, false, ℤ, List, [], ◌∷◌, ◌++◌, Option, Some, None, length}
-use Rattle.std.proofs.Common.{refl, sym, ◌∙◌, ap, subst, append-nil, arith, set, take}
+use Rattle.std.proofs.Common.{refl, sym, ◌∙◌, ap, subst, append-nil, arith, take}
 use Rattle.tc_command.specs.declared.halt.Halt.TheVariants.{Refused, Limit}
 use Rattle.tc_command.specs.declared.input_fault.InputFault.TheVariants.{Sound}
 use Rattle.tc_io.specs.Verdict.{Verdict, good, refused, past_limit, verdict_as}
@@ -10,14 +10,11 @@ use Rattle.wave_file.specs.declared.format.Asked.{Asked}
 use Rattle.wave_file.specs.declared.format.WaveFormat.{WaveFormat}
 use Rattle.wave_file.specs.declared.stage.TheConstants.{MAX_BYTES}
 use Rattle.wave_file.specs.GoesOn.{IsWithin}
-use Rattle.wave_file.specs.StandsFor.{bytes_taken, format_in_decoding, AddsBlocks, Decoding, IsTold, StandsFor}
-use Rattle.wave_file.specs.StandsFor.{StopsAt}
-use Rattle.wave_file.specs.Wave.{reading_of}
+use Rattle.wave_file.specs.StandsFor.{format_in_decoding, Decoding, IsTold, StandsFor, StopsAt}
+use Rattle.wave_file.specs.Wave.{Reading, reading_of}
 use Rattle.signal_commands.specs.declared.sound_file.SoundFile.{SoundFile}
-use Rattle.signal_commands.specs.KeptFile.{file_said, file_kind, is_known, HoldsFile}
-use Rattle.signal_commands.specs.declared.brought.Brought.{Brought}
-use Rattle.signal_commands.specs.declared.brought.Brought.TheVariants.{Samples, Begin, Halt}
-use Rattle.signal_commands.specs.KeptListening.{Adds, Begins, Ends, IsBrought, Takes, ContainerKind}
+use Rattle.signal_commands.specs.KeptFile.{file_said, file_kind, is_known, said_of_reading, HoldsFile}
+use Rattle.signal_commands.specs.KeptListening.{Adds, Begins, Ends, Takes}
 
 -- what holds of whatever bytes say
 abbrev pub Reads : Type 0
@@ -26,7 +23,7 @@ Reads = (asked : Asked) (bytes : List ℕ) → IsWithin asked (reading_of asked 
 -- what the decoder says of more bytes
 pub record Decodes (old new : Decoding) (bytes : List ℕ) (samples : List ℤ) : Type 0 where
   pub asked : new.asked ≡ old.asked
-  pub within : bytes_taken new ≤ MAX_BYTES
+  pub within : new.place ≤ MAX_BYTES
   pub stands : (front : List ℕ) (before : List ℤ) → StandsFor old front before
       → StandsFor new (front ++ bytes) (before ++ samples)
   pub told : (all : List ℕ) (given : List ℤ) → StandsFor new all given
@@ -37,7 +34,7 @@ pub decodes_more : (old new : Decoding) (bytes : List ℕ) (samples : List ℤ) 
     → new.asked ≡ old.asked
     → ((front : List ℕ) (before : List ℤ) → StandsFor old front before
     → StandsFor new (front ++ bytes) (before ++ samples))
-    → bytes_taken new ≤ MAX_BYTES → told ≡ format_in_decoding new
+    → new.place ≤ MAX_BYTES → told ≡ format_in_decoding new
     → ((all : List ℕ) (given : List ℤ) → StandsFor new all given → IsTold (reading_of new.asked all) told given good)
     → Decodes old new bytes samples
 decodes_more old new bytes samples told asked stands within is tells = record {
@@ -47,14 +44,6 @@ decodes_more old new bytes samples told asked stands within is tells = record {
   told = λ all given at.
       subst (λ (f : Option WaveFormat). IsTold (reading_of new.asked all) f given good) is (tells all given at);
 }
-
--- the same of blocks
-pub decodes_blocks : (old new : Decoding) (bytes : List ℕ) (count : ℕ) (samples : List ℤ) (told : Option WaveFormat)
-    → AddsBlocks old new bytes count samples → bytes_taken new ≤ MAX_BYTES → told ≡ format_in_decoding new
-    → ((all : List ℕ) (given : List ℤ) → StandsFor new all given → IsTold (reading_of new.asked all) told given good)
-    → Decodes old new (take count bytes) samples
-decodes_blocks old new bytes count samples told adds within is tells =
-    decodes_more old new (take count bytes) samples told adds.asked adds.stands within is tells
 
 pub holds_on : (s next : SoundFile) (front bytes : List ℕ) (samples : List ℤ)
     → Decodes s.decoder next.decoder bytes samples → HoldsFile s front → HoldsFile next (front ++ bytes)
@@ -66,14 +55,6 @@ holds_on s next front bytes samples decodes holds =
       told = decodes.told (front ++ bytes) (holds.samples ++ samples) stands;
       within = decodes.within;
     }
-
--- where no byte was taken it holds the same
-pub none_held : (s next : SoundFile) (bytes : List ℕ) (count : ℕ) (samples : List ℤ)
-    → Decodes s.decoder next.decoder (take count bytes) samples → count ≡ 0
-    → (front : List ℕ) → HoldsFile s front → HoldsFile next front
-none_held s next bytes count samples decodes none front holds =
-    subst (HoldsFile next) (ap (λ n. front ++ take n bytes) none ∙ append-nil front)
-    (holds_on s next front (take count bytes) samples decodes holds)
 
 -- in the terms of what was asked
 told_on : (s next : SoundFile) (front bytes : List ℕ) (samples : List ℤ)
@@ -94,11 +75,6 @@ known_is (Some format) none = absurd cc
 no_more : (a b : List ℤ) → a ++ b ≡ [] → b ≡ []
 no_more [] b e = e
 no_more (x ∷ a) b e = absurd cc
-
--- the room with one sample
-pub first_set : (room : List ℤ) (sample : ℤ) → 1 ≤ length room → take 1 (set room 0 sample) ≡ sample ∷ []
-first_set [] sample some = absurd (omega (arith, some))
-first_set (x ∷ room) sample some = refl
 
 -- samples
 pub adds_on : Reads → (s next : SoundFile) (front bytes : List ℕ) (samples : List ℤ)
@@ -160,11 +136,25 @@ limit_ends s front bytes holds stops =
     let told = ends_on s front bytes past_limit holds stops in
     record { format = told.format_is; samples = told.samples_are; verdict = ap (verdict_as Sound) told.verdict_is }
 
+-- bytes that are too few say nothing more
+pub file_waits : (s : SoundFile) (front bytes : List ℕ) (holds : HoldsFile s front)
+    → StopsAt s.decoder (front ++ bytes) holds.samples taken.Few
+    → file_said s.decoder.asked (front ++ bytes) ≡ file_said s.decoder.asked front
+file_waits s front bytes holds now =
+    let before = holds.told in
+    same_said (reading_of s.decoder.asked (front ++ bytes)) (reading_of s.decoder.asked front)
+    (now.format_is ∙ sym before.format_is) (now.samples_are ∙ sym before.samples_are)
+    (now.verdict_is ∙ sym before.verdict_is)
+  where
+    same_said : (r t : Reading) → r.format ≡ t.format → r.samples ≡ t.samples → r.verdict ≡ t.verdict
+        → said_of_reading r ≡ said_of_reading t
+    same_said r t format samples verdict = rw (format, samples, verdict) refl
+
 -- ---- how many bytes were taken
 
 pub takes_on : (s next : SoundFile) (bytes : List ℕ) (count : ℕ) (samples : List ℤ)
     → Decodes s.decoder next.decoder (take count bytes) samples → 1 ≤ count → count ≤ length bytes
-    → bytes_taken next.decoder ≡ bytes_taken s.decoder + count → Takes file_kind s next bytes count
+    → next.decoder.place ≡ s.decoder.place + count → Takes file_kind s next bytes count
 takes_on s next bytes count samples decodes some within taken = record {
   some = some;
   within = within;
@@ -172,41 +162,3 @@ takes_on s next bytes count samples decodes some within taken = record {
   left = omega (arith, decodes.within, taken, some);
   holds = λ front holds. holds_on s next front (take count bytes) samples decodes holds;
 }
-
-takes_behind : {C A : Type 0} (held : ContainerKind C A) (s mid new : C) (bytes : List ℕ) (count : ℕ)
-    → held.asked mid ≡ held.asked s → held.left mid ≡ held.left s
-    → ((front : List ℕ) → held.holds s front → held.holds mid front)
-    → Takes held mid new bytes count → Takes held s new bytes count
-takes_behind held s mid new bytes count asked left holds t = record {
-  some = t.some;
-  within = t.within;
-  asked = t.asked ∙ asked;
-  left = omega (arith, t.left, left);
-  holds = λ front h. t.holds front (holds front h);
-}
-
--- where nothing was taken before, it is the same
-pub behind_none : {C A : Type 0} (held : ContainerKind C A) (s mid new : C) (bytes : List ℕ) (room : List ℤ)
-    (b : Brought)
-    → held.asked mid ≡ held.asked s → held.left mid ≡ held.left s
-    → ((front : List ℕ) → held.holds s front → held.holds mid front)
-    → IsBrought held mid new bytes room b → IsBrought held s new bytes room b
-behind_none {A = A} held s mid new bytes room (Samples count samples) asked left holds b = (
-  takes_behind held s mid new bytes count asked left holds b.0,
-  b.1,
-  λ front h.
-      subst (λ (a : A). Adds (held.most a) (held.says a front) (held.says a (front ++ take count bytes))
-      (take samples room)) asked (b.2 front (holds front h)),
-)
-behind_none {A = A} held s mid new bytes room (Begin count format) asked left holds b = (
-  takes_behind held s mid new bytes count asked left holds b.0,
-  subst (λ (a : A). held.tells a format) asked b.1,
-  λ front h.
-      subst (λ (a : A). Begins (held.says a front) (held.says a (front ++ take count bytes)) format) asked
-      (b.2 front (holds front h)),
-)
-behind_none {A = A} held s mid new bytes room (Halt halt) asked left holds b = (
-  b.0 ∙ asked,
-  λ front h.
-      subst (λ (a : A). Ends (held.says a front) (held.says a (front ++ bytes)) halt) asked (b.1 front (holds front h)),
-)

@@ -8,8 +8,8 @@ use Rattle.wave_file.specs.declared.format.Asked.{Asked}
 use Rattle.wave_file.specs.declared.format.WaveFormat.{WaveFormat}
 use Rattle.wave_file.specs.declared.stage.TheConstants.{MAX_BYTES}
 use Rattle.wave_file.specs.Format.{IsTakenFor}
-use Rattle.wave_file.specs.StandsFor.{StandsFor, IsTold, bytes_taken, format_in_decoding}
-use Rattle.wave_file.specs.Wave.{end_fault_of, reading_of}
+use Rattle.wave_file.specs.StandsFor.{StandsFor, IsCut, IsTold, format_in_decoding}
+use Rattle.wave_file.specs.Wave.{Reading, end_fault_of, reading_of}
 use Rattle.signal_commands.specs.declared.sound_file.SoundFile.{SoundFile}
 use Rattle.signal_commands.specs.KeptListening.{Said, ContainerKind}
 
@@ -18,22 +18,26 @@ pub record HoldsFile (s : SoundFile) (bytes : List ℕ) : Type 0 where
   pub samples : List ℤ
   pub decoder : StandsFor s.decoder bytes samples
   pub told : IsTold (reading_of s.decoder.asked bytes) (format_in_decoding s.decoder) samples good
-  pub within : bytes_taken s.decoder ≤ MAX_BYTES
+  pub within : s.decoder.place ≤ MAX_BYTES
 
 -- samples may come where there is a format
 abbrev pub is_known : Option WaveFormat → Bool
 is_known None = false
 is_known (Some format) = true
 
--- what bytes of a sound file say
-abbrev pub file_said : Asked → List ℕ → Said
-file_said asked bytes = let r = reading_of asked bytes in record {
+-- what a reading says
+abbrev pub said_of_reading : Reading → Said
+said_of_reading r = record {
   format = r.format;
   begun = is_known r.format;
   samples = r.samples;
   all = r.samples;
   verdict = verdict_as Sound r.verdict;
 }
+
+-- and so do the bytes of a sound file
+abbrev pub file_said : Asked → List ℕ → Said
+file_said asked bytes = said_of_reading (reading_of asked bytes)
 
 abbrev pub file_kind : ContainerKind SoundFile Asked
 file_kind = record {
@@ -43,7 +47,8 @@ file_kind = record {
   most = λ asked. asked.most_samples;
   tells = IsTakenFor;
   holds = HoldsFile;
-  left = λ s. MAX_BYTES - bytes_taken s.decoder;
+  short = λ s bytes. IsCut s.decoder bytes;
+  left = λ s. MAX_BYTES - s.decoder.place;
 }
 
 pub file_is_good : (s : SoundFile) (bytes : List ℕ) → HoldsFile s bytes

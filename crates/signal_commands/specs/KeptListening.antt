@@ -4,12 +4,13 @@ use Rattle.std.specs.Prelude.{◌≡◌, ℕ, ◌<◌, ◌≤◌, Bool, true, fa
 use Rattle.std.specs.Prelude.{take, Option, Some, None}
 use Rattle.tc_command.specs.declared.halt.Halt.{Halt}
 use Rattle.tc_command.specs.declared.halt.Halt.TheVariants as halts
+use Rattle.tc_command.specs.declared.inlet.TheConstants.{KEPT}
 use Rattle.tc_command.specs.declared.input_fault.InputFault.{InputFault}
 use Rattle.tc_command.specs.Meaning.{Meaning, Shows}
 use Rattle.tc_io.specs.Verdict.{Verdict, good, refused, past_limit}
 use Rattle.wave_file.specs.declared.format.WaveFormat.{WaveFormat}
 use Rattle.signal_commands.specs.declared.brought.Brought.{Brought}
-use Rattle.signal_commands.specs.declared.brought.Brought.TheVariants.{Samples, Begin, Halt as Halts}
+use Rattle.signal_commands.specs.declared.brought.Brought.TheVariants.{Samples, Begin, Few, Halt as Halts}
 
 -- what bytes say of a sound: its format, where they tell it, and whether samples may come; the samples within the
 -- limit, and all of them; and whether the bytes are good
@@ -21,7 +22,8 @@ pub record Said : Type 0 where
   pub verdict : Verdict InputFault
 
 -- a container: what is asked of it; what bytes say then, and the fault of their end; how many samples there are at
--- most, and in which formats; for which bytes it stands, and how many it still takes at most
+-- most, and in which formats; for which bytes it stands, which are too few to take any of them, and how many it still
+-- takes at most
 pub record ContainerKind (C A : Type 0) : Type 1 where
   pub asked : C → A
   pub says : A → List ℕ → Said
@@ -29,6 +31,7 @@ pub record ContainerKind (C A : Type 0) : Type 1 where
   pub most : A → ℕ
   pub tells : A → WaveFormat → Type 0
   pub holds : C → List ℕ → Type 0
+  pub short : C → List ℕ → Type 0
   pub left : C → ℕ
 
 -- a listener: what is written of samples before their end and of all of them, by the words and the format that is told;
@@ -92,6 +95,12 @@ abbrev pub From : {C A : Type 0} → ContainerKind C A → C → List ℕ → (S
 From held old more says = (front : List ℕ) → held.holds old front
     → says (held.says (held.asked old) front) (held.says (held.asked old) (front ++ more))
 
+-- none of the bytes were taken: they are too few, and say nothing more yet
+pub record IsFew {C A : Type 0} (held : ContainerKind C A) (container : C) (bytes : List ℕ) : Type 0 where
+  pub few : length bytes < KEPT
+  pub short : held.short container bytes
+  pub none : From held container bytes (λ before now. now ≡ before)
+
 abbrev pub IsBrought : {C A : Type 0} → ContainerKind C A → C → C → List ℕ → List ℤ → Brought → Type 0
 IsBrought held old new bytes room (Samples count samples) =
     Takes held old new bytes count × (samples ≤ 2_048)
@@ -99,6 +108,7 @@ IsBrought held old new bytes room (Samples count samples) =
 IsBrought held old new bytes room (Begin count format) =
     Takes held old new bytes count × held.tells (held.asked old) format
     × From held old (take count bytes) (λ before now. Begins before now format)
+IsBrought held old new bytes room Few = (new ≡ old) × IsFew held old bytes
 IsBrought held old new bytes room (Halts halt) =
     (held.asked new ≡ held.asked old) × From held old bytes (λ before now. Ends before now halt)
 

@@ -14,6 +14,8 @@ pub(crate) enum Brought {
     Samples { bytes: usize, samples: usize },
     /// So many bytes were taken, behind which samples of this format begin.
     Begin { bytes: usize, format: WaveFormat },
+    /// None were taken: they are too few, and come again with more behind them.
+    Few,
     /// The input is refused among them, or its limit is passed.
     Halt(Halt),
 }

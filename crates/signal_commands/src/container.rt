@@ -1,5 +1,6 @@
 //! Bytes on their way into samples: what holds them raw, or a sound file. Read next: `listener`.
-ghost use Rattle.std.specs.Prelude.{◌≡◌, ◌<◌, ℕ, List, length, Some, None, OnOk, IfErr};
+ghost use Rattle.std.specs.Prelude.{◌≡◌, ◌<◌, ℕ, List, ◌++◌, length, Some, None, OnOk, IfErr};
+ghost use Rattle.tc_command.specs.declared.inlet.TheConstants.{KEPT};
 ghost use Rattle.tc_io.specs.Verdict.{good};
 ghost use Rattle.signal_commands.specs.KeptListening.{IsBrought, Said, ContainerKind};
 
@@ -23,6 +24,14 @@ pub(crate) trait Container: Drop {
         requires going { (front : List ℕ) × ContainerKind.holds kind self.old front }
         requires some { 0 < length bytes.now }
         ensures { IsBrought kind self.old self.new bytes.now room.new result };
+
+    /// The fault of an input that ends with these bytes, if they are too few.
+    fn cut_off(&self, bytes: &[u8]) -> Option<InputFault>
+        requires going { (front : List ℕ) × ContainerKind.holds kind self.now front }
+        requires few { length bytes.now < KEPT }
+        ensures { ContainerKind.short kind self.now bytes.now → (front : List ℕ)
+            → ContainerKind.holds kind self.now front → (fault : InputFault) × (result ≡ Some fault)
+            × (ContainerKind.ends kind (ContainerKind.asked kind self.now) (front ++ bytes.now) ≡ Some fault) };
 
     /// The end of the input: the fault if it may not end here.
     fn finish(&self) -> Result<(), InputFault>

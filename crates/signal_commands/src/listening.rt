@@ -104,7 +104,7 @@ impl<C: Container, L: Listener> Engine for Listening<C, L> {
 
     ghost budget = { λ s. ContainerKind.left C.kind s.container };
 
-    ghost is_short = { λ s bytes. ⊥ };
+    ghost is_short = { λ s bytes. ContainerKind.short C.kind s.container bytes };
 
     ghost stands_well = { λ s bytes written stands.
         stands_well C.kind L.kind C.is_good L.hears_well s.container s.listener s.words bytes written stands };
@@ -121,12 +121,13 @@ impl<C: Container, L: Listener> Engine for Listening<C, L> {
                 self.listener = Some(listener);
                 Ok(bytes)
             }
+            Brought::Few => Ok(0),
             Brought::Halt(halt) => Err(halt),
         }
     }
 
-    fn cut_off(&self, _bytes: &[u8]) -> Option<InputFault> {
-        None
+    fn cut_off(&self, bytes: &[u8]) -> Option<InputFault> {
+        self.container.cut_off(bytes)
     }
 
     fn finish<O: Output>(&mut self, out: &mut O) -> Result<(), InputFault> {

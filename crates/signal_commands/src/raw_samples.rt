@@ -1,5 +1,4 @@
-//! Raw samples: two bytes each, the less significant one first. Here alone a pull may end inside a sample. Read
-//! next: `listener`.
+//! Raw samples: two bytes each, the less significant one first. Read next: `listener`.
 ghost use Rattle.std.specs.Prelude.{◌≡◌, ◌≤◌, ◌<◌, ◌+◌, ◌*◌, [], length, take, IfSome, IfNone};
 ghost use Rattle.pcm_front.specs.Samples.{samples_of};
 ghost use Rattle.signal_commands.specs.KeptRaw.{raw_kind};
@@ -14,10 +13,8 @@ use tc_command::{Halt, InputFault};
 /// Raw samples on their way.
 #[derive(Drop)]
 pub(crate) struct RawSamples {
-    /// Whole samples so far.
+    /// How many there were so far.
     samples: u64,
-    /// The first byte of a sample, if a pull ended behind it.
-    half: Option<u8>,
 }
 
 impl RawSamples {
@@ -25,10 +22,7 @@ impl RawSamples {
     pub(crate) fn new() -> RawSamples
         ensures { ContainerKind.holds raw_kind result [] }
     {
-        RawSamples {
-            samples: 0,
-            half: None,
-        }
+        RawSamples { samples: 0 }
     }
 
     /// Reads whole samples at the front of the bytes into the room, as many as fit and may still come, and answers
@@ -36,7 +30,6 @@ impl RawSamples {
     fn read(&mut self, bytes: &[u8], room: &mut Room) -> Option<usize>
         requires within { self.old.samples ≤ MAX_SAMPLES }
         requires some { 2 ≤ length bytes.now }
-        ensures half { self.new.half ≡ self.old.half }
         ensures some { IfSome result (λ count. (1 ≤ count) × (2 * count ≤ length bytes.now)
             × (count ≤ ROOM)) }
         ensures read { IfSome result (λ count. take count room.new ≡ samples_of (take (2 * count) bytes.now)) }
@@ -89,19 +82,8 @@ impl Container for RawSamples {
     ghost is_good = { λ s bytes holds. raw_is_good s bytes holds };
 
     fn take(&mut self, bytes: &[u8], room: &mut Room) -> Brought {
-        if let Some(low) = self.half {
-            let Some(samples) = self.read(&[low, bytes[0]], room) else {
-                return Brought::Halt(Halt::Limit);
-            };
-            self.half = None;
-            return Brought::Samples { bytes: 1, samples };
-        }
         if bytes.len() == 1 {
-            self.half = Some(bytes[0]);
-            return Brought::Samples {
-                bytes: 1,
-                samples: 0,
-            };
+            return Brought::Few;
         }
         match self.read(bytes, room) {
             Some(samples) => Brought::Samples {
@@ -112,10 +94,11 @@ impl Container for RawSamples {
         }
     }
 
+    fn cut_off(&self, _bytes: &[u8]) -> Option<InputFault> {
+        Some(InputFault::HalfSample(2 * self.samples + 1))
+    }
+
     fn finish(&self) -> Result<(), InputFault> {
-        match self.half {
-            Some(_) => Err(InputFault::HalfSample(2 * self.samples + 1)),
-            None => Ok(()),
-        }
+        Ok(())
     }
 }

@@ -1,8 +1,8 @@
 //! A sound file as a container: the samples of one of its tracks. Read next: `wave_file/src/decoder.rt`.
-ghost use Rattle.std.specs.Prelude.{◌≡◌, ◌≤◌, ◌<◌, ℕ, List, [], length};
+ghost use Rattle.std.specs.Prelude.{◌≡◌, ◌≤◌, []};
 ghost use Rattle.wave_file.specs.Format.{IsAsked};
 ghost use Rattle.signal_commands.specs.KeptFile.{file_kind};
-ghost use Rattle.signal_commands.specs.KeptListening.{IsBrought, ContainerKind};
+ghost use Rattle.signal_commands.specs.KeptListening.{ContainerKind};
 
 use crate::brought::{Brought, Room};
 use crate::container::Container;
@@ -28,33 +28,6 @@ impl SoundFile {
         let _told = decoder.format();
         SoundFile { decoder }
     }
-
-    /// Takes a piece of the file at the front of the bytes, or some of it.
-    fn take_piece(&mut self, bytes: &[u8], room: &mut Room) -> Brought
-        requires some { 0 < length bytes.now }
-        requires going { (front : List ℕ) × ContainerKind.holds file_kind self.old front }
-        ensures { IsBrought file_kind self.old self.new bytes.now room.new result }
-    {
-        samples_are_few_and_behind_a_format();
-        let taken = self.decoder.take(bytes);
-        let _told = self.decoder.format();
-        match taken {
-            Taken::Nothing(bytes) => Brought::Samples { bytes, samples: 0 },
-            Taken::Begin { count, format } => Brought::Begin {
-                bytes: count,
-                format,
-            },
-            Taken::Sample { count, sample } => {
-                room[0] = sample;
-                Brought::Samples {
-                    bytes: count,
-                    samples: 1,
-                }
-            }
-            Taken::Fault(fault) => Brought::Halt(Halt::Refused(InputFault::Sound(fault))),
-            Taken::Limit => Brought::Halt(Halt::Limit),
-        }
-    }
 }
 
 impl Container for SoundFile {
@@ -68,15 +41,26 @@ impl Container for SoundFile {
 
     fn take(&mut self, bytes: &[u8], room: &mut Room) -> Brought {
         samples_are_few_and_behind_a_format();
-        let (count, samples) = self.decoder.samples(bytes, room);
+        let taken = self.decoder.take(bytes, room);
         let _told = self.decoder.format();
-        if count == 0 {
-            return self.take_piece(bytes, room);
+        match taken {
+            Taken::Few => Brought::Few,
+            Taken::Nothing(bytes) => Brought::Samples { bytes, samples: 0 },
+            Taken::Begin { count, format } => Brought::Begin {
+                bytes: count,
+                format,
+            },
+            Taken::Samples { count, samples } => Brought::Samples {
+                bytes: count,
+                samples,
+            },
+            Taken::Fault(fault) => Brought::Halt(Halt::Refused(InputFault::Sound(fault))),
+            Taken::Limit => Brought::Halt(Halt::Limit),
         }
-        Brought::Samples {
-            bytes: count,
-            samples,
-        }
+    }
+
+    fn cut_off(&self, bytes: &[u8]) -> Option<InputFault> {
+        Some(InputFault::Sound(self.decoder.cut_off(bytes)))
     }
 
     fn finish(&self) -> Result<(), InputFault> {

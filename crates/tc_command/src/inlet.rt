@@ -10,7 +10,7 @@ use tc_io::{Failed, Source};
 pub const PULLED: usize = 4096;
 
 /// An engine leaves fewer bytes than this.
-pub const KEPT: usize = 64;
+pub const KEPT: usize = 256;
 
 /// The bytes that were pulled and not yet worked on, in order.
 #[derive(Drop)]
@@ -26,7 +26,7 @@ impl Model for Inlet {
 
     ghost view = { λ s. take s.count s.room };
 
-    ghost invariant = { λ s. s.count ≤ 4160 };
+    ghost invariant = { λ s. s.count ≤ 4352 };
 }
 
 impl Inlet {

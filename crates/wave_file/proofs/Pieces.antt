@@ -126,7 +126,6 @@ chunk_passed skip count most after e some within = record {
   within = within;
   format = refl;
   stays = λ asked place is. tt;
-  alone = chunk_alone skip (omega (arith, e, some));
   wait = chunk_wait after;
   passes = λ asked notes place bytes more len.
       chunks_skip asked notes bytes more skip after place (omega (arith, e, len))

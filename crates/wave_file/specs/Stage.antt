@@ -1,5 +1,5 @@
 -- How far a decoder has come, and what the bytes that follow say. No promise but the decoder's clauses speaks of it.
-use Rattle.std.specs.Prelude.{◌≡◌, ⊤, ◌≤◌, ℕ, ◌+◌, ◌-◌, ◌==◌, List, [], ◌++◌, length, Option, Some, None, nat_lt}
+use Rattle.std.specs.Prelude.{◌≡◌, ⊤, ◌≤◌, ℕ, ◌+◌, ◌-◌, ◌*◌, ◌/◌, ◌==◌, List, [], ◌++◌, length, Option, Some, None, nat_lt}
 use Rattle.std.specs.Prelude.{nat_le, min}
 use Rattle.std.specs.Prelude.{if◌then◌else◌}
 use Rattle.wave_file.specs.declared.format.WaveFormat.{WaveFormat}
@@ -52,16 +52,24 @@ width_of (Sizes size) = 16
 width_of (Data format extent room) = format.block
 width_of (Tail format left) = 1
 
--- how many of `count` bytes come up to the end of the piece, of which this many are there; of those that belong to no
--- piece, up to the next one
-abbrev pub up_to_end : Stage → ℕ → ℕ → ℕ
-up_to_end (Chunk skip) part count = min (if skip == 0 then 8 - part else skip) count
-up_to_end (Tail format left) part count = count
-up_to_end stage part count = min (width_of stage - part) count
+-- how many of `count` bytes are data
+abbrev pub data_among : Extent → ℕ → ℕ
+data_among (extent.Announced n) count = min n count
+data_among extent.Open count = count
 
--- a piece is waited for
+-- how many of `count` bytes come up to the end of the piece; of those that belong to no piece, up to the next one; and
+-- of data up to the end of the blocks that are whole, and for whose samples there is room in these places
+abbrev pub up_to_end : Stage → ℕ → ℕ → ℕ
+up_to_end (Chunk skip) places count = if skip == 0 then 8 else min skip count
+up_to_end (Data format extent left) places count =
+    min (min (data_among extent count / format.block) places) left * format.block
+up_to_end (Tail format left) places count = count
+up_to_end stage places count = width_of stage
+
+-- a piece is waited for that is judged
 abbrev pub IsWaiting : Stage → Type 0
 IsWaiting (Chunk skip) = skip ≡ 0
+IsWaiting (Data format extent room) = ⊥
 IsWaiting (Tail format left) = ⊥
 IsWaiting stage = ⊤
 
@@ -101,7 +109,6 @@ pub record IsPassed (old : Stage) (most : ℕ) (count : ℕ) (new : Stage) : Typ
   pub within : count ≤ most
   pub format : format_at_stage new ≡ format_at_stage old
   pub stays : (asked : Asked) (place : ℕ) → IsStage asked place old → IsStage asked (place + count) new
-  pub alone : width_of old ≡ 1
   pub wait : 1 ≤ width_of new
   pub passes : (asked : Asked) (notes : Notes) (place : ℕ) (bytes more : List ℕ) → length bytes ≡ count
       → at asked notes place old (bytes ++ more) ≡ at asked notes (place + count) new more

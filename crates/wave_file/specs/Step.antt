@@ -1,11 +1,14 @@
 -- What a whole piece brings to what the bytes say. No promise speaks of it.
-use Rattle.std.specs.Prelude.{◌≡◌, ◌≤◌, ℕ, ◌+◌, ℤ, List, [], ◌∷◌, ◌++◌, length, None, Some}
+use Rattle.std.specs.Prelude.{◌≡◌, ◌≤◌, ℕ, ◌+◌, ℤ, List, [], ◌++◌, length, None, Some}
 use Rattle.wave_file.specs.declared.chunk.Notes.{Notes}
+use Rattle.wave_file.specs.declared.stage.Ahead.{Ahead}
+use Rattle.wave_file.specs.declared.stage.Ahead.TheVariants.{Passed, Blocks, Piece}
 use Rattle.wave_file.specs.declared.stage.Stage.{Stage}
+use Rattle.wave_file.specs.declared.stage.Stage.TheVariants.{Data}
 use Rattle.wave_file.specs.declared.stage.Step.{Step}
-use Rattle.wave_file.specs.declared.stage.Step.TheVariants.{Next, Begin, Sample, Fault, Limit}
+use Rattle.wave_file.specs.declared.stage.Step.TheVariants.{Next, Begin, Fault}
 use Rattle.wave_file.specs.Chunk.{IsNoted}
-use Rattle.wave_file.specs.Stage.{at, format_at_stage, width_of, IsStage}
+use Rattle.wave_file.specs.Stage.{at, format_at_stage, up_to_end, width_of, IsPassed, IsStage, IsWaiting}
 use Rattle.wave_file.specs.Wave.{Reading, bad}
 use Rattle.tc_io.specs.Verdict.{past_limit}
 use Rattle.wave_file.specs.declared.format.Asked.{Asked}
@@ -36,16 +39,11 @@ IsStep asked notes place stage piece (Next new next) =
 IsStep asked notes place stage piece (Begin format next) =
     Leads asked notes place stage piece [] notes next × (format_at_stage stage ≡ None)
     × (format_at_stage next ≡ Some format)
-IsStep asked notes place stage piece (Sample sample next) =
-    Leads asked notes place stage piece (sample ∷ []) notes next × (format_at_stage next ≡ format_at_stage stage)
 IsStep asked notes place stage piece (Fault f) =
     (format_at_stage stage ≡ None) × ((more : List ℕ) → at asked notes place stage (piece ++ more) ≡ bad f)
-IsStep asked notes place stage piece Limit = (more : List ℕ) → IsPast stage (at asked notes place stage (piece ++ more))
 
--- what is kept behind a step: where the reading ends, what was kept before it
-abbrev pub IsLeft : Step → List ℕ → List ℕ → Type 0
-IsLeft (Fault f) old new = new ≡ old
-IsLeft Limit old new = new ≡ old
-IsLeft (Next notes stage) old new = new ≡ []
-IsLeft (Begin format stage) old new = new ≡ []
-IsLeft (Sample sample stage) old new = new ≡ []
+-- what is ahead in this many bytes: all that are passed over up to the next piece, blocks, or a piece
+abbrev pub IsAhead : Stage → ℕ → Ahead → Type 0
+IsAhead old most (Passed count new) = IsPassed old most count new × ((places : ℕ) → count ≡ up_to_end old places most)
+IsAhead old most (Blocks format extent room) = old ≡ Data format extent room
+IsAhead old most Piece = IsWaiting old

@@ -1,54 +1,51 @@
 //! The decoder of a sound file.
-ghost use Rattle.std.specs.Prelude.{◌≡◌, ◌≤◌, ◌<◌, ◌*◌, ◌^◌, ◌++◌, ◌+◌, ◌/◌, min, ℕ};
-ghost use Rattle.std.specs.Prelude.{ℤ, List, [], length, take, Some, None, OnOk, IfErr, IfSome};
-ghost use Rattle.wave_file.specs.Format.{samples_at, IsAsked, IsTakenFor};
-ghost use Rattle.wave_file.specs.Chunk.{IsNoted};
-ghost use Rattle.wave_file.specs.Stage.{format_at_stage, width_of, HasBytes, IsStage, IsWaiting};
-ghost use Rattle.wave_file.specs.Step.{IsLeft, IsStep};
-ghost use Rattle.wave_file.specs.StandsFor.{bytes_taken, format_in_decoding, may_end_before, no_decoding, AddsBlocks};
-ghost use Rattle.wave_file.specs.StandsFor.{blocks_at, data_among, wanted, AddsTaken, TakesCount};
-ghost use Rattle.wave_file.specs.StandsFor.{IsTold, StandsFor, StopsAt};
-ghost use Rattle.wave_file.specs.Wave.{end_fault_of, reading_of};
+ghost use Rattle.std.specs.Prelude.{◌≡◌, ◌≤◌, ◌<◌, ◌+◌, ◌*◌, ◌++◌, ◌/◌, min, ℕ};
+ghost use Rattle.std.specs.Prelude.{ℤ, List, [], length, Some, None, OnOk, IfErr, IfSome};
 ghost use Rattle.tc_io.specs.Verdict.{good};
+ghost use Rattle.wave_file.specs.declared.chunk.Extent.{Extent};
+ghost use Rattle.wave_file.specs.declared.format.WaveFormat.{WaveFormat};
+ghost use Rattle.wave_file.specs.declared.stage.Stage.TheVariants as stages;
+ghost use Rattle.wave_file.specs.declared.stage.TheConstants.{MAX_PIECE};
+ghost use Rattle.wave_file.specs.Format.{samples_at, IsAsked, IsTakenFor};
+ghost use Rattle.wave_file.specs.Stage.{data_among, format_at_stage, up_to_end, width_of, HasBytes, IsWaiting};
+ghost use Rattle.wave_file.specs.StandsFor.{format_in_decoding, may_end_before, no_decoding, wanted};
+ghost use Rattle.wave_file.specs.StandsFor.{AddsTaken, IsCut, IsTold, StandsFor, StopsAt, TakesCount};
+ghost use Rattle.wave_file.specs.Wave.{end_fault_of, reading_of};
 
 use crate::chunk::{Extent, Notes};
 use crate::fault::WaveFault;
 use crate::format::{Asked, WaveFormat};
 use crate::sample::sample_in;
-use crate::stage::{MAX_BYTES, Stage, Step, behind, data_stage, passed, step_over, width_of};
-use arrayvec::ArrayVec;
+use crate::stage::{
+    Ahead, MAX_BYTES, Stage, Step, behind, data_stage, next_in, step_over, width_of,
+};
 use std::marker::Model;
-use tc_io::put_bytes;
 
-/// The most bytes of a piece: a block of 64 samples of 32 bits.
-pub const PIECE_ROOM: usize = 256;
-
-/// The first bytes of a piece.
-type Part = ArrayVec<u8, PIECE_ROOM>;
-
-/// What bytes complete.
+/// What bytes bring.
 #[derive(Clone, Copy)]
 pub enum Taken {
-    /// The number of bytes taken; no sample ends with them.
+    /// None were taken: the next piece begins with them, and is not whole.
+    Few,
+    /// The number of bytes taken, in which there is no sample.
     Nothing(usize),
     /// The number of bytes taken, behind which the data begin.
     Begin { count: usize, format: WaveFormat },
-    /// The number of bytes taken, and the sample of the track that ends with the last of them.
-    Sample { count: usize, sample: i16 },
+    /// The number of bytes taken, and of the samples of the track in them.
+    Samples { count: usize, samples: usize },
     /// The first fault of the bytes so far.
     Fault(WaveFault),
     /// One sample or one byte too many.
     Limit,
 }
 
-/// Decodes a sound file piece by piece, and keeps less than one piece of it.
+/// Decodes a sound file piece by piece, and keeps no byte of it. A piece that is not whole is given again, with more
+/// bytes behind it.
 #[derive(Drop)]
 pub struct WaveDecoder {
     asked: Asked,
     notes: Notes,
     place: u64,
     stage: Stage,
-    part: Part,
 }
 
 impl Model for WaveDecoder {
@@ -56,9 +53,9 @@ impl Model for WaveDecoder {
 
     ghost Value = { Decoding };
 
-    ghost view = { λ d. decoding_of d.asked d.notes d.place d.stage d.part.items };
+    ghost view = { λ d. decoding_of d.asked d.notes d.place d.stage };
 
-    ghost invariant = { λ d. IsDecoding (decoding_of d.asked d.notes d.place d.stage d.part.items) };
+    ghost invariant = { λ d. IsDecoding (decoding_of d.asked d.notes d.place d.stage) };
 }
 
 impl WaveDecoder {
@@ -79,123 +76,114 @@ impl WaveDecoder {
             },
             place: 0,
             stage: Stage::Riff,
-            part: ArrayVec::new(),
         }
     }
 
-    /// Takes some of the bytes, from the first on: up to the end of a piece, or all. A fault and the limit
-    /// leave the decoder as it was.
-    pub fn take(&mut self, bytes: &[u8]) -> Taken
-        requires { 0 < length bytes.now }
-        ensures takes { AddsTaken self.old self.new bytes.now result }
-        ensures all { TakesCount (wanted self.old bytes.now) result }
+    /// Takes some of the bytes, from the first on: a piece, bytes that are passed over, or whole blocks of data, and
+    /// puts the samples of the track into the room from its front on. A fault and the limit leave the decoder as it
+    /// was.
+    pub fn take(&mut self, bytes: &[u8], room: &mut [i16]) -> Taken
+        requires some { 0 < length bytes.now }
+        requires places { 0 < length room.old }
+        ensures room { length room.new ≡ length room.old }
+        ensures takes { AddsTaken self.old self.new bytes.now room.new result }
+        ensures all { TakesCount (wanted self.old bytes.now room.old) result }
         ensures stops { (front : List ℕ) (samples : List ℤ) → StandsFor self.old front samples
             → StopsAt self.old (front ++ bytes.now) samples result }
     {
-        let room = MAX_BYTES - (self.place + self.part.len() as u64);
-        if room == 0 {
-            return Taken::Limit;
+        let length = within(MAX_BYTES - self.place, bytes.len());
+        if length < width_of(&self.stage) {
+            if length < bytes.len() {
+                return Taken::Limit;
+            }
+            return Taken::Few;
         }
-        let length = within(room, bytes.len());
-        if let Some((count, stage)) = passed(&self.stage, length) {
-            self.stage = stage;
-            self.place += count as u64;
-            return Taken::Nothing(count);
+        match next_in(&self.stage, length) {
+            Ahead::Passed { count, stage } => {
+                self.stage = stage;
+                self.place += count as u64;
+                Taken::Nothing(count)
+            }
+            Ahead::Blocks {
+                format,
+                extent,
+                room: left,
+            } => self.take_blocks(format, extent, left, length, bytes, room),
+            Ahead::Piece => self.take_piece(bytes),
         }
-        let want = width_of(&self.stage) - self.part.len();
-        if length < want {
-            put_bytes(&mut self.part, &bytes[..length]);
-            return Taken::Nothing(length);
-        }
-        self.take_piece(want, bytes)
     }
 
-    /// Takes the rest of the next piece: the first `want` of the bytes.
-    #[inline(always)]
-    fn take_piece(&mut self, want: usize, bytes: &[u8]) -> Taken
-        requires some { 1 ≤ want }
-        requires there { want ≤ length bytes.now }
+    /// Takes the next piece, which is whole.
+    fn take_piece(&mut self, bytes: &[u8]) -> Taken
         requires waiting { IsWaiting self.old.stage }
-        requires whole { length self.old.part + want ≡ width_of self.old.stage }
-        requires within { bytes_taken self.old + want ≤ MAX_BYTES }
-        ensures takes { AddsTaken self.old self.new bytes.now result }
-        ensures all { TakesCount want result }
+        requires whole { width_of self.old.stage ≤ length bytes.now }
+        requires within { self.old.place + width_of self.old.stage ≤ MAX_BYTES }
+        ensures takes { (room : List ℤ) → AddsTaken self.old self.new bytes.now room result }
+        ensures all { TakesCount (width_of self.old.stage) result }
         ensures stops { (front : List ℕ) (samples : List ℤ) → StandsFor self.old front samples
             → StopsAt self.old (front ++ bytes.now) samples result }
     {
-        let width = self.part.len() + want;
+        let count = width_of(&self.stage);
         let (notes, stage) = (self.notes, self.stage);
-        match step_with(
-            self.asked,
-            &notes,
-            &stage,
-            self.place,
-            &mut self.part,
-            &bytes[..want],
-        ) {
+        match step_over(self.asked, &notes, &stage, self.place, &bytes[..count]) {
             Step::Next { notes, stage } => {
                 self.notes = notes;
                 self.stage = stage;
-                self.place += width as u64;
-                Taken::Nothing(want)
+                self.place += count as u64;
+                Taken::Nothing(count)
             }
             Step::Begin { format, stage } => {
                 self.stage = stage;
-                self.place += width as u64;
-                Taken::Begin {
-                    count: want,
-                    format,
-                }
-            }
-            Step::Sample { sample, stage } => {
-                self.stage = stage;
-                self.place += width as u64;
-                Taken::Sample {
-                    count: want,
-                    sample,
-                }
+                self.place += count as u64;
+                Taken::Begin { count, format }
             }
             Step::Fault(fault) => Taken::Fault(fault),
-            Step::Limit => Taken::Limit,
         }
     }
 
-    /// Takes whole blocks at the front of the bytes, if the next bytes are blocks of data, and puts
-    /// their samples into the room from its front on. Answers how many bytes and how many samples these
-    /// are: none if a block is cut, if data have not begun or have ended, or at a limit.
-    pub fn samples(&mut self, bytes: &[u8], room: &mut [i16]) -> (usize, usize)
-        ensures bytes { result.0 ≤ length bytes.now }
-        ensures whole { result.0 ≡ result.1 * width_of self.old.stage }
-        ensures samples { result.1 ≤ length room.new }
+    /// Takes whole blocks at the front of `most` bytes, of which there is one at least: as many as there are, for whose
+    /// samples there is room.
+    fn take_blocks(
+        &mut self,
+        format: WaveFormat,
+        extent: Extent,
+        left: u64,
+        most: usize,
+        bytes: &[u8],
+        room: &mut [i16],
+    ) -> Taken
+        requires data { self.old.stage ≡ stages.Data format extent left }
+        requires some { 1 ≤ format.block }
+        requires whole { format.block ≤ most }
+        requires there { most ≤ length bytes.now }
+        requires within { self.old.place + most ≤ MAX_BYTES }
+        requires places { 0 < length room.old }
         ensures room { length room.new ≡ length room.old }
-        ensures adds { AddsBlocks self.old self.new bytes.now result.0 (take result.1 room.new) }
-        ensures all { result.1 ≡ blocks_at self.old.place self.old.stage (length self.old.part)
-            (length bytes.now) (length room.old) }
+        ensures takes { AddsTaken self.old self.new bytes.now room.new result }
+        ensures all { TakesCount (up_to_end self.old.stage (length room.old) most) result }
+        ensures stops { (front : List ℕ) (samples : List ℤ) → StandsFor self.old front samples
+            → StopsAt self.old (front ++ bytes.now) samples result }
     {
-        let Stage::Data {
-            format,
-            extent,
-            room: left,
-        } = self.stage
-        else {
-            return (0, 0);
-        };
-        if !self.part.is_empty() {
-            return (0, 0);
+        let asked = self.asked;
+        if left == 0 {
+            return Taken::Limit;
         }
         let block = usize::from(format.block);
-        let inside = bytes_inside(extent, MAX_BYTES - self.place, bytes.len());
-        let count = whole_blocks(inside, block, room.len(), left);
-        read_blocks(
-            &format,
-            self.asked,
-            &bytes[..count * block],
-            &mut room[..count],
-        );
-        let length = count * block;
-        self.stage = data_stage(format, behind(extent, length as u64), left - count as u64);
-        self.place += length as u64;
-        (length, count)
+        let samples = whole_blocks(inside(extent, most), block, room.len(), left);
+        let count = samples * block;
+        read_blocks(&format, asked, &bytes[..count], &mut room[..samples]);
+        self.stage = data_stage(format, behind(extent, count as u64), left - samples as u64);
+        self.place += count as u64;
+        Taken::Samples { count, samples }
+    }
+
+    /// The fault of an input that ends with these bytes, if the next piece begins with them and is not whole.
+    pub fn cut_off(&self, bytes: &[u8]) -> WaveFault
+        requires few { length bytes.now < MAX_PIECE }
+        ensures { IsCut self.now bytes.now → (front : List ℕ) (samples : List ℤ) → StandsFor self.now front samples
+            → end_fault_of self.now.asked (front ++ bytes.now) ≡ Some result }
+    {
+        WaveFault::Truncated(self.place + bytes.len() as u64)
     }
 
     /// The format, if the data have begun. What was taken is good, and the samples that were given are
@@ -203,7 +191,7 @@ impl WaveDecoder {
     pub fn format(&self) -> Option<WaveFormat>
         ensures value { result ≡ format_in_decoding self.now }
         ensures taken { IfSome result (λ format. IsTakenFor self.now.asked format) }
-        ensures within { bytes_taken self.now ≤ MAX_BYTES }
+        ensures within { self.now.place ≤ MAX_BYTES }
         ensures told { (bytes : List ℕ) (samples : List ℤ) → StandsFor self.now bytes samples
             → IsTold (reading_of self.now.asked bytes) result samples good }
     {
@@ -217,41 +205,12 @@ impl WaveDecoder {
         ensures err { IfErr result (λ fault. (bytes : List ℕ) (samples : List ℤ) → StandsFor self.now bytes samples
             → end_fault_of self.now.asked bytes ≡ Some fault) }
     {
-        if self.part.is_empty() && may_end(&self.stage) {
+        if may_end(&self.stage) {
             Ok(())
         } else {
-            Err(WaveFault::Truncated(self.place + self.part.len() as u64))
+            Err(WaveFault::Truncated(self.place))
         }
     }
-}
-
-/// What a piece brings, the first bytes of which were kept. If the reading ends, they are kept on.
-fn step_with(
-    asked: Asked,
-    notes: &Notes,
-    stage: &Stage,
-    place: u64,
-    part: &mut Part,
-    bytes: &[u8],
-) -> Step
-    requires asked { IsAsked asked }
-    requires notes { IsNoted asked notes.now }
-    requires stage { IsStage asked place stage.now }
-    requires waiting { IsWaiting stage.now }
-    requires place { place < 2 ^ 62 }
-    requires piece { length part.old.items + length bytes.now ≡ width_of stage.now }
-    requires room { width_of stage.now ≤ PIECE_ROOM }
-    ensures step { IsStep asked notes.now place stage.now (part.old.items ++ bytes.now) result }
-    ensures left { IsLeft result part.old.items part.new.items }
-{
-    let before = part.len();
-    put_bytes(part, bytes);
-    let step = step_over(asked, notes, stage, place, part);
-    match step {
-        Step::Fault(_) | Step::Limit => part.truncate(before),
-        _ => part.clear(),
-    }
-    step
 }
 
 /// The format, if the data have begun.
@@ -281,12 +240,7 @@ fn may_end(stage: &Stage) -> bool
 
 /// `length` bytes, but no more than there is room for.
 fn within(room: u64, length: usize) -> usize
-    requires room { 1 ≤ room }
-    requires length { 1 ≤ length }
-    ensures some { 1 ≤ result }
-    ensures room { result ≤ room }
-    ensures length { result ≤ length }
-    ensures all { result ≡ min length room }
+    ensures { result ≡ min length room }
 {
     if room < length as u64 {
         room as usize
@@ -295,21 +249,15 @@ fn within(room: u64, length: usize) -> usize
     }
 }
 
-/// How many of `length` bytes are data and within the limit.
-fn bytes_inside(extent: Extent, room: u64, length: usize) -> usize
+/// How many of `length` bytes are data.
+fn inside(extent: Extent, length: usize) -> usize
     ensures length { result ≤ length }
-    ensures room { result ≤ room }
     ensures inside { HasBytes result extent }
-    ensures all { result ≡ data_among extent (min length room) }
+    ensures all { result ≡ data_among extent length }
 {
-    let within = if room < length as u64 {
-        room as usize
-    } else {
-        length
-    };
     match extent {
-        Extent::Announced(left) if left < within as u64 => left as usize,
-        _ => within,
+        Extent::Announced(left) if left < length as u64 => left as usize,
+        _ => length,
     }
 }
 

@@ -8,7 +8,7 @@ ghost use Rattle.wave_file.specs.declared.format.Asked.{Asked};
 ghost use Rattle.wave_file.specs.declared.format.WaveFormat.{WaveFormat};
 ghost use Rattle.wave_file.specs.declared.format.TheConstants.{MAX_RATE};
 ghost use Rattle.wave_file.specs.declared.names.TheConstants as names;
-ghost use Rattle.wave_file.specs.declared.stage.TheConstants.{MAX_BYTES, MAX_SAMPLES};
+ghost use Rattle.wave_file.specs.declared.stage.TheConstants.{MAX_BYTES, MAX_PIECE, MAX_SAMPLES};
 ghost use Rattle.wave_file.specs.Chunk.{is_open, is_open_size, no_notes};
 ghost use Rattle.wave_file.specs.GoesOn.{GoesOn, IsWithin};
 ghost use Rattle.wave_file.specs.Grammar.{IsMadeOf, Sample, read_whole, track_of};
@@ -16,10 +16,11 @@ ghost use Rattle.wave_file.specs.StandsFor.{Decoding, StandsFor, IsDecoding, IsT
 ghost use Rattle.wave_file.specs.Wave.{reading_of};
 ghost use Rattle.tc_io.specs.Verdict.{good};
 
-/// 2 to the 40th samples, and 2 to the 62nd bytes; 6,250,000 samples a second.
+/// 2 to the 40th samples, and 2 to the 62nd bytes, 256 of them a piece; 6,250,000 samples a second.
 pub fn the_limits_are_these()
     ensures samples { MAX_SAMPLES ≡ 2 ^ 40 }
     ensures bytes { MAX_BYTES ≡ 2 ^ 62 }
+    ensures piece { MAX_PIECE ≡ 256 }
     ensures rate { MAX_RATE ≡ 6250000 }
 {}
 

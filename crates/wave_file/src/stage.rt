@@ -1,9 +1,9 @@
 //! How far a decoder has come, and what a whole piece brings. Read next: `chunk`.
-ghost use Rattle.std.specs.Prelude.{◌≡◌, ℕ, ◌≤◌, ◌<◌, ◌^◌, length, drop, None, IfSome};
-ghost use Rattle.wave_file.specs.Format.{IsAsked, IsTakenFor};
-ghost use Rattle.wave_file.specs.Stage.{data_stage, extent_behind, up_to_end, width_of, HasBlock};
-ghost use Rattle.wave_file.specs.Stage.{HasBytes, IsPassed, IsStage, IsWaiting};
-ghost use Rattle.wave_file.specs.Step.{IsStep};
+ghost use Rattle.std.specs.Prelude.{◌≡◌, ℕ, ◌≤◌, ◌<◌, ◌^◌, length, drop};
+ghost use Rattle.wave_file.specs.Format.{IsAsked};
+ghost use Rattle.wave_file.specs.Stage.{data_stage, extent_behind, width_of};
+ghost use Rattle.wave_file.specs.Stage.{HasBytes, IsStage, IsWaiting};
+ghost use Rattle.wave_file.specs.Step.{IsAhead, IsStep};
 ghost use Rattle.wave_file.specs.declared.stage.Stage.TheVariants as stages;
 ghost use Rattle.byteorder.specs.Endian.{little_number};
 ghost use Rattle.wave_file.specs.Wave.{judged_width, padded};
@@ -14,11 +14,13 @@ ghost use Rattle.wave_file.specs.declared.format.Asked.{Asked};
 use crate::chunk::{Chunk, Extent, Notes, SIZES_LENGTH, WAVE, chunk_of, form_of};
 use crate::fault::WaveFault;
 use crate::format::{Asked, FORMAT_LENGTH, WaveFormat, format_in};
-use crate::sample::sample_in;
 use byteorder::{BigEndian, ByteOrder, LittleEndian};
 
 /// How many bytes are read, at most: more than any store holds.
 pub const MAX_BYTES: u64 = 4_611_686_018_427_387_904;
+
+/// How many bytes a piece has, at most: a block of 64 samples of 32 bits.
+pub const MAX_PIECE: usize = 256;
 
 /// How many samples of the track may be asked for, at most: 265 days at 48,000 samples a second.
 pub const MAX_SAMPLES: u64 = 1_099_511_627_776;
@@ -64,12 +66,26 @@ pub(crate) enum Step {
     Next { notes: Notes, stage: Stage },
     /// The data.
     Begin { format: WaveFormat, stage: Stage },
-    /// A sample.
-    Sample { sample: i16, stage: Stage },
     /// The first fault.
     Fault(WaveFault),
-    /// One sample too many.
-    Limit,
+}
+
+/// What is ahead at a stage.
+#[derive(Clone, Copy)]
+pub(crate) enum Ahead {
+    /// Bytes that are passed over: so many, and what the bytes behind them are.
+    Passed {
+        count: usize,
+        stage: Stage,
+    },
+    /// Blocks of data.
+    Blocks {
+        format: WaveFormat,
+        extent: Extent,
+        room: u64,
+    },
+    /// A piece that is judged when it is whole.
+    Piece,
 }
 
 /// How many bytes the next piece has. A byte that is passed over is a piece by itself.
@@ -117,35 +133,44 @@ pub(crate) fn data_stage(format: WaveFormat, extent: Extent, room: u64) -> Stage
     }
 }
 
-/// How many of `length` bytes are passed over, and what the bytes behind them are; or none, if the decoder
-/// waits for a piece.
-pub(crate) fn passed(stage: &Stage, length: usize) -> Option<(usize, Stage)>
+/// What is ahead at a stage in `length` bytes.
+pub(crate) fn next_in(stage: &Stage, length: usize) -> Ahead
     requires { 1 ≤ length }
-    ensures passed { IfSome result (λ passed. IsPassed stage.now length passed.0 passed.1) }
-    ensures all { IfSome result (λ passed. passed.0 ≡ up_to_end stage.now 0 length) }
-    ensures waiting { result ≡ None → IsWaiting stage.now }
+    ensures { IsAhead stage.now length result }
 {
     match *stage {
         Stage::Chunk { skip } if skip != 0 => {
             if skip <= length as u64 {
-                Some((skip as usize, Stage::Chunk { skip: 0 }))
+                Ahead::Passed {
+                    count: skip as usize,
+                    stage: Stage::Chunk { skip: 0 },
+                }
             } else {
-                Some((
-                    length,
-                    Stage::Chunk {
+                Ahead::Passed {
+                    count: length,
+                    stage: Stage::Chunk {
                         skip: skip - length as u64,
                     },
-                ))
+                }
             }
         }
-        Stage::Tail { format, left } => Some((
-            length,
-            Stage::Tail {
+        Stage::Data {
+            format,
+            extent,
+            room,
+        } => Ahead::Blocks {
+            format,
+            extent,
+            room,
+        },
+        Stage::Tail { format, left } => Ahead::Passed {
+            count: length,
+            stage: Stage::Tail {
                 format,
                 left: left.saturating_sub(length as u64),
             },
-        )),
-        _ => None,
+        },
+        _ => Ahead::Piece,
     }
 }
 
@@ -171,12 +196,7 @@ pub(crate) fn step_over(
         Stage::Chunk { .. } => behind_head(asked, notes, place, piece),
         Stage::Format { size } => behind_format(asked, notes, place, size, piece),
         Stage::Sizes { size } => behind_sizes(notes, size, piece),
-        Stage::Data {
-            format,
-            extent,
-            room,
-        } => behind_block(asked, &format, extent, room, piece),
-        Stage::Tail { .. } => Step::Limit,
+        Stage::Data { .. } | Stage::Tail { .. } => unreachable!(),
     }
 }
 
@@ -278,24 +298,6 @@ fn behind_sizes(notes: &Notes, size: u32, piece: &[u8]) -> Step
         stage: Stage::Chunk {
             skip: padded(size) - 16,
         },
-    }
-}
-
-/// What a block brings.
-fn behind_block(asked: Asked, format: &WaveFormat, extent: Extent, room: u64, block: &[u8]) -> Step
-    requires taken { IsTakenFor asked format.now }
-    requires extent { HasBlock format.now extent }
-    requires room { room ≤ MAX_SAMPLES }
-    requires block { length block.now ≡ format.now.block }
-    ensures { (notes : Notes) (place : ℕ)
-        → IsStep asked notes place (stages.Data format.now extent room) block.now result }
-{
-    if room == 0 {
-        return Step::Limit;
-    }
-    Step::Sample {
-        sample: sample_in(format, asked, block),
-        stage: data_stage(*format, behind(extent, u64::from(format.block)), room - 1),
     }
 }
 

@@ -25,4 +25,4 @@ invariant-pulls g l = record {
 
 -- with each turn something is worked on, or more is kept
 abbrev pub decreases-pulls : goal.decreases-pulls
-decreases-pulls g l = 64 * g.E.Engine.budget l.engine + 63 - length l.inlet
+decreases-pulls g l = 256 * g.E.Engine.budget l.engine + 255 - length l.inlet

@@ -13,6 +13,3 @@ returns-in-Wave c =
 
 pub returns-in-Sizes : goal.returns-in-Sizes
 returns-in-Sizes c = rw c.in-Sizes.is (c.behind_sizes.ensures c.args.asked c.args.place)
-
-pub returns-in-Data : goal.returns-in-Data
-returns-in-Data c = rw c.in-Data.is (c.behind_block.ensures c.args.notes.now c.args.place)

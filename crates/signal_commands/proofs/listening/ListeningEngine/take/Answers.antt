@@ -1,6 +1,6 @@
-use Rattle.std.proofs.Common.{[], ◌++◌, ap, take}
+use Rattle.std.proofs.Common.{[], ◌++◌, inr, ap, append-nil, arith, take}
 use Rattle.signal_commands.specs.KeptListening.{so_far_is}
-use Rattle.signal_commands.proofs.ListeningOn.{halts_as}
+use Rattle.signal_commands.proofs.ListeningOn.{halts_as, waits_as}
 use Rattle.signal_commands.proofs.listening.ListeningEngine.take.Goals as goal
 
 -- the samples were heard
@@ -20,6 +20,26 @@ returns-in-Samples-clause-going g c =
       written = going.written ++ w.0;
       stands = w.2;
     }
+
+-- the bytes are too few
+pub returns-in-Few-clause-waits : goal.returns-in-Few-clause-waits
+returns-in-Few-clause-waits g c =
+    let few = c.in-Few.ensures in
+    let s = c.args.self.now in
+    inr (
+      omega (arith, ap (λ container. g.C.Container.kind.left container) few.0),
+      rw few.0 few.1.short,
+      rw few.0
+          (waits_as g.C.Container.kind g.L.Listener.kind g.C.Container.is_good g.L.Listener.hears_well s.container s.listener
+          s.words c.args.bytes.now few.1),
+    )
+
+pub returns-in-Few-clause-works : goal.returns-in-Few-clause-works
+returns-in-Few-clause-works g c = λ front written stands. (
+  [],
+  g.O.Output.given_none c.args.out.now,
+  rw (c.in-Few.ensures.0, append-nil front, append-nil written) stands,
+)
 
 -- the reading ended
 pub returns-in-Halt-clause-choice : goal.returns-in-Halt-clause-choice

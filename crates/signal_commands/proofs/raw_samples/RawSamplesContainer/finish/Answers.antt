@@ -2,5 +2,5 @@ use Rattle.signal_commands.proofs.RawOn.{even_end}
 use Rattle.signal_commands.proofs.raw_samples.RawSamplesContainer.finish.Goals as goal
 
 -- it ends behind a sample
-pub returns-in-None-clause-ends : goal.returns-in-None-clause-ends
-returns-in-None-clause-ends c = λ bytes holds. even_end c.args.self.now bytes holds c.in-None.is
+pub returns-clause-ends : goal.returns-clause-ends
+returns-clause-ends c = λ bytes holds. even_end c.args.self.now bytes holds

@@ -1,6 +1,6 @@
-use Rattle.std.proofs.Common.{arith, subst, sym}
+use Rattle.std.proofs.Common.{subst, sym}
 use Rattle.wave_file.specs.StandsFor.{Decoding, StandsFor}
-use Rattle.wave_file.proofs.Decoding.{front_length, stage_taken, told_taken, within_file}
+use Rattle.wave_file.proofs.Decoding.{stage_taken, told_taken}
 use Rattle.wave_file.proofs.decoder.WaveDecoder.format.Goals as goal
 
 -- the format of data that have begun is taken
@@ -14,8 +14,6 @@ pub returns-clause-told : goal.returns-clause-told
 returns-clause-told c = λ bytes samples stands.
     let d = c.self.inside in
     let s = subst (λ (x : Decoding). StandsFor x bytes samples) (sym c.self.view_is) stands in
-    let size = front_length d.asked d.notes d.place d.stage d.part.items bytes samples s in
-    let within = c.self.invariant.within in
-    rw (← c.self.view_is, c.format_at.ensures, within_file d.asked bytes (omega (arith, size, within)))
-    (told_taken d.asked d.notes d.place d.stage d.part.items bytes samples c.self.invariant.stage c.self.invariant.part
-    s)
+    rw (← c.self.view_is, c.format_at.ensures)
+    (told_taken d.asked d.notes d.place d.stage bytes samples c.self.invariant.stage c.self.invariant.wait
+    c.self.invariant.within s)
