@@ -18,11 +18,11 @@ use Rattle.cell_path.proofs.Followed.{none_behind, old_enough, too_near}
 use Rattle.cell_path.proofs.LengthsOfCells.{length_bounds}
 
 -- what a test that fails says
-not_below : (a b : ℕ) → ltb a b ≡ false → b ≤ a
+pub not_below : (a b : ℕ) → ltb a b ≡ false → b ≤ a
 not_below a b fails = grind (arith, nat_tests)
 
 -- a cell is decided or not, in front of the others
-decided_front : (delay count done end : ℕ) (cell : Cell) (rest : List Cell) (b : Bool)
+pub decided_front : (delay count done end : ℕ) (cell : Cell) (rest : List Cell) (b : Bool)
     → is_decided delay count done (record { end = end; cell = cell }) ≡ b
     → filter (is_decided delay count done) (placed end (cell ∷ rest))
     ≡ cond b (record { end = end; cell = cell }

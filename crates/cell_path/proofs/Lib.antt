@@ -3,6 +3,7 @@ pub mod BestEnd
 pub mod BestExists
 pub mod BestOfAll
 pub mod CellsCover
+pub mod CellsNear
 pub mod CostsOfCells
 pub mod DecidesNext
 pub mod EndOfSteps

@@ -1,6 +1,7 @@
 //! What follows from the definitions alone.
 ghost use Rattle.std.specs.Prelude.{◌≡◌, ℕ, ◌+◌, ◌-◌, ◌*◌, ◌^◌, ◌<◌, ◌≤◌, List, [], ◌∷◌, ◌++◌, pos, drop, length};
 ghost use Rattle.std.specs.Prelude.{ℤ, ◌+ℤ◌, ◌≤ℤ◌, reverse};
+ghost use Rattle.std.specs.List.{AllByRecursion};
 ghost use Rattle.cell_path.specs.declared.cell.Bit.{Bit};
 ghost use Rattle.cell_path.specs.declared.cell.Cell.{Cell};
 ghost use Rattle.cell_path.specs.declared.cell.Sign.{Sign};
@@ -16,7 +17,7 @@ ghost use Rattle.cell_path.specs.Decided.{end_behind, in_time, joined, latest_of
 ghost use Rattle.cell_path.specs.Lengths.{length_in, spelled};
 ghost use Rattle.cell_path.specs.Number.{IsBeginning, IsEnd};
 ghost use Rattle.cell_path.specs.Scores.{AreSteps};
-ghost use Rattle.cell_path.specs.Spaced.{AreApart};
+ghost use Rattle.cell_path.specs.Spaced.{AreApart, AreNear, IsInList};
 ghost use Rattle.cell_path.specs.Unfinished.{lack};
 
 /// The lengths: from 4 to 24 each, from 26 to 48 each second, from 52 to 96 each fourth.
@@ -100,6 +101,14 @@ pub fn one_list_is_decided_in_all()
 pub fn the_cells_cover_the_sound()
     ensures { (steps : List Step) (all : List Placed) → AreDecidedInAll steps all
         → AreApart all × (end_behind 0 all ≤ length steps) × (length steps ≤ end_behind 0 all + 24) }
+{}
+
+/// And they lie near one another: each ends at most 120 steps behind the one before it, the longest cell and a quarter
+/// of it, and has a length of the list, from 4 to 96 steps.
+pub fn the_cells_of_a_sound_lie_near_one_another()
+    ensures near { (steps : List Step) (all : List Placed) → AreDecidedInAll steps all → AreNear all }
+    ensures lengths { (steps : List Step) (all : List Placed) → AreDecidedInAll steps all
+        → AllByRecursion IsInList all }
 {}
 
 /// The cells that are decided so far end apart, too, and none behind the sound.

@@ -47,4 +47,5 @@ pub mod WindowsGrow
 pub mod WordsEnd
 pub mod WordsAreRead
 pub mod WrittenOver
+mod NextExamples
 mod RoughAlone

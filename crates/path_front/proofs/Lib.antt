@@ -13,6 +13,7 @@ pub mod LatestSizes
 pub mod LatestSound
 pub mod Means
 pub mod SaidIntervals
+pub mod SaidSound
 pub mod SoFar
 mod SoundExamples
 pub mod StepsNext

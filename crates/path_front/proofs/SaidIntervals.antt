@@ -32,11 +32,15 @@ intervals_said One breaks whole half least most some =
     (omega (arith, most)) (one_said second (omega (arith, least, some), omega (arith, most)))
 
 -- at most 120 steps of 65,536 ticks
-pub tiles_said : (ticks : ℕ) (judged : Judged) → 2 ≤ ticks → ticks ≤ 65_536 → IsMeasured judged.cell
-    → All IsSaid (tiles_of ticks judged)
-tiles_said ticks judged least most is =
-    let short = mul-le-mul is.least_span least in
-    let long = mul-le-mul is.most_span most in
-    let cell = mul-le-mul is.least least in
+pub span_said : (ticks : ℕ) (judged : Judged) → 2 ≤ ticks → ticks ≤ 65_536 → 2 ≤ judged.cell.span
+    → judged.cell.span ≤ 120 → 4 ≤ judged.cell.length → All IsSaid (tiles_of ticks judged)
+span_said ticks judged least most least_span most_span least_length =
+    let short = mul-le-mul least_span least in
+    let long = mul-le-mul most_span most in
+    let cell = mul-le-mul least_length least in
     intervals_said judged.cell.bit judged.breaks (judged.cell.span * ticks) (div_ceil (judged.cell.length * ticks) 2)
     (omega (arith, short)) (omega (arith, long)) (omega (arith, cell))
+
+pub tiles_said : (ticks : ℕ) (judged : Judged) → 2 ≤ ticks → ticks ≤ 65_536 → IsMeasured judged.cell
+    → All IsSaid (tiles_of ticks judged)
+tiles_said ticks judged least most is = span_said ticks judged least most is.least_span is.most_span is.least

@@ -1,6 +1,7 @@
 //! What follows from the definitions alone.
 ghost use Rattle.std.specs.Prelude.{◌≡◌, ℕ, ◌+◌, ◌*◌, ◌≤◌, ℤ, List, ◌++◌, length, take};
 ghost use Rattle.std.specs.List.{sum, All};
+ghost use Rattle.limits.specs.declared.recording.TheConstants.{MAX_INTERVAL};
 ghost use Rattle.path_front.specs.declared.clip.TheConstants.{CLIP};
 ghost use Rattle.path_front.specs.declared.gate.TheConstants.{NEIGHBOURS};
 ghost use Rattle.path_front.specs.declared.gate.Ear.{Ear};
@@ -20,7 +21,8 @@ ghost use Rattle.path_front.specs.Tiles.{tiles_of, IsSaid};
 
 use cell_path::laws::{
     cells_are_decided_of_each_sound, one_list_is_decided, one_list_is_decided_in_all,
-    the_cells_cover_the_sound, the_cells_decided_so_far_lie_in_the_sound, what_is_decided_stays,
+    the_cells_cover_the_sound, the_cells_decided_so_far_lie_in_the_sound,
+    the_cells_of_a_sound_lie_near_one_another, what_is_decided_stays,
 };
 
 /// Of how many sounds a mean size is, at what size samples are clipped, how many steps are kept, and at how
@@ -43,6 +45,17 @@ pub fn each_interval_of_a_cell_can_be_said()
     ensures { (ticks : ℕ) (judged : Judged) → 2 ≤ ticks → ticks ≤ MAX_TICKS → IsMeasured judged.cell
         → All IsSaid (tiles_of ticks judged) }
 {}
+
+/// So is each interval of a sound: it lasts from 1 to 16,777,215 ticks.
+pub fn each_interval_of_a_sound_can_be_said()
+    ensures said { (grid : Grid) (ticks least : ℕ) (samples : List ℤ) (intervals : List ℕ) → 2 ≤ ticks
+        → ticks ≤ 65_536 → AreIntervals grid ticks least samples intervals
+        → All (λ interval. (1 ≤ interval) × (interval ≤ 16_777_215)) intervals }
+    ensures most { MAX_INTERVAL ≡ 16_777_215 }
+{
+    the_cells_cover_the_sound();
+    the_cells_of_a_sound_lie_near_one_another();
+}
 
 /// The gate hears no further than eight cells on either side, so nothing but what lies beside a cell decides
 /// whether the stretch breaks in front of it: no silence, and no noise, that is further away.

@@ -27,4 +27,5 @@ mod SquareWave
 mod SteadyPath
 mod Stretched
 mod TapeIntervals
+mod TapeOfBits
 mod TapeScore

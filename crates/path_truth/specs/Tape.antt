@@ -1,7 +1,9 @@
 -- A steady tape: cells of one length, one behind the other. Lists of cells begin with the latest.
 use Rattle.std.specs.Prelude.{◌≡◌, ℕ, ◌<◌, ◌⊎◌, List, [], ◌∷◌, length}
+use Rattle.cell_path.specs.declared.cell.Bit.{Bit}
 use Rattle.cell_path.specs.declared.cell.Bit.TheVariants.{Zero}
 use Rattle.cell_path.specs.declared.cell.Cell.{Cell}
+use Rattle.cell_path.specs.declared.cell.Sign.{Sign}
 use Rattle.cell_path.specs.declared.cell.Way.{Way}
 use Rattle.cell_path.specs.declared.cell.Way.TheVariants.{Same, Jump}
 use Rattle.cell_path.specs.declared.lengths.TheConstants.{LENGTHS}
@@ -34,3 +36,10 @@ pub record IsSteady (place : ℕ) (tape : List Cell) : Type 0 where
   pub in_list : place < length LENGTHS
   pub cells : GoOn place tape
   pub zero : HasAZero tape
+
+-- the tape that has these bits, the latest first, in cells of the length in this place, and ends on this side
+unfoldable pub tape_of : ℕ → Sign → List Bit → List Cell
+tape_of place sign [] = []
+tape_of place sign (bit ∷ before) =
+    let rest = tape_of place (sign_before bit sign) before in
+    record { place = place; bit = bit; sign = sign; way = steady_way rest } ∷ rest

@@ -30,8 +30,9 @@
 //!   (`specs/Lost.antt`).
 //! - So it is from the samples on, if each of them is one step or more (`specs/Sound.antt`,
 //!   `IsSoundOf`; `sound_laws`): noise of up to 11/17 of the level of a square wave leaves its best
-//!   path, and noise of up to 7/17 its intervals (`specs/Wave.antt`, `specs/Intervals.antt`). The
-//!   front cuts one tick off the first of them.
+//!   path, and noise of up to 7/17 its intervals (`specs/Wave.antt`, `specs/Intervals.antt`), if the level
+//!   less the noise is the least threshold or more. The front cuts one tick off the first of them. Two laws
+//!   say it in numbers, of any bits with a zero among them.
 //!
 //! Read `specs/Tape.antt`, `Sides`, `Early`, `SoFar`, `Worked` and `Lost`, in this order, and `laws` beside
 //! them; then `specs/Sound.antt`, `Wave` and `Intervals`, and `sound_laws`. The tape begins and

@@ -17,6 +17,7 @@ mod PathLasts
 mod PathOn
 mod PutMore
 mod RawOn
+mod ReadPath
 mod SamplesWithin
 mod SentIsRead
 mod SlicedOn

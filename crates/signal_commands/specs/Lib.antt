@@ -8,6 +8,7 @@ pub mod KeptRaw
 pub mod KeptSliced
 pub mod LumaVitc
 pub mod MtcRead
+pub mod PathFile
 pub mod PcmLtc
 pub mod PcmPath
 pub mod VitcRead

@@ -13,6 +13,7 @@
 //! - What was sent is what `mtc-read` reads (`ReadsWhatWasSent`). A line of `vitc-read` says whose lines the
 //!   lines of its field are (`ReadsTheFields`). The intervals of `pcm-ltc` and `wav-ltc` give the crossings of
 //!   all samples (`SlicesTheSound`, `SlicesTheTrack`).
+//! - What is written of a best path is a file that is read (`specs/PathFile.antt`, `path_laws`).
 //! - Each is a command as any other (`laws`): what it writes comes first, there is one output of an input,
 //!   and what bytes show stays.
 //!
@@ -31,6 +32,7 @@ mod listening;
 mod luma_lines;
 mod luma_vitc;
 mod mtc_read;
+pub mod path_laws;
 mod path_sound;
 mod pcm_ltc;
 mod pcm_path;

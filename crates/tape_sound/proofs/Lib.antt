@@ -12,6 +12,7 @@ pub mod FoundIsAChain
 pub mod FoundLength
 pub mod FoundPiece
 pub mod Hundredth
+pub mod InNumbers
 pub mod KeepsTheKinds
 pub mod KeepsTheLast
 pub mod KeepsTheSum

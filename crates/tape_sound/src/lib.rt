@@ -24,11 +24,13 @@
 //!   ones (`FindThePartBehindOnes`). If the sound ends while it goes over for the last time, at most
 //!   that crossing is missing (`HasMarginToItsEnd`).
 //! - Sound that is made of a steady tape has a margin (`specs/Made.antt`).
+//! - Each of these premises follows from numbers alone (`number_laws`).
 //!
 //! Read `specs/Late.antt`, `Margin`, `Ramps`, `Heard`, `OnTime`, `EvenTape`, `Part` and `Made`, in this
-//! order, and `laws` and `rough_laws` beside them. Nothing here runs, and no law
+//! order, and `laws`, `rough_laws` and `number_laws` beside them. Nothing here runs, and no law
 //! says how much noise a recording has.
 #![tactic(auto)]
 
 pub mod laws;
+pub mod number_laws;
 pub mod rough_laws;
