@@ -50,7 +50,9 @@ pub fn case(seed: u64, number: u64) -> Case {
         "mtc-read" => midi(d),
         "vitc-read" => line_file(d),
         "chase" => script(&words[1], d),
-        "labels" if words.iter().any(|word| word == "column" || word == "csv") => text_of_columns(&words[1], d),
+        "labels" if words.iter().any(|word| ["column", "csv", "length"].contains(&&word[..])) => {
+            text_of_columns(&words[1], d)
+        }
         "labels" => text_of_labels(&words[1], d),
         "ltc-make" | "ltc-load" | "vitc-make" | "label" | "number" => Vec::new(),
         _ => recording(d),
@@ -575,7 +577,7 @@ fn asked_of_labels(count: Count, d: &mut Draws) -> Vec<String> {
     if d.one_in(2) {
         words.extend(columns(d));
     }
-    let way = d.pick(&["number", "label", "plus", "minus", "since", "seconds", "to", "seconds", "to"]);
+    let way = d.pick(&["number", "label", "plus", "minus", "since", "seconds", "to", "length", "length"]);
     words.push(way.into());
     match way {
         "plus" | "minus" => {

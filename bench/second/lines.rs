@@ -24,6 +24,7 @@ pub enum Printed {
     Step(i64),
     Since(Label),
     Seconds,
+    Length,
     Under(Base),
 }
 
@@ -122,6 +123,7 @@ fn printed(base: Base, what: &Printed, label: Label) -> String {
             let milliseconds = nearest(1_000 * number as u128 * seconds, frames);
             format!("{}.{:03}", milliseconds / 1_000, milliseconds % 1_000)
         }
+        Printed::Length => unreachable!("a length is of two labels"),
         Printed::Under(other) => {
             let (there, apart) = other.rate();
             let (over, under) = (number as u128 * seconds * there, frames * apart);
@@ -170,25 +172,53 @@ fn between_commas(line: &[u8], count: Count) -> Vec<Range<usize>> {
     found
 }
 
+/// Where the columns of a line without its newline are, in order.
+fn columns_of(base: Base, columns: &Columns, line: &[u8]) -> Vec<Range<usize>> {
+    let fields = line.strip_suffix(b"\r").unwrap_or(line);
+    if columns.are_csv { between_commas(fields, base.count) } else { between_blanks(fields) }
+}
+
+/// The label that some bytes are the text of.
+fn text_of_label(base: Base, bytes: &[u8]) -> Option<Label> {
+    std::str::from_utf8(bytes).ok().and_then(|text| Label::read(base.count, text))
+}
+
 /// A line without its newline, with what is printed of each label in these columns in its place.
 fn in_columns(base: Base, what: &Printed, columns: &Columns, line: &[u8]) -> Vec<u8> {
-    let fields = line.strip_suffix(b"\r").unwrap_or(line);
-    let all = if columns.are_csv { between_commas(fields, base.count) } else { between_blanks(fields) };
+    let all = columns_of(base, columns, line);
     let mut line = line.to_vec();
     for range in all.into_iter().take(columns.last).skip(columns.first - 1).rev() {
-        let label = std::str::from_utf8(&line[range.clone()]).ok().and_then(|text| Label::read(base.count, text));
-        if let Some(label) = label {
+        if let Some(label) = text_of_label(base, &line[range.clone()]) {
             line.splice(range, printed(base, what, label).into_bytes());
         }
     }
     line
 }
 
-/// A text, line by line. One of more than 4,096 bytes passes.
+/// A line without its newline, with the length from the label in the first column in the place of the one in the last, or
+/// in the next one where one column is named. Without both labels it stays.
+fn with_length(base: Base, columns: &Columns, line: &[u8]) -> Vec<u8> {
+    let all = columns_of(base, columns, line);
+    let second = if columns.last > columns.first { columns.last } else { columns.first + 1 };
+    let mut written = line.to_vec();
+    if let (Some(from), Some(to)) = (all.get(columns.first - 1), all.get(second - 1)) {
+        let labels = (text_of_label(base, &line[from.clone()]), text_of_label(base, &line[to.clone()]));
+        if let (Some(from), Some(till)) = labels {
+            let day = base.count.day();
+            let frames = (till.number() + day - from.number()) % day;
+            written.splice(to.clone(), format!("{} {frames}", Label::at(base.count, frames).text()).into_bytes());
+        }
+    }
+    written
+}
+
+/// A text, line by line, with the lengths between two columns, or what is printed of each label in them. A line of more
+/// than 4,096 bytes passes.
 pub fn along_columns(base: Base, what: &Printed, columns: &Columns, input: &[u8]) -> Run {
-    let lines = input.split(|byte| *byte == b'\n').map(|line| match line.len() > 4_096 {
-        true => line.to_vec(),
-        false => in_columns(base, what, columns, line),
+    let lines = input.split(|byte| *byte == b'\n').map(|line| match (line.len() > 4_096, what) {
+        (true, _) => line.to_vec(),
+        (false, Printed::Length) => with_length(base, columns, line),
+        (false, _) => in_columns(base, what, columns, line),
     });
     Run { output: lines.collect::<Vec<_>>().join(&b'\n'), end: End::Done }
 }

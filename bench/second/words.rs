@@ -396,7 +396,7 @@ fn answered(words: &[String], input: &[u8]) -> Read<Run> {
     let way = words.get(place).ok_or("count of words")?;
     let values = words.len() - place - 1;
     let is_so_long = match &way[..] {
-        "number" | "label" | "seconds" => values == 0,
+        "number" | "label" | "seconds" | "length" => values == 0,
         "plus" | "minus" | "since" => values == 1,
         "to" => values == 1 || values == 2,
         _ => values <= 2,
@@ -419,6 +419,7 @@ fn answered(words: &[String], input: &[u8]) -> Read<Run> {
         "number" => Printed::Number,
         "label" => Printed::Text,
         "seconds" => Printed::Seconds,
+        "length" => Printed::Length,
         "plus" => Printed::Step(w.distance(count)?),
         "minus" => Printed::Step(-w.distance(count)?),
         "since" => Printed::Since(w.label(count)?),
@@ -432,7 +433,8 @@ fn answered(words: &[String], input: &[u8]) -> Read<Run> {
         }
         _ => return Err(format!("value of word {place}")),
     };
-    Ok(match columns {
+    let two = Columns { are_csv: false, first: 1, last: 2 };
+    Ok(match columns.or(matches!(what, Printed::Length).then_some(two)) {
         Some(columns) => along_columns(base, &what, &columns, input),
         None => along_text(base, &what, input),
     })

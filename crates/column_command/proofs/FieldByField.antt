@@ -51,7 +51,7 @@ new_stretch fields at k next put_now now most is =
     let end = end_of fields at k next most is in
     sym joined ∙ ap₂ (λ (a b : List ℕ). a ++ b) front end
 
-next_drop : (fields : List ℕ) (at k next : ℕ) → at + k ≤ length fields → next ≡ min (length fields) (at + k + 1)
+pub next_drop : (fields : List ℕ) (at k next : ℕ) → at + k ≤ length fields → next ≡ min (length fields) (at + k + 1)
     → drop (k + 1) (drop at fields) ≡ drop next fields
 next_drop fields at k next most is = grind (arith, common_steps)
 

@@ -1,8 +1,8 @@
 -- The first part of bytes goes up to the first one that ends a part, and the others are those of the rest.
 use Rattle.std.proofs.Common.{◌≡◌, ℕ, ◌+◌, ◌<◌, Bool, true, false, List, [], ◌∷◌, length, drop, take, refl, ap, ◌∙◌, suc, sym}
-use Rattle.std.proofs.Common.{if◌then◌else◌, arith}
+use Rattle.std.proofs.Common.{arith}
 use Rattle.std.specs.List.{position_or_len}
-use Rattle.label_columns.specs.Parts.{Part, in_front, part_of, parted}
+use Rattle.label_columns.specs.Parts.{in_front, part_of, parted}
 
 -- a place behind a byte
 one_on : (ends : ℕ → Bool) (byte : ℕ) (bytes : List ℕ) (n : ℕ)

@@ -1,7 +1,10 @@
+pub mod ColumnBehind
 pub mod ColumnsAreCommand
+pub mod ComesBack
 pub mod FieldByField
 pub mod FirstField
 pub mod LineByLine
 pub mod LineGoesOn
 pub mod OneColumn
+pub mod OneLength
 pub mod OnlyColumns

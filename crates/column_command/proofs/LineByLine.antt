@@ -1,5 +1,5 @@
 -- Each line of a text is answered by itself, and stays one line: no answer has a newline, and none is empty.
-use Rattle.std.proofs.Common.{◌≡◌, ◌<◌, ℕ, List, [], ◌∷◌, ◌++◌, ap, ap₂, arith}
+use Rattle.std.proofs.Common.{Bool, true, false, cond, nat_le, None, ◌≡◌, ◌<◌, ℕ, List, [], ◌∷◌, ◌++◌, ap, ap₂, arith}
 use Rattle.std.proofs.Common.{append-nil, inl, inr, length, map, refl, subst, sym, Some}
 use Rattle.std.proofs.Common.{append_assoc, ◌∙◌}
 use Rattle.std.specs.Prelude.{◌⊎◌, ◌≢◌, ⊤}
@@ -9,13 +9,17 @@ use Rattle.std.proofs.lemmas.List.{length-append}
 use Rattle.std.proofs.lemmas.List.Folds.{flat_map-map}
 use Rattle.column_command.specs.AnsweredText.{answered_part, lines_of}
 use Rattle.column_command.specs.LineLemmas.{line_alone, line_first}
-use Rattle.column_command.specs.OnlyColumns.{AreTheLines, Change, IsAnswered, OnlyColumnsChange, becomes, line_columns}
-use Rattle.column_command.specs.OnlyColumns.{was}
-use Rattle.label_columns.specs.Columns.{answer_to, answered_or_long}
+use Rattle.column_command.specs.Written.{answered_by, first_label, length_from, with_length, written_line}
+use Rattle.column_command.specs.Written.{written_or_long}
+use Rattle.column_command.specs.OnlyColumns.{AreTheLines, Change, IsAnswered, OnlyColumnsChange, becomes, was}
+use Rattle.label_columns.specs.Columns.{answer_to, line_columns}
 use Rattle.label_columns.specs.Parts.{Part, in_front, joined, part_of, parted, whole}
 use Rattle.label_command.specs.TextLines.{IsLine}
 use Rattle.label_lines.specs.declared.timebase.Timebase.{Timebase}
 use Rattle.label_lines.specs.declared.way.Way.{Way}
+use Rattle.std.specs.declared.option.Option.{Option}
+use Rattle.label_columns.specs.declared.columns.TheConstants.{MAX_COLUMN_LINE}
+use Rattle.tc_address.specs.Label.{Address}
 use Rattle.tc_job.specs.declared.column_run.ColumnRun.{ColumnRun}
 
 -- what is put in the place of a column is a line, of one byte at least
@@ -138,32 +142,67 @@ changed_some lines run line written only some = go only.changes only.each only.b
           length-append c.before c.put,
         ))
 
+-- whatever is written of it
+abbrev StaysALine : List ℕ → List ℕ → Type 0
+StaysALine line written = (IsLine line → IsLine written) × (0 < length line → 0 < length written)
+
+as_it_is : (line : List ℕ) → StaysALine line line
+as_it_is line = (λ is. is, λ some. some)
+
+-- in a line with its answers only columns change
+abbrev pub LinesChange : Type 0
+LinesChange = (run : ColumnRun) (line : List ℕ) → OnlyColumnsChange run line (answered_by run line)
+
+with_answers : AnswersAreLines → LinesChange → (run : ColumnRun) (line : List ℕ)
+    → StaysALine line (answered_by run line)
+with_answers lines changes run line = (
+  changed_line lines run line (answered_by run line) (changes run line),
+  changed_some lines run line (answered_by run line) (changes run line),
+)
+
+with_its_length : AnswersAreLines → LinesChange → (run : ColumnRun) (line : List ℕ) (first : Option Address)
+    → StaysALine line (with_length run first line)
+with_its_length lines changes run line None = as_it_is line
+with_its_length lines changes run line (Some first) = with_answers lines changes (length_from run first) line
+
+as_written : AnswersAreLines → LinesChange → (run : ColumnRun) (line : List ℕ) → StaysALine line (written_line run line)
+unfolding written_line
+as_written lines changes run line = by_kind run.is_length
+  where
+    by_kind : (is_length : Bool)
+        → StaysALine line (cond is_length (with_length run (first_label run line) line) (answered_by run line))
+    by_kind true = with_its_length lines changes run line (first_label run line)
+    by_kind false = with_answers lines changes run line
+
+written_or_long_stays : AnswersAreLines → LinesChange → (run : ColumnRun) (line : List ℕ)
+    → StaysALine line (written_or_long run line)
+written_or_long_stays lines changes run line = by_length (nat_le (length line) MAX_COLUMN_LINE)
+  where
+    by_length : (short : Bool) → StaysALine line (cond short (written_line run line) line)
+    by_length true = as_written lines changes run line
+    by_length false = as_it_is line
+
 -- ---- all lines
 
-answered_lines : AnswersAreLines
-    → ((run : ColumnRun) (line : List ℕ)
-    → OnlyColumnsChange run line (answered_or_long run.labels.base run.labels.way run.columns line))
+answered_lines : AnswersAreLines → LinesChange
     → (run : ColumnRun) (lines : List Part) → AreLines lines → AreLines (map (answered_part run) lines)
 unfolding AreLines
 answered_lines lines changes run [] are = tt
 answered_lines lines changes run (line ∷ []) are = (
-  changed_line lines run line.body _ (changes run line.body) are.0,
+  (written_or_long_stays lines changes run line.body).0 are.0,
   last are.1,
 )
   where
     last : IsLast line → IsLast (answered_part run line)
     last (inl end) = inl end
-    last (inr none) = inr (none.0, changed_some lines run line.body _ (changes run line.body) none.1)
+    last (inr none) = inr (none.0, (written_or_long_stays lines changes run line.body).1 none.1)
 answered_lines lines changes run (line ∷ next ∷ more) are = (
-  changed_line lines run line.body _ (changes run line.body) are.0,
+  (written_or_long_stays lines changes run line.body).0 are.0,
   are.1,
   answered_lines lines changes run (next ∷ more) are.2,
 )
 
-pub text_line_by_line : AnswersAreLines
-    → ((run : ColumnRun) (line : List ℕ)
-    → OnlyColumnsChange run line (answered_or_long run.labels.base run.labels.way run.columns line))
-    → (run : ColumnRun) (text : List ℕ) → AreTheLines run text
+pub text_line_by_line : AnswersAreLines → LinesChange → (run : ColumnRun) (text : List ℕ) → AreTheLines run text
 text_line_by_line lines changes run text =
     ap lines_of (sym (flat_map-map whole (answered_part run) (lines_of text)))
     ∙ joined_lines (map (answered_part run) (lines_of text))

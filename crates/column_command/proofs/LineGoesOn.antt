@@ -8,7 +8,7 @@ use Rattle.column_command.specs.KeptLine.{Keeps, Stands, part_of_all, passed, st
 use Rattle.column_command.specs.LineLemmas.{a_line_longer, last_answered, none_ended, one_ended, text_behind, text_more}
 use Rattle.column_command.specs.declared.columns.ColumnAnswers.{ColumnAnswers}
 use Rattle.column_command.specs.declared.columns.TheConstants.{MAX_TEXT}
-use Rattle.label_columns.specs.Columns.{answered_line}
+use Rattle.column_command.specs.Written.{written_line}
 use Rattle.label_columns.specs.declared.columns.TheConstants.{MAX_COLUMN_LINE}
 use Rattle.label_columns.specs.Parts.{part_of, parted}
 use Rattle.label_command.specs.TextLines.{IsLine}
@@ -37,7 +37,7 @@ passed_all s line long = rw long refl
 
 -- what is written when a newline ends it
 pub ends_short : (s : ColumnAnswers) (line put : List ℕ) → Keeps s line → s.is_long ≡ false
-    → put ≡ answered_line s.run.labels.base s.run.labels.way s.run.columns s.line.items ++ 10 ∷ []
+    → put ≡ written_line s.run s.line.items ++ 10 ∷ []
     → passed s line ++ put ≡ answered s.run (part_of line (10 ∷ []))
 ends_short s line put keeps short is =
     let k = kept_line s line keeps short in
@@ -130,13 +130,13 @@ is_input s bytes written stands =
     record { verdict = shows.is; unspent = shows.unspent; end = refl }
 
 pub last_short : (s : ColumnAnswers) (bytes written : List ℕ) → Stands s bytes written → s.is_long ≡ false
-    → written ++ answered_line s.run.labels.base s.run.labels.way s.run.columns s.line.items
+    → written ++ written_line s.run s.line.items
     ≡ answered_text s.run bytes
 last_short s bytes written stands short =
     let run = s.run in
     let k = kept_line s stands.line stands.keeps short in
     let last = last_answered run stands.line stands.is_line in
-    let line = answered_line run.labels.base run.labels.way run.columns stands.line in
+    let line = written_line run stands.line in
     let is : answered_text run stands.line ≡ line = rw (le-leb (length stands.line) MAX_COLUMN_LINE k.0) at last in
     rw (k.1, stands.wrote, passed_none s stands.line short)
     (ap (λ (l : List ℕ). l ++ line) (append-nil (answered_text run stands.front))

@@ -35,7 +35,7 @@ the_label : (f : Address → List ℕ) (said : Option Address) (put : List ℕ) 
 the_label f None put is = absurd cc
 the_label f (Some a) put is = (a, refl, cc)
 
-answered_label : (base : Timebase) (way : Way) (column put : List ℕ) → answer_to base way column ≡ Some put
+pub answered_label : (base : Timebase) (way : Way) (column put : List ℕ) → answer_to base way column ≡ Some put
     → (a : Address) × (label_in (count_of base) column ≡ Some a) × (answer base way a ≡ put)
 unfolding answer_to
 answered_label base way column put is = the_label (answer base way) (label_in (count_of base) column) put is

@@ -7,10 +7,10 @@ use Rattle.std.specs.List.{AllByRecursion}
 use Rattle.std.proofs.Math.Bool.{and-false}
 use Rattle.std.proofs.lemmas.Bool.{and_parts, leb-true, ne_eqb}
 use Rattle.std.proofs.lemmas.List.{drop-drop, take-append-drop}
-use Rattle.column_command.specs.OnlyColumns.{Change, IsAnswered, OnlyColumnsChange, OnlyThese, becomes, columns_of}
-use Rattle.column_command.specs.OnlyColumns.{line_columns, was}
+use Rattle.column_command.specs.OnlyColumns.{Change, IsAnswered, OnlyColumnsChange, OnlyThese, becomes, was}
 use Rattle.label_columns.specs.Columns.{answer_to, answered_field, answered_from, answered_line, answered_or_long}
-use Rattle.label_columns.specs.Columns.{before, column_length, column_of, columns_in, ends_field, fields_length}
+use Rattle.label_columns.specs.Columns.{before, column_length, column_of, columns_in, columns_of, ends_field}
+use Rattle.label_columns.specs.Columns.{fields_length, line_columns}
 use Rattle.label_columns.specs.Columns.{is_meant, up_to_last, with_answer}
 use Rattle.label_columns.specs.declared.columns.Parting.{Parting}
 use Rattle.label_columns.specs.declared.columns.Parting.TheVariants.{Blanks, Commas, CommasAndSemicolons}

@@ -2,7 +2,8 @@
 use Rattle.std.specs.Prelude.{◌≡◌, ℕ, true, ◌&&◌, ◌==◌, nat_le, nat_lt, cond, if◌then◌else◌, List, []}
 use Rattle.std.specs.Prelude.{◌++◌, length, take, None}
 use Rattle.std.specs.List.{flat_map}
-use Rattle.label_columns.specs.Columns.{answered_or_long, is_newline}
+use Rattle.column_command.specs.Written.{written_or_long}
+use Rattle.label_columns.specs.Columns.{is_newline}
 use Rattle.label_columns.specs.Parts.{Part, part_of, parted}
 use Rattle.label_columns.specs.declared.columns.TheConstants.{MAX_COLUMN_LINE}
 use Rattle.column_command.specs.declared.columns.TheConstants.{MAX_TEXT}
@@ -18,11 +19,11 @@ lines_of text = parted is_newline text
 
 -- a line with its answers
 abbrev pub answered_part : ColumnRun → Part → Part
-answered_part run line = part_of (answered_or_long run.labels.base run.labels.way run.columns line.body) line.end
+answered_part run line = part_of (written_or_long run line.body) line.end
 
 -- and its newline
 abbrev pub answered : ColumnRun → Part → List ℕ
-answered run line = answered_or_long run.labels.base run.labels.way run.columns line.body ++ line.end
+answered run line = written_or_long run line.body ++ line.end
 
 -- a text, line by line
 abbrev pub answered_text : ColumnRun → List ℕ → List ℕ

@@ -7,7 +7,8 @@ use Rattle.std.proofs.lemmas.Bool.{cases_eq, lt-leb, ne_eqb, leb-false}
 use Rattle.std.proofs.lemmas.Grind.{flat_map-append}
 use Rattle.std.proofs.lemmas.List.{length-append}
 use Rattle.column_command.specs.AnsweredText.{answered, answered_so_far, answered_text, lines_of, text_so_far}
-use Rattle.label_columns.specs.Columns.{answered_from, answered_line}
+use Rattle.column_command.specs.Written.{answered_by, with_length, first_label, written_line}
+use Rattle.label_columns.specs.Columns.{answered_from, answered_line, columns_of}
 use Rattle.label_columns.specs.declared.columns.TheConstants.{MAX_COLUMN_LINE}
 use Rattle.label_columns.specs.Parts.{Part, in_front, part_of, parted}
 use Rattle.label_command.specs.TextLines.{IsLine}
@@ -149,7 +150,7 @@ unfolding parted
 line_so_far run [] is = refl
 line_so_far run (byte ∷ line) is =
     rw (line_alone byte line is) (by_length (nat_le (length (byte ∷ line)) MAX_COLUMN_LINE)
-    (answered_line run.labels.base run.labels.way run.columns (byte ∷ line)))
+    (written_line run (byte ∷ line)))
   where
     by_length : (short : Bool) (answers : List ℕ)
         → cond short [] (cond short answers (byte ∷ line) ++ []) ++ [] ≡ cond short [] (byte ∷ line)
@@ -186,12 +187,22 @@ text_more run front line ended is =
     ∙ flat_map-append (answered run) (lines_of front) (part_of line (10 ∷ []) ∷ [])
     ∙ ap (λ (l : List ℕ). answered_text run front ++ l) (append-nil (answered run (part_of line (10 ∷ []))))
 
+-- of no bytes nothing
+written_nothing : (run : ColumnRun) → written_line run [] ≡ []
+unfolding written_line parted answered_line answered_from columns_of
+written_nothing run = by_kind run.is_length
+  where
+    by_kind : (is_length : Bool)
+        → cond is_length (with_length run (first_label run []) []) (answered_by run []) ≡ []
+    by_kind true = refl
+    by_kind false = refl
+
 -- the line that goes on is the last one
 pub last_answered : (run : ColumnRun) (line : List ℕ) → IsLine line
     → answered_text run line ≡ cond (nat_le (length line) MAX_COLUMN_LINE)
-    (answered_line run.labels.base run.labels.way run.columns line) line
-unfolding parted answered_line answered_from
-last_answered run [] is = refl
+    (written_line run line) line
+unfolding parted
+last_answered run [] is = rw (written_nothing run) refl
 last_answered run (byte ∷ line) is =
     rw (line_alone byte line is) (append-nil _ ∙ append-nil _)
 

@@ -1,22 +1,10 @@
 -- What changes in a line: in the columns that are meant the text of a label gives way to what is answered to it, and no
 -- other byte does. This project's own.
 use Rattle.std.specs.List.{AllByRecursion, flat_map}
-use Rattle.std.specs.Prelude.{◌≡◌, ◌≤◌, ℕ, ◌-◌, ◌==◌, if◌then◌else◌, List, [], ◌∷◌, ◌++◌, map, slice_get, take, Some}
+use Rattle.std.specs.Prelude.{◌≡◌, ◌≤◌, ℕ, ◌-◌, List, ◌++◌, map, slice_get, Some}
 use Rattle.column_command.specs.AnsweredText.{answered_part, answered_text, lines_of}
-use Rattle.label_columns.specs.Columns.{answer_to, column_of, columns_in, ends_field, fields_length}
-use Rattle.label_columns.specs.Parts.{Part, parted}
-use Rattle.label_columns.specs.declared.columns.Parting.{Parting}
+use Rattle.label_columns.specs.Columns.{answer_to, line_columns}
 use Rattle.tc_job.specs.declared.column_run.ColumnRun.{ColumnRun}
-
--- the columns of fields, in order: each field between commas, and each between blanks that is not empty
-unfoldable pub columns_of : Parting → List Part → List (List ℕ)
-columns_of parting [] = []
-columns_of parting (field ∷ fields) =
-    (if columns_in parting field.body == 0 then [] else column_of field.body ∷ []) ++ columns_of parting fields
-
--- the columns of a line
-abbrev pub line_columns : Parting → List ℕ → List (List ℕ)
-line_columns parting line = columns_of parting (parted (ends_field parting) (take (fields_length line) line))
 
 -- the bytes before a column, its number, the column, and what is put in its place
 pub record Change : Type 0 where

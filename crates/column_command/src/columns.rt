@@ -1,4 +1,4 @@
-//! The engine of `labels` with columns. Read next: `answering`, and then `tc_command/src/output.rt`.
+//! The engine of `labels` with columns. Read next: `lengths`, and then `tc_command/src/output.rt`.
 ghost use Rattle.std.specs.Prelude.{◌≡◌, ◌<◌, ◌≤◌, ◌+◌, ◌∷◌, ◌++◌, ℕ, List, [], length, take, get_or, false};
 ghost use Rattle.std.specs.List.{position_or_len};
 ghost use Rattle.arrayvec.specs.ArrayVec.{array_vec_len};
@@ -11,7 +11,7 @@ ghost use Rattle.label_command.specs.TextLines.{IsLine};
 ghost use Rattle.tc_command.specs.Told.{IsLawful, IsTold, WorksAsTold};
 ghost use Rattle.tc_job.specs.declared.column_run.ColumnRun.{ColumnRun};
 
-use crate::answering::put_answers;
+use crate::lengths::put_line;
 use arrayvec::ArrayVec;
 use label_columns::MAX_COLUMN_LINE;
 use tc_command::{Engine, Halt, InputFault, Output, Stop, run as run_along};
@@ -105,7 +105,7 @@ impl ColumnAnswers {
             out.gather(b"\n");
             return;
         }
-        put_answers(&self.run, &self.line, out);
+        put_line(&self.run, &self.line, out);
         self.line.clear();
         out.gather(b"\n");
     }
@@ -152,7 +152,7 @@ impl Engine for ColumnAnswers {
 
     fn finish<O: Output>(&mut self, out: &mut O) -> Result<(), InputFault> {
         if !self.is_long {
-            put_answers(&self.run, &self.line, out);
+            put_line(&self.run, &self.line, out);
         }
         Ok(())
     }

@@ -36,7 +36,7 @@ use Rattle.tc_job.specs.declared.job.Job.TheVariants as jobs
 use Rattle.tc_job.specs.declared.job.Task.{Task}
 use Rattle.tc_job.specs.declared.job.Task.TheVariants.{Stream, Chase}
 use Rattle.tc_job.specs.declared.witness.Witness.TheVariants.{NotAsked, Asked, Consecutive}
-use Rattle.forms.specs.Made.{column_run_of}
+use Rattle.forms.specs.Made.{column_run_of, first_two, length_run_of}
 use Rattle.forms.specs.Named.{task_of}
 use Rattle.forms.specs.Number.{Word}
 
@@ -163,6 +163,18 @@ named_lines =
       codes "labels 24 ntsc column 7-9 since 01:02:03:04",
       Stream (jobs.Columns (column_run_of (label_run_of bases.PulledDown24 (ways.Since (address C24 1 2 3 4)))
           (columns_of Blanks 7 9))),
+    )
+    ∷ (
+      codes "labels 25 column 5-6 length",
+      Stream (jobs.Columns (length_run_of (label_run_of bases.F25 ways.Number) (columns_of Blanks 5 6))),
+    )
+    ∷ (
+      codes "labels 30d csv 2 length",
+      Stream (jobs.Columns (length_run_of (label_run_of bases.Drop30 ways.Number) (columns_of Commas 2 2))),
+    )
+    ∷ (
+      codes "labels 24 ntsc length",
+      Stream (jobs.Columns (length_run_of (label_run_of bases.PulledDown24 ways.Number) first_two)),
     )
     ∷ (codes "labels 30 to 24", Stream (jobs.Labels (label_run_of bases.F30 (ways.To bases.F24))))
     ∷ (codes "labels 25 to 30 ntsc", Stream (jobs.Labels (label_run_of bases.F25 (ways.To bases.PulledDown30))))

@@ -197,13 +197,39 @@ columns_at values place = record {
 
 -- labels in columns
 abbrev pub column_run_of : LabelRunning → Columns → ColumnRun
-column_run_of labels columns = record { labels = labels; columns = columns }
+column_run_of labels columns = record { labels = labels; columns = columns; is_length = false }
+
+-- the length between labels in two columns
+abbrev pub length_run_of : LabelRunning → Columns → ColumnRun
+length_run_of labels columns = record { labels = labels; columns = columns; is_length = true }
+
+-- a length is asked by the word at a place
+abbrev pub is_length : Option Value → Bool
+is_length (Some (values.Said (says.Asked asks.Length))) = true
+is_length _ = false
+
+abbrev pub asks_length : List Value → ℕ → Bool
+asks_length values place = is_length (slice_get values place)
+
+-- the first two columns between blanks
+abbrev pub first_two : Columns
+first_two = record { parting = Blanks; first = 1; last = 2 }
+
+-- `COUNT [ntsc] WAY`; without columns a length is that between the labels in the first two
+abbrev pub labels_job : List Value → Job
+labels_job all =
+    if asks_length all (if has_ntsc all 1 then 2 else 1) then jobs.Columns (length_run_of (labels_in all) first_two)
+    else jobs.Labels (labels_in all)
 
 -- `COUNT [ntsc] column|csv COLUMNS WAY`
 unfoldable pub columns_in : List Value → ColumnRun
 columns_in all =
     let place = if has_ntsc all 1 then 2 else 1 in
-    column_run_of (label_run_of (base_at all 0) (way_at all (place + 2))) (columns_at all place)
+    record {
+      labels = label_run_of (base_at all 0) (way_at all (place + 2));
+      columns = columns_at all place;
+      is_length = asks_length all (place + 2);
+    }
 
 -- `COUNT [ntsc] column|csv COLUMNS since LABEL`, with the columns at a place
 unfoldable pub columns_since_in : List Value → ℕ → ColumnRun
@@ -246,7 +272,7 @@ task_in commands.LumaVitc values = tasks.Stream (jobs.LumaVitc (luma_in values))
 task_in commands.VitcMake values = tasks.Stream (jobs.VitcMake (line_stripe_in values))
 task_in commands.Number values = tasks.Stream (jobs.Number (label_at values 1))
 task_in commands.Label values = tasks.Stream (jobs.LabelOf (label_at values 1))
-task_in commands.Labels values = tasks.Stream (jobs.Labels (labels_in values))
+task_in commands.Labels values = tasks.Stream (labels_job values)
 task_in commands.LabelsSince values = tasks.Stream (jobs.Labels (since_in values 2))
 task_in commands.PulledLabelsSince values = tasks.Stream (jobs.Labels (since_in values 3))
 task_in commands.LabelColumns values = tasks.Stream (jobs.Columns (columns_in values))

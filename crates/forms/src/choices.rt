@@ -99,6 +99,7 @@ pub static CHOICES: [&[(&str, Said)]; 20] = [
         ("number", Said::Asked(Asked::Number)),
         ("label", Said::Asked(Asked::Label)),
         ("seconds", Said::Asked(Asked::Seconds)),
+        ("length", Said::Asked(Asked::Length)),
     ],
     &[
         ("plus", Said::Asked(Asked::Plus)),

@@ -10,7 +10,7 @@ ghost use Rattle.forms.specs.declared.table.TheConstants.{LABEL, NUMBER};
 use crate::command::Command;
 use crate::held::{label_at, version_at, witness_at};
 use crate::made_labels::{
-    columns_of, columns_since, labels_of, labels_since, pulled_columns_since, pulled_labels_since,
+    columns_of, columns_since, labels_job, labels_since, pulled_columns_since, pulled_labels_since,
 };
 use crate::made_sound::{level_of, path_slicing_of, slicing_of, track_path_of, wave_slicing_of};
 use crate::made_stripe::{
@@ -88,9 +88,7 @@ pub fn made(command: Command, values: &[Value]) -> Task
         Command::Label => Task::Stream(Job::LabelOf {
             label: numbered_label(values),
         }),
-        Command::Labels => Task::Stream(Job::Labels {
-            run: labels_of(values),
-        }),
+        Command::Labels => Task::Stream(labels_job(values)),
         Command::LabelsSince => Task::Stream(Job::Labels {
             run: labels_since(values),
         }),

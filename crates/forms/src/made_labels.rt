@@ -2,7 +2,8 @@
 ghost use Rattle.std.specs.Prelude.{◌≡◌, ◌≤◌};
 ghost use Rattle.label_lines.specs.Way.{IsWayOf};
 ghost use Rattle.tc_address.specs.declared.count.Count.{Count};
-ghost use Rattle.forms.specs.Made.{base_at, columns_at, columns_in, columns_since_in, has_ntsc, labels_in};
+ghost use Rattle.forms.specs.Made.{asks_length, base_at, columns_at, columns_in, columns_since_in, has_ntsc};
+ghost use Rattle.forms.specs.Made.{labels_in, labels_job};
 ghost use Rattle.forms.specs.Made.{parting_at, parting_for, range_at, since_in, timebase_of, way_at};
 ghost use Rattle.forms.specs.Reading.{AreRead};
 ghost use Rattle.forms.specs.declared.table.TheConstants.{COLUMNS_SINCE, PULLED_COLUMNS_SINCE};
@@ -13,11 +14,34 @@ use crate::value::{Asked, Said, Value};
 use label_columns::{Columns, Parting};
 use label_lines::{Timebase, Way};
 use tc_address::Count;
-use tc_job::{ColumnRun, LabelRun};
+use tc_job::{ColumnRun, Job, LabelRun};
+
+/// `labels COUNT [ntsc] WAY`. Without columns a length is that between the labels in the first two.
+pub(crate) fn labels_job(values: &[Value]) -> Job
+    ensures { result ≡ labels_job values.now }
+{
+    let place = if has_ntsc(values, 1) { 2 } else { 1 };
+    let labels = labels_of(values);
+    if asks_length(values, place) {
+        Job::Columns {
+            run: ColumnRun {
+                labels,
+                columns: Columns {
+                    parting: Parting::Blanks,
+                    first: 1,
+                    last: 2,
+                },
+                is_length: true,
+            },
+        }
+    } else {
+        Job::Labels { run: labels }
+    }
+}
 
 /// `labels`
 #[tactic(auto, unfolding(crate::specs::Made::labels_in))]
-pub(crate) fn labels_of(values: &[Value]) -> LabelRun
+fn labels_of(values: &[Value]) -> LabelRun
     ensures { result ≡ labels_in values.now }
 {
     let place = if has_ntsc(values, 1) { 2 } else { 1 };
@@ -51,6 +75,7 @@ pub(crate) fn columns_of(values: &[Value]) -> ColumnRun
     ColumnRun {
         labels: LabelRun::new(base_at(values, 0), way_at(values, place + 2)),
         columns: columns_at(values, place),
+        is_length: asks_length(values, place + 2),
     }
 }
 
@@ -63,6 +88,7 @@ pub(crate) fn columns_since(values: &[Value]) -> ColumnRun
     ColumnRun {
         labels: LabelRun::new(base_at(values, 0), Way::Since(label_at(values, 4))),
         columns: columns_at(values, 1),
+        is_length: false,
     }
 }
 
@@ -75,6 +101,7 @@ pub(crate) fn pulled_columns_since(values: &[Value]) -> ColumnRun
     ColumnRun {
         labels: LabelRun::new(base_at(values, 0), Way::Since(label_at(values, 5))),
         columns: columns_at(values, 2),
+        is_length: false,
     }
 }
 
@@ -132,11 +159,22 @@ fn way_at(values: &[Value], place: usize) -> Way
             Asked::Number => Way::Number,
             Asked::Label => Way::Label,
             Asked::Seconds => Way::Seconds,
+            Asked::Length => Way::Number,
             Asked::Plus => Way::Plus(number_or(values, place + 1, 0)),
             Asked::Minus => Way::Minus(number_or(values, place + 1, 0)),
             Asked::To => Way::To(base_at(values, place + 1)),
         },
         _ => Way::Number,
+    }
+}
+
+/// Whether a length is asked by the word at a place.
+fn asks_length(values: &[Value], place: usize) -> bool
+    ensures { result ≡ asks_length values.now place }
+{
+    match values.get(place) {
+        Some(Value::Said(Said::Asked(Asked::Length))) => true,
+        _ => false,
     }
 }
 

@@ -63,6 +63,7 @@ pub enum Asked {
     Number,
     Label,
     Seconds,
+    Length,
     Plus,
     Minus,
     To,

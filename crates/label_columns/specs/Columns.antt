@@ -62,6 +62,16 @@ column_length field = up_to_last (drop (before field) field)
 abbrev pub column_of : List ℕ → List ℕ
 column_of field = take (column_length field) (drop (before field) field)
 
+-- the columns of fields, in order: each field between commas, and each between blanks that is not empty
+unfoldable pub columns_of : Parting → List Part → List (List ℕ)
+columns_of parting [] = []
+columns_of parting (field ∷ fields) =
+    (if columns_in parting field.body == 0 then [] else column_of field.body ∷ []) ++ columns_of parting fields
+
+-- the columns of a line
+abbrev pub line_columns : Parting → List ℕ → List (List ℕ)
+line_columns parting line = columns_of parting (parted (ends_field parting) (take (fields_length line) line))
+
 -- ---- what is answered in them
 
 -- what is answered to a column that is the text of a label. A number is none here: a comment has numbers too

@@ -64,6 +64,7 @@ answer_read laws base (ways.Minus steps) a says is =
     laws.text base (step a (neg_ℤ (pos steps))) there.label there.count
 answer_read laws base ways.Seconds a says is = laws.seconds base a is.label is.count
 answer_read laws base (ways.Since other) a says is = absurd says
+answer_read laws base (ways.Length other) a says is = absurd says
 answer_read laws base (ways.To other) a says is = absurd says
 
 -- ---- all of them

@@ -98,7 +98,8 @@ forward n day within =
     let same : 0 + n ≡ n = omega arith in ap (λ (k : ℕ). k % day) same ∙ mod-eq_of_lt within
 
 -- a label of the list is the one with its number
-same_place : StepLaws → (a b : Address) → IsLabel a → IsLabel b → a.count ≡ b.count → number_of a ≡ number_of b → a ≡ b
+pub same_place : StepLaws → (a b : Address) → IsLabel a → IsLabel b → a.count ≡ b.count
+    → number_of a ≡ number_of b → a ≡ b
 same_place laws a b one other count number =
     same_Some a b
     (sym (laws.label a one) ∙ ap₂ (λ (c : Count) (n : ℕ). slice_get (labels c) n) count number ∙ laws.label b other)

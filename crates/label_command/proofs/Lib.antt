@@ -3,6 +3,7 @@ pub mod AnswersGrow
 pub mod AnswersRead
 pub mod BackFromAFaster
 pub mod LabelsAreCommand
+pub mod LengthLeads
 pub mod LinesRead
 pub mod LinesTold
 pub mod OneLine

@@ -18,7 +18,8 @@ use Rattle.tc_address.specs.declared.count.Count.TheVariants as counts
 use Rattle.tc_address.specs.Label.{Address}
 use Rattle.tc_address.specs.Numbering.{day_length, number_of, step}
 use Rattle.tc_address.specs.Spelling.{separator, text_of, two_digits}
-use Rattle.label_lines.specs.Answer.{answer, label_from_midnight, seconds_text, shown_text, since_text}
+use Rattle.label_lines.specs.Answer.{answer, label_from_midnight, length_text, seconds_text, shown_text}
+use Rattle.label_lines.specs.Answer.{since_text}
 use Rattle.label_lines.specs.declared.timebase.Timebase.{Timebase}
 use Rattle.label_lines.specs.declared.timebase.Timebase.TheVariants.{F24, PulledDown24, F25, F30, PulledDown30, Drop30}
 use Rattle.label_lines.specs.declared.way.Way.{Way}
@@ -149,6 +150,14 @@ since_no_newline from to =
     (two_lines IsOther way (32 ∷ []) (signed_no_newline (nat_le (2 * far) day) far (day - far) few
     (few_back to.count far)) (space, tt)) (number_no_newline far few)
 
+length_no_newline : (from to : Address)
+    → IsLine (length_text to.count (ahead (day_length to.count) (number_of from) (number_of to)))
+length_no_newline from to =
+    let day = day_length to.count in
+    let far = ahead day (number_of from) (number_of to) in
+    two_lines IsOther (text_of (label_from_midnight to.count far)) (32 ∷ decimal far) (text_no_newline _)
+    (space, number_no_newline far (few_ahead to.count (number_of to + (day - number_of from))))
+
 seconds_between : (rate : FrameRate) → (1 ≤ seconds_of rate) × (seconds_of rate ≤ 1001)
 seconds_between rates.R24 = (omega arith, omega arith)
 seconds_between rates.PulledDown24 = (omega arith, omega arith)
@@ -197,6 +206,7 @@ answer_is_a_line base ways.Seconds a below is =
     let within : number_of a < day_length (count_of base) = rw (← is) below in
     seconds_no_newline (millisecond_at (rate_of base) (number_of a)) (few_milliseconds base (number_of a) within)
 answer_is_a_line base (ways.Since other) a below is = since_no_newline other a
+answer_is_a_line base (ways.Length other) a below is = length_no_newline other a
 answer_is_a_line base (ways.To other) a below is = shown_no_newline (rate_of base) (number_of a) other
 
 some_behind : (a b : List ℕ) (byte : ℕ) → 0 < length ((a ++ byte ∷ []) ++ b)
@@ -213,4 +223,5 @@ answer_is_some base ways.Seconds a below = some_behind (decimal (millisecond_at 
 answer_is_some base (ways.Since other) a below =
     some_behind (signed_decimal (shortest_way (day_length a.count) (number_of other) (number_of a)))
     (decimal (ahead (day_length a.count) (number_of other) (number_of a))) 32
+answer_is_some base (ways.Length other) a below = omega arith
 answer_is_some base (ways.To other) a below = omega arith

@@ -14,9 +14,11 @@ pub record Writes (base : Timebase) (way : Way) (text written : List ℕ) : Type
   pub input : IsInput (along_labels (label_run_of base way)) text
   pub output : Meaning.output (along_labels (label_run_of base way)) text written
 
--- the answers are lines that say labels: not where they tell a way between two labels, or what another count shows
+-- the answers are lines that say labels: not where they tell a way or a length between two labels, or what another
+-- count shows
 abbrev pub SaysALabel : Way → Type 0
 SaysALabel (ways.Since label) = ⊥
+SaysALabel (ways.Length label) = ⊥
 SaysALabel (ways.To other) = ⊥
 SaysALabel way = ⊤
 

@@ -1,6 +1,6 @@
 //! What follows from the definitions alone: that a text is answered line by line, and what is answered to answers.
 ghost use Rattle.std.specs.Prelude.{◌≡◌, ℕ, ◌+◌, ◌*◌, ◌<◌, ◌≤◌, List, [], ◌∷◌, ◌++◌, Option, Some};
-ghost use Rattle.std.specs.Prelude.{codes, decimal, length, Ok};
+ghost use Rattle.std.specs.Prelude.{codes, decimal, length, pos, Ok};
 ghost use Rattle.label_command.specs.AnsweredAgain.{IsAnsweredAgain, Writes};
 ghost use Rattle.label_command.specs.Labels.{IsRefusedAtALine, along_labels, answers};
 ghost use Rattle.label_command.specs.ThereAndBack.{BeginBefore, BeginTogether, IsAsFast, IsLabelOf};
@@ -15,7 +15,8 @@ ghost use Rattle.label_text.specs.declared.fault.LineFault.{LineFault};
 ghost use Rattle.label_text.specs.declared.reader.TheConstants.{MAX_LINES};
 ghost use Rattle.real_time.specs.Moment.{shown_at};
 ghost use Rattle.tc_address.specs.Label.{Address, IsLabel};
-ghost use Rattle.tc_address.specs.Numbering.{number_of};
+ghost use Rattle.tc_address.specs.Circle.{ahead};
+ghost use Rattle.tc_address.specs.Numbering.{day_length, number_of, step};
 ghost use Rattle.tc_address.specs.Spelling.{label_in, text_of};
 ghost use Rattle.tc_command.specs.Meaning.{IsInput, Meaning};
 ghost use Rattle.tc_command.specs.Stops.{StopsAlong};
@@ -84,6 +85,15 @@ pub fn answers_are_answered_again()
     a_step_moves_the_number();
     steps_add_up();
     a_text_is_read_as_its_label();
+    number_and_label_are_inverse();
+}
+
+/// So many frames as the length from a label to another lead from the one to the other, around the day.
+pub fn a_length_leads_there()
+    ensures { (from to : Address) → IsLabel from → IsLabel to → from.count ≡ to.count
+        → step from (pos (ahead (day_length to.count) (number_of from) (number_of to))) ≡ to }
+{
+    a_step_moves_the_number();
     number_and_label_are_inverse();
 }
 

@@ -34,6 +34,10 @@ shown_text rate frame other =
     text_of (label_from_midnight (count_of other) (shown_at rate frame (rate_of other))) ++ codes " "
     ++ decimal (passed_at rate frame (rate_of other))
 
+-- a length: the label that lies so many frames after midnight, and the frames
+abbrev pub length_text : Count → ℕ → List ℕ
+length_text count frames = text_of (label_from_midnight count frames) ++ codes " " ++ decimal frames
+
 -- what is answered
 abbrev pub answer : Timebase → Way → Address → List ℕ
 answer base ways.Number a = decimal (number_of a)
@@ -41,6 +45,8 @@ answer base ways.Label a = text_of a
 answer base (ways.Plus steps) a = text_of (step a (pos steps))
 answer base (ways.Minus steps) a = text_of (step a (neg_ℤ (pos steps)))
 answer base (ways.Since other) a = since_text other a
+answer base (ways.Length other) a =
+    length_text a.count (ahead (day_length a.count) (number_of other) (number_of a))
 answer base ways.Seconds a = seconds_text (millisecond_at (rate_of base) (number_of a))
 answer base (ways.To other) a = shown_text (rate_of base) (number_of a) other
 

@@ -3,9 +3,10 @@ ghost use Rattle.std.specs.Prelude.{◌≡◌, ◌<◌, ◌≤◌, ◌^◌, ◌+
 ghost use Rattle.real_time.specs.Moment.{millisecond_at};
 ghost use Rattle.arrayvec.specs.ArrayVec.{array_vec_len};
 ghost use Rattle.tc_address.specs.Label.{Address, IsLabel};
-ghost use Rattle.tc_address.specs.Numbering.{number_of};
+ghost use Rattle.tc_address.specs.Circle.{ahead};
+ghost use Rattle.tc_address.specs.Numbering.{day_length, number_of};
 ghost use Rattle.tc_address.specs.Spelling.{text_of};
-ghost use Rattle.label_lines.specs.Answer.{answer, answer_line, label_from_midnight};
+ghost use Rattle.label_lines.specs.Answer.{answer, answer_line, label_from_midnight, length_text};
 ghost use Rattle.label_lines.specs.Answer.{seconds_text, since_text, shown_text};
 ghost use Rattle.label_lines.specs.Timebase.{count_of, rate_of};
 ghost use Rattle.label_lines.specs.Way.{IsWayOf};
@@ -42,6 +43,7 @@ fn push_answer(line: &mut Text, base: Timebase, way: &Way, label: &Label)
         Way::Plus(steps) => push_bytes(line, &text(&advance(label, i64::from(*steps)))),
         Way::Minus(steps) => push_bytes(line, &text(&advance(label, -i64::from(*steps)))),
         Way::Since(other) => push_since(line, other, label),
+        Way::Length(other) => push_length(line, other, label),
         Way::Seconds => push_seconds(line, base.rate(), number(label)),
         Way::To(other) => push_shown(line, base.rate(), number(label), *other),
     }
@@ -59,6 +61,22 @@ fn push_since(line: &mut Text, from: &Label, to: &Label)
     push_signed(line, shortest(day, a, b));
     push_bytes(line, b" ");
     push_any_number(line, u64::from((b + (day - a)) % day));
+}
+
+/// Appends the length from a label to another, around the day: 11 bytes, a space and 20 at most.
+fn push_length(line: &mut Text, from: &Label, to: &Label)
+    requires same { from.now.count ≡ to.now.count }
+    requires room { array_vec_len line.old ≡ 0 }
+    ensures items { line.new.items ≡ line.old.items ++ length_text to.now.count
+        (ahead (day_length to.now.count) (number_of from.now) (number_of to.now)) }
+    ensures len { array_vec_len line.new ≤ 40 }
+{
+    let day = day_labels(to.count());
+    let (a, b) = (number(from), number(to));
+    let frames = u64::from((b + (day - a)) % day);
+    push_bytes(line, &text(&label_from_midnight(to.count(), frames)));
+    push_bytes(line, b" ");
+    push_any_number(line, frames);
 }
 
 /// Appends the seconds at which a frame begins.

@@ -18,6 +18,8 @@ pub enum Way {
     Minus(u32),
     /// The shortest way to it from this label, with its sign, and how far it lies ahead of this label.
     Since(Label),
+    /// The length from this label to it, around the day: as a label, and in frames.
+    Length(Label),
     /// The seconds since midnight at which its frame begins, with three decimals.
     Seconds,
     /// The label that is shown when its frame begins, and the thousandths of that one's frame that have passed.
@@ -31,6 +33,7 @@ impl Way {
     {
         match self {
             Way::Since(label) => label.count() == count,
+            Way::Length(label) => label.count() == count,
             _ => true,
         }
     }

@@ -8,4 +8,7 @@ use label_columns::Columns;
 pub struct ColumnRun {
     pub labels: LabelRun,
     pub columns: Columns,
+    /// Of each line the length from the label in the first of the columns to that in the last, in place of what is
+    /// answered to each label.
+    pub is_length: bool,
 }

@@ -91,7 +91,7 @@ pub enum Job {
     /// then under another count.
     Labels { run: LabelRun },
     /// `labels COUNT [ntsc] column|csv COLUMNS WAY`: reads a text of any lines, and writes it with the answers in
-    /// the place of the labels in these columns of each line.
+    /// the place of the labels in these columns of each line. `labels COUNT [ntsc] length` is one of these too.
     Columns { run: ColumnRun },
     /// `help`: writes how each command is typed, and where the manual is.
     Help,

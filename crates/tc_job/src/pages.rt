@@ -213,7 +213,9 @@ pub static SAID: [(&str, PageLine); 24] = [
             "Writes a line for each line of a text: what WAY asks of the label in it. A line\n\
             has a label of the count, the number of one in the day, or seconds since\n\
             midnight with three decimals, as in 3600.040. With columns any text passes, and\n\
-            the answer takes the place of each label in COLUMNS; numbers there stay.\n\
+            the answer takes the place of each label in COLUMNS; numbers there stay. Of two\n\
+            columns, or the first two, length puts in the place of the last label how far\n\
+            it is from the first one: as a label, and in frames.\n\
             Standard input is the text. WAY is one of these words, with what follows it.",
             "",
             "",

@@ -191,7 +191,7 @@ pub static VALUES: [(&str, PageLine); 24] = [
             \x20 ntsc: after 24 or 30: at 1000/1001 of that rate\n\
             \x20 column|csv: labels are in COLUMNS, parted by blanks or commas; all else stays\n\
             \x20 COLUMNS 1 to 4096|N-M: a column of each line, or those from N to M\n\
-            \x20 WAY number|label|seconds: what is written for each line or label\n\
+            \x20 WAY number|label|seconds|length: what is written for each line or label\n\
             \x20 WAY plus|minus: the label that is N labels later or earlier\n\
             \x20 N 0 to 4294967295|HH:MM:SS:FF: how many labels, or the label of that number\n\
             \x20 WAY since: how many labels it is from LABEL, the shortest way and forward\n\

@@ -7,7 +7,7 @@ pub returns-then-not-self-clause-ends : goal.returns-then-not-self-clause-ends
 returns-then-not-self-clause-ends g c = λ bytes written stands.
     let s = c.args.self.now in (
       _,
-      rw c.deref.ensures.0 at c.put_answers.ensures,
+      rw c.deref.ensures.0 at c.put_line.ensures,
       is_input s bytes written stands,
       last_short s bytes written stands c.if-not-self.true,
     )
