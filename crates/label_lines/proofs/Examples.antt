@@ -1,5 +1,5 @@
--- Seconds and lines worked by hand: minutes and seconds at each rate, and of 24 frames a second that are pulled down, of
--- which each lasts 1001/24 ms.
+-- Seconds and lines worked by hand: minutes and seconds at each rate, and of 24 frames a second that are pulled down,
+-- of which each lasts 1001/24 ms.
 use Rattle.std.proofs.Common.{◌≡◌, ℕ, List, refl}
 use Rattle.std.specs.Fmt.{digits}
 use Rattle.std.specs.Prelude.{codes}

@@ -88,10 +88,10 @@ pub fn a_steady_sound_in_numbers()
         → IsSoundOf place tape repeats least low high samples }
 {}
 
-/// So of the square wave of any bits with a zero among them, in an even number of samples for each cell and at any level
-/// from the threshold and the noise on, the best path is their tape if the noise is at most 11/17 of the level. If it is
-/// at most 7/17, and no more than 20 cells come before the zero, the intervals are those of the bits, but for a tick
-/// that is cut off the front.
+/// So of the square wave of any bits with a zero among them, in an even number of samples for each cell and at any
+/// level from the threshold and the noise on, the best path is their tape if the noise is at most 11/17 of the level.
+/// If it is at most 7/17, and no more than 20 cells come before the zero, the intervals are those of the bits, but for a
+/// tick that is cut off the front.
 pub fn a_noisy_square_wave_is_its_tape()
     ensures path { (place many repeats least level most : ℕ) (sign : Sign) (later before : List Bit) (noise : List ℤ)
         → place < 45 → many * repeats ≡ length_in LENGTHS place → many % 2 ≡ 0 → 1 ≤ level → least + most ≤ level

@@ -1,5 +1,6 @@
 -- A step has from 2 to 65,536 ticks, so each interval of a path can be said, and its file is one that is read.
-use Rattle.std.proofs.Common.{◌≡◌, ℕ, ◌*◌, ◌≤◌, ℤ, Bool, true, false, List, [], ◌∷◌, length, reverse, Option, Some, None}
+use Rattle.std.proofs.Common.{◌≡◌, ℕ, ◌*◌, ◌≤◌, ℤ, Bool, true, false, List, [], ◌∷◌, length, reverse}
+use Rattle.std.proofs.Common.{Option, Some, None}
 use Rattle.std.proofs.Common.{refl, subst, arith}
 use Rattle.std.specs.Prelude.{nat_le, ◌&&◌, if◌then◌else◌}
 use Rattle.std.specs.List.{All}
@@ -144,10 +145,11 @@ track_is_read laws t bytes written output = λ format begins.
     let r = reading_of (asked_for_path t) bytes in
     let rates = laws.rates (asked_for_path t) bytes format begins in
     let least = some_samples t.system in
+    let grid = grid_for t.system format.rate in
     let is = subst (λ f. WritesPath t f r.samples written) begins output in (
       is.path,
       is.sound,
       read_as_a_file laws is.path r.samples written
-          (on_grid t format.rate (grid_for t.system format.rate) is.path (omega (arith, least, rates.0)) rates.1 refl is.sound)
+          (on_grid t format.rate grid is.path (omega (arith, least, rates.0)) rates.1 refl is.sound)
           is.file,
     )

@@ -25,7 +25,8 @@ returns-clause-path c =
 
 pub returns-clause-intervals : goal.returns-clause-intervals
 returns-clause-intervals c =
-    λ place many repeats ticks least level most sign later before noise within cells even tick some heard near below few.
+    λ place many repeats ticks least level most sign later before noise within cells even tick some heard near below
+    few.
     let tape = tape_of place sign (later ++ Zero ∷ before) in
     let samples = with_noise noise (square_wave level many tape) in
     let steady = steady_tape place sign later before within in
