@@ -3,6 +3,7 @@
 # make gate          the gate (tools/check_sources, then rt ci): looks through the documents, proves every crate, tries the must-fail edits, runs tests and program
 # make dist          tc-VERSION.tar.gz of the last commit, which builds, tests and installs by itself
 # make deb           dist/tc-timecode_VERSION-1_amd64.deb, a Debian package of the built program and its tools
+# make deb-library   the Debian packages of the library in lib/: libtc1, libtc-dev, python3-tc, and libltc-tc with its switch
 # make binary        dist/tc-VERSION-x86_64-linux.tar.gz, with a script that installs it, for machines without the toolchain
 # make lib           proves and builds the library: lib/libtc.a, lib/libtc.so.1 and lib/tc.pc, for include/tc.h, and
 #                    lib/libltc-tc.so.11 for programs that are linked against libltc
@@ -46,7 +47,7 @@ INSTALL_PROGRAM = install -m 755
 VERSION := $(shell cat VERSION)
 DIST = tc-$(VERSION)
 
-.PHONY: all binary check deb gate dist install install-strip lib show-libdir stage uninstall
+.PHONY: all binary check deb deb-library gate dist install install-strip lib show-libdir stage uninstall
 
 all:
 	./build
@@ -75,6 +76,9 @@ dist:
 
 deb:
 	packaging/deb
+
+deb-library:
+	packaging/deb_library
 
 binary:
 	packaging/binary

@@ -23,6 +23,12 @@ extern "C" {
 #define TC_ALIGN(bytes) _Alignas(bytes)
 #endif
 
+/* The version of this header, to be tested by #if: 10200 is 1.2.0. */
+#define TC_VERSION_MAJOR 1
+#define TC_VERSION_MINOR 2
+#define TC_VERSION_PATCH 0
+#define TC_VERSION (10000 * TC_VERSION_MAJOR + 100 * TC_VERSION_MINOR + TC_VERSION_PATCH)
+
 /* The version of these functions in this header, and in the library that was loaded: they have to be the same. */
 #define TC_ABI 1
 uint32_t tc_abi(void);
