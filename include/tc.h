@@ -29,7 +29,8 @@ extern "C" {
 #define TC_VERSION_PATCH 0
 #define TC_VERSION (10000 * TC_VERSION_MAJOR + 100 * TC_VERSION_MINOR + TC_VERSION_PATCH)
 
-/* The version of these functions in this header, and in the library that was loaded: they have to be the same. */
+/* The version of these functions in this header, and in the library that was loaded: they have to be the same. The
+ * names of the shared library are TC_1's. */
 #define TC_ABI 1
 uint32_t tc_abi(void);
 
