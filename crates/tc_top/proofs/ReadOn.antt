@@ -11,13 +11,19 @@ use Rattle.interval_file.specs.Grammar.{IsFile}
 use Rattle.interval_file.specs.Recording.{Recording, recording_of}
 use Rattle.tc_job.specs.declared.job.Job.{Job}
 use Rattle.tc_job.specs.declared.job.Job.TheVariants.{LtcMtc, LtcJam, LtcPcm, LumaVitc, Number, LabelOf, Labels}
-use Rattle.tc_job.specs.declared.job.Job.TheVariants.{Help, HelpOf, HelpStatuses}
+use Rattle.tc_job.specs.declared.job.Job.TheVariants.{PcmPath, WavPath, Help, HelpOf, HelpStatuses}
 use Rattle.tc_job.specs.Jam.{Jamming}
 use Rattle.tc_job.specs.LabelRun.{LabelRunning}
 use Rattle.tc_job.specs.LumaRun.{LumaReading}
+use Rattle.tc_job.specs.PathSlicing.{IsPathSlicing, SlicesPath}
+use Rattle.tc_job.specs.TrackPath.{SlicesTrackPath}
 use Rattle.tc_command.specs.Meaning.{Meaning, IsInput}
 use Rattle.tc_command.specs.Told.{IsTold}
+use Rattle.pcm_front.specs.Samples.{samples_of}
 use Rattle.signal_commands.specs.LumaVitc.{told_luma_vitc}
+use Rattle.signal_commands.specs.PathFile.{IsPathRead, IsTrackPathRead}
+use Rattle.signal_commands.specs.PcmPath.{IsPathFile}
+use Rattle.signal_commands.specs.WavPath.{along_track_path}
 use Rattle.label_command.specs.AnsweredAgain.{IsAnsweredAgain}
 use Rattle.label_command.specs.Labels.{along_labels}
 use Rattle.interval_engine.specs.Along.{IsWholeOf}
@@ -43,6 +49,10 @@ pub record ReadOnLaws : Type 1 where
   pub pages : PagesLaws
   pub sound : SoundLaws
   pub answers : AnswersLaws
+  pub path : (p : SlicesPath) (bytes written : List ℕ) → IsPathSlicing p → IsPathFile p (samples_of bytes) written
+      → IsPathRead p bytes written
+  pub track : (t : SlicesTrackPath) (bytes written : List ℕ) → Meaning.output (along_track_path t) bytes written
+      → IsTrackPathRead t bytes written
   pub again : (run : LabelRunning) (bytes written : List ℕ) → IsInput (along_labels run) bytes
       → Meaning.output (along_labels run) bytes written → IsAnsweredAgain run bytes written
 
@@ -61,21 +71,25 @@ copy_is_reported laws j pulled written = λ clean text few output.
     reported laws _ _ written _ clean.file clean.read text few output
 
 pub read_on : ReadOnLaws → (job : Job) → ((level : ℕ) → job ≡ LtcPcm level → level < 2 ^ 15)
+    → ((path : SlicesPath) → job ≡ PcmPath path → IsPathSlicing path)
     → ((luma : LumaReading) → job ≡ LumaVitc luma → IsTold (told_luma_vitc luma)) → IsReadOn job
-read_on laws (LtcMtc flight) level told = λ pulled written are input output.
+read_on laws (LtcMtc flight) level path told = λ pulled written are input output.
     sends_the_frames laws.back laws.labels flight pulled written output
-read_on laws (LtcJam jam) level told = λ pulled written are input output. copy_is_reported laws jam pulled written
-read_on laws (LtcPcm size) level told = λ pulled written are input output.
+read_on laws (LtcJam jam) level path told = λ pulled written are input output. copy_is_reported laws jam pulled written
+read_on laws (LtcPcm size) level path told = λ pulled written are input output.
     sliced_again laws.sound size (level size refl) pulled written are input output
-read_on laws (LumaVitc luma) level told = λ pulled written are input output.
+read_on laws (PcmPath p) level path told = λ pulled written are input output.
+    laws.path p pulled written (path p refl) output
+read_on laws (WavPath t) level path told = λ pulled written are input output. laws.track t pulled written output
+read_on laws (LumaVitc luma) level path told = λ pulled written are input output.
     read_as_fields laws.answers luma (told luma refl) pulled written are input output
-read_on laws (Number label) level told = λ pulled written are input output.
+read_on laws (Number label) level path told = λ pulled written are input output.
     named_again laws.numbers label pulled written
-read_on laws (LabelOf label) level told = λ pulled written are input output. numbered_by_text label pulled written
-read_on laws (Labels run) level told = λ pulled written are input output. laws.again run pulled written input output
-read_on laws Help level told = λ pulled written are input output. tells_the_forms laws.forms written output.1
-read_on laws (HelpOf page) level told = λ pulled written are input output.
+read_on laws (LabelOf label) level path told = λ pulled written are input output. numbered_by_text label pulled written
+read_on laws (Labels run) level path told = λ pulled written are input output. laws.again run pulled written input output
+read_on laws Help level path told = λ pulled written are input output. tells_the_forms laws.forms written output.1
+read_on laws (HelpOf page) level path told = λ pulled written are input output.
     tells_of_the_command laws.pages page written output.1
-read_on laws HelpStatuses level told = λ pulled written are input output.
+read_on laws HelpStatuses level path told = λ pulled written are input output.
     tells_of_the_statuses laws.pages written output.1
-read_on laws job level told = λ pulled written are input output. tt
+read_on laws job level path told = λ pulled written are input output. tt

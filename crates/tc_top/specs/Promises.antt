@@ -3,7 +3,8 @@ use Rattle.std.specs.Prelude.{ℕ, List}
 use Rattle.tc_io.specs.Bytes.{AreBytes}
 use Rattle.tc_job.specs.declared.job.Job.{Job}
 use Rattle.tc_job.specs.declared.job.Job.TheVariants.{LtcMtc, LtcJam, LtcPcm, LumaVitc, Number, LabelOf, Labels}
-use Rattle.tc_job.specs.declared.job.Job.TheVariants.{Help, HelpOf, HelpStatuses}
+use Rattle.tc_job.specs.declared.job.Job.TheVariants.{PcmPath, WavPath, Help, HelpOf, HelpStatuses}
+use Rattle.signal_commands.specs.PathFile.{IsPathRead, IsTrackPathRead}
 use Rattle.label_command.specs.AnsweredAgain.{IsAnsweredAgain}
 use Rattle.tc_command.specs.Meaning.{Meaning, IsInput}
 use Rattle.tc_top.specs.CleanCopy.{IsReportedClean}
@@ -16,13 +17,16 @@ use Rattle.tc_top.specs.SentAgain.{SendsTheFrames}
 use Rattle.tc_top.specs.SoundAgain.{IsSlicedAgain}
 
 -- what a further command makes of what a job wrote: `mtc-read` of what `ltc-mtc` sends, `ltc-read` of what `ltc-jam`
--- copies, `pcm-ltc` and `wav-ltc` of what `ltc-pcm` sounds, `vitc-read` of what `luma-vitc` writes of a picture,
--- `number` and `label` of what the other writes, `labels` of its own answers, and each command of its line of `help`
--- and of the values and examples of its page. There is a line for each job whose output another command reads
+-- copies, `pcm-ltc` and `wav-ltc` of what `ltc-pcm` sounds, each reader of intervals of what `pcm-ltc .. path` and
+-- `wav-ltc .. path` write, `vitc-read` of what `luma-vitc` writes of a picture, `number` and `label` of what the other
+-- writes, `labels` of its own answers, and each command of its line of `help` and of the values and examples of its
+-- page. There is a line for each job whose output another command reads
 abbrev pub ReadsOn : Job → List ℕ → List ℕ → Type 0
 ReadsOn (LtcMtc flight) = SendsTheFrames flight
 ReadsOn (LtcJam jam) = IsReportedClean jam
 ReadsOn (LtcPcm level) = IsSlicedAgain level
+ReadsOn (PcmPath path) = IsPathRead path
+ReadsOn (WavPath path) = IsTrackPathRead path
 ReadsOn (LumaVitc luma) = IsReadAsFields luma
 ReadsOn (Number label) = IsNamedAgain label
 ReadsOn (LabelOf label) = IsNumberedAgain label

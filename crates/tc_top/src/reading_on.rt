@@ -3,6 +3,7 @@ ghost use Rattle.std.specs.Prelude.{◌≡◌, ℕ, ◌<◌, ◌^◌};
 ghost use Rattle.tc_command.specs.Told.{IsTold};
 ghost use Rattle.tc_job.specs.declared.job.Job.{Job};
 ghost use Rattle.tc_job.specs.LumaRun.{LumaReading};
+ghost use Rattle.tc_job.specs.PathSlicing.{IsPathSlicing, SlicesPath};
 ghost use Rattle.signal_commands.specs.LumaVitc.{told_luma_vitc};
 ghost use Rattle.tc_top.specs.Promises.{IsReadOn};
 
@@ -18,6 +19,7 @@ use pcm_front::laws::{
     samples_are_read_as_they_were_written, sums_of_one_are_the_samples,
 };
 use quarter_frame::laws::what_is_sent_is_read_back;
+use signal_commands::path_laws::the_file_of_a_path_is_read;
 use signal_commands::pixels_are_told;
 use tc_address::laws::number_and_label_are_inverse;
 use tc_job::Job;
@@ -26,8 +28,8 @@ use tc_words::laws::{
 };
 
 /// What is sent is read as the frames of the file, the report of a copy is that of its frames, what is sounded is
-/// sliced into its intervals again, the lines of a picture are read as its fields, what is told of labels and of
-/// commands is taken as words, and what is answered to labels is answered again.
+/// sliced into its intervals again, the file of a best path is one that is read, the lines of a picture are read as its
+/// fields, what is told of labels and of commands is taken as words, and what is answered to labels is answered again.
 pub(crate) fn it_is_read_on(job: &Job)
     ensures { IsReadOn job.now }
 {
@@ -49,7 +51,9 @@ pub(crate) fn it_is_read_on(job: &Job)
     answers_are_answered_again();
     bytes_have_answers();
     bytes_have_one_list_of_answers();
+    the_file_of_a_path_is_read();
     has_a_level_of_samples(job);
+    has_a_path(job);
     has_told_pixels(job);
 }
 
@@ -59,6 +63,15 @@ fn has_a_level_of_samples(job: &Job)
 {
     if let Job::LtcPcm { level } = job {
         let _level = level.level();
+    }
+}
+
+/// The path of a job has values in range.
+fn has_a_path(job: &Job)
+    ensures { (path : SlicesPath) → job.now ≡ Job.PcmPath path → IsPathSlicing path }
+{
+    if let Job::PcmPath { path } = job {
+        let _ticks = path.ticks();
     }
 }
 

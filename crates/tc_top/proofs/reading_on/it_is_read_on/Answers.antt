@@ -39,5 +39,7 @@ returns c = read_on (record {
     some = c.bytes_have_answers.ensures;
     one = c.bytes_have_one_list_of_answers.ensures;
   };
+  path = c.the_file_of_a_path_is_read.ensures.path;
+  track = c.the_file_of_a_path_is_read.ensures.track;
   again = c.answers_are_answered_again.ensures.again;
-}) c.args.job.now c.has_a_level_of_samples.ensures c.has_told_pixels.ensures
+}) c.args.job.now c.has_a_level_of_samples.ensures c.has_a_path.ensures c.has_told_pixels.ensures
