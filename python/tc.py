@@ -5,7 +5,7 @@ code: the functions of tc.h, over ctypes.
 
     with wave.open("tape.wav") as sound:
         samples = sound.readframes(sound.getnframes())
-    for word in tc.words(samples, system=25):
+    for word in tc.words(samples, system=25, tolerance=tc.Tolerance.ROUGH):
         print(word.label, word.tick / 16)
 
 Samples are those of one channel. Bytes hold 16 bits each, in the machine's order; an array, of `array` or numpy, says

@@ -1,7 +1,8 @@
 /* A plug-in of LV2 that passes a sound on, and shows the label of the latest word in it.
  *
- *     cc -std=c11 -shared -fPIC reader.c $(pkg-config --cflags lv2) -I ../../../include ../../../lib/libtc.a \
- *         -Wl,--exclude-libs,ALL -o tc.lv2/reader.so      (and both .ttl files into tc.lv2) */
+ *     cc -std=c11 -shared -fPIC reader.c $(pkg-config --cflags --libs lv2 tc-static) -o tc.lv2/reader.so
+ *
+ * Both .ttl files go into tc.lv2 too. */
 #include <lv2/core/lv2.h>
 #include <stdlib.h>
 #include <string.h>
