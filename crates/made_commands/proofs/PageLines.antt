@@ -84,7 +84,7 @@ table_within : (topic : List ℕ) (rows : List Row) (most : ℕ) → nat_le (sum
     → length (page_lines topic rows) ≤ most
 table_within topic rows most short = omega (arith, lines_within topic rows, leb-true (sum_by row_long rows) most short)
 
-said_short : nat_le (sum_by row_long said) 4096 ≡ true
+said_short : nat_le (sum_by row_long said) 4608 ≡ true
 unfolding said
 said_short = refl
 
@@ -122,7 +122,7 @@ text_within usage within = omega (
   arith,
   within,
   parts_long usage,
-  table_within usage.0 said 4096 said_short,
+  table_within usage.0 said 4608 said_short,
   table_within usage.0 values 7168 values_short,
   table_within usage.0 examples 2048 examples_short,
 )
