@@ -9,7 +9,8 @@ CASES is 120,000 if it is not given, shared out over these kinds; each line is a
   a day that is counted label by label);
 - `to` between each two counts, of which 29.97 to 25 has a fifth of all cases;
 - `length` between two labels of a line: its frames, its label, and how long it lasts: so many frames over the rate,
-  which is what `seconds` and `to` say of that label.
+  which is what `seconds` and `to` say of that label;
+- `sum` of a text of up to a hundred lines: their frames, and the label as an hour that is counted label by label.
 
 The status is 0 if nothing differs, 1 if something does, and 2 if it could not be tried.
 """
@@ -20,7 +21,7 @@ import subprocess
 import sys
 from fractions import Fraction
 
-from labels_by_hand import RATES, answer, day, nearest
+from labels_by_hand import RATES, answer, day, nearest, number_of
 
 TOP = os.path.dirname(os.path.dirname(os.path.abspath(__file__)))
 
@@ -91,6 +92,15 @@ def differing_lengths(program, base, pairs):
     return wrong
 
 
+def differing_sum(program, base, lines):
+    """Whether the sum of a text is not that of the numbers that its lines say: its frames, and hour by hour its label."""
+    texts = day(base)[0]
+    frames = sum(number_of(base, line) for line in lines)
+    hours, behind = divmod(frames, len(texts) // 24)
+    got, wanted = run(program, f"{base} sum".split(), lines), [f"{frames} {hours}{texts[behind][2:]}"]
+    return [] if got == wanted else [f"labels {base} sum of {lines}: {got}; by fractions {wanted}"]
+
+
 def main():
     reader = argparse.ArgumentParser(usage=__doc__.split("\n")[2].strip())
     reader.add_argument("cases", nargs="?", type=int, default=120_000)
@@ -102,7 +112,7 @@ def main():
         return 2
     draw = random.Random(its.seed)
     fifth = max(1, its.cases // 5)
-    kinds = {"29.97 to 25": 0, "another count": 0, "ways": 0, "lengths": 0}
+    kinds = {"29.97 to 25": 0, "another count": 0, "ways": 0, "lengths": 0, "lines of sums": 0}
     wrong = []
 
     def take(kind, count, differ):
@@ -122,6 +132,9 @@ def main():
             take("ways", len(lines), differing(its.tc, base, way_of(base, draw), lines))
         two = [(label(base, draw), label(base, draw)) for _ in range(2 * fifth // len(RATES) + 1)]
         take("lengths", len(two), differing_lengths(its.tc, base, two))
+        for _ in range(fifth // 300 + 1):
+            lines = [line_of(base, draw) for _ in range(draw.randrange(101))]
+            take("lines of sums", len(lines), differing_sum(its.tc, base, lines))
     for line in wrong[:20]:
         print(line)
     print(", ".join(f"{count:,} of {kind}" for kind, count in kinds.items()) + f": {len(wrong)} differ")

@@ -21,12 +21,12 @@ _tc() {
             luma-vitc:2) values="25 30" ;;
             vitc-make:2) values="25 30 30d" ;;
             # by hand
-            labels:3) values="number label seconds length plus minus since to ntsc column csv" ;;
+            labels:3) values="number label seconds length plus minus since to sum ntsc column csv" ;;
             labels:4 | labels:5 | labels:6 | labels:7 | labels:8)
                 case ${COMP_WORDS[COMP_CWORD-2]}:${COMP_WORDS[COMP_CWORD-1]} in
                     column:* | csv:*) values="number label seconds length plus minus since to" ;;
                     *:to) values="24 25 30 30d" ;;
-                    *:ntsc) [ "$COMP_CWORD" -gt 4 ] || values="number label seconds length plus minus since to column csv" ;;
+                    *:ntsc) [ "$COMP_CWORD" -gt 4 ] || values="number label seconds length plus minus since to sum column csv" ;;
                     to:24 | to:30) values="ntsc" ;;
                 esac ;;
             help:2) values="$commands statuses" ;;

@@ -48,9 +48,9 @@ complete -c tc -n 'contains -- (commandline -opc)[2] ltc-make; and test (count (
 complete -c tc -n 'contains -- (commandline -opc)[2] luma-vitc; and test (count (commandline -opc)) -eq 2' -a '25 30'
 complete -c tc -n 'contains -- (commandline -opc)[2] vitc-make; and test (count (commandline -opc)) -eq 2' -a '25 30 30d'
 # by hand
-complete -c tc -n 'contains -- (commandline -opc)[2] labels; and test (count (commandline -opc)) -eq 3' -a 'number label seconds length plus minus since to ntsc column csv'
+complete -c tc -n 'contains -- (commandline -opc)[2] labels; and test (count (commandline -opc)) -eq 3' -a 'number label seconds length plus minus since to sum ntsc column csv'
 complete -c tc -n 'contains -- (commandline -opc)[2] labels; and test (count (commandline -opc)) -ge 4; and test (commandline -opc)[-1] = to' -a '24 25 30 30d'
-complete -c tc -n 'contains -- (commandline -opc)[2] labels; and test (count (commandline -opc)) -eq 4; and test (commandline -opc)[-1] = ntsc' -a 'number label seconds length plus minus since to column csv'
+complete -c tc -n 'contains -- (commandline -opc)[2] labels; and test (count (commandline -opc)) -eq 4; and test (commandline -opc)[-1] = ntsc' -a 'number label seconds length plus minus since to sum column csv'
 complete -c tc -n 'contains -- (commandline -opc)[2] labels; and test (count (commandline -opc)) -ge 5; and test (commandline -opc)[-2] = to; and contains -- (commandline -opc)[-1] 24 30' -a ntsc
 complete -c tc -n 'contains -- (commandline -opc)[2] labels; and test (count (commandline -opc)) -ge 5; and contains -- (commandline -opc)[-2] column csv' -a 'number label seconds length plus minus since to'
 complete -c tc -n 'contains -- (commandline -opc)[2] help; and test (count (commandline -opc)) -eq 2' -a statuses -d 'what each exit number means, and what to do'

@@ -577,7 +577,7 @@ fn asked_of_labels(count: Count, d: &mut Draws) -> Vec<String> {
     if d.one_in(2) {
         words.extend(columns(d));
     }
-    let way = d.pick(&["number", "label", "plus", "minus", "since", "seconds", "to", "length", "length"]);
+    let way = d.pick(&["number", "label", "plus", "minus", "since", "seconds", "to", "length", "length", "sum"]);
     words.push(way.into());
     match way {
         "plus" | "minus" => {

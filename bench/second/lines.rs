@@ -26,6 +26,7 @@ pub enum Printed {
     Seconds,
     Length,
     Under(Base),
+    Sum,
 }
 
 impl Base {
@@ -123,7 +124,7 @@ fn printed(base: Base, what: &Printed, label: Label) -> String {
             let milliseconds = nearest(1_000 * number as u128 * seconds, frames);
             format!("{}.{:03}", milliseconds / 1_000, milliseconds % 1_000)
         }
-        Printed::Length => unreachable!("a length is of two labels"),
+        Printed::Length | Printed::Sum => unreachable!("these are of two labels, and of all"),
         Printed::Under(other) => {
             let (there, apart) = other.rate();
             let (over, under) = (number as u128 * seconds * there, frames * apart);
@@ -132,18 +133,37 @@ fn printed(base: Base, what: &Printed, label: Label) -> String {
     }
 }
 
-/// A line for each line of a text, up to the first that says no label.
-pub fn along_text(base: Base, what: &Printed, input: &[u8]) -> Run {
-    let mut output = String::new();
+/// The labels that the lines of a text say, in order, up to the first that says none, and where that one is.
+fn labels_of(base: Base, input: &[u8]) -> (Vec<Label>, End) {
+    let mut labels = Vec::new();
     let ended = input.strip_suffix(b"\n").unwrap_or(input);
     let lines = ended.split(|byte| *byte == b'\n').take(if input.is_empty() { 0 } else { usize::MAX });
     for (place, line) in lines.enumerate() {
         match said(base, line) {
-            Ok(label) => output += &(printed(base, what, label) + "\n"),
-            Err(column) => return Run::text(output, End::Refused(format!("line {} column {column}", place + 1))),
+            Ok(label) => labels.push(label),
+            Err(column) => return (labels, End::Refused(format!("line {} column {column}", place + 1))),
         }
     }
-    Run::text(output, End::Done)
+    (labels, End::Done)
+}
+
+/// A line for each line of a text, up to the first that says no label.
+pub fn along_text(base: Base, what: &Printed, input: &[u8]) -> Run {
+    let (labels, end) = labels_of(base, input);
+    Run::text(labels.into_iter().map(|label| printed(base, what, label) + "\n").collect(), end)
+}
+
+/// One line behind a text whose lines all say labels: how many frames these are together, hour by hour.
+pub fn added(base: Base, input: &[u8]) -> Run {
+    let (labels, end) = labels_of(base, input);
+    if !matches!(end, End::Done) {
+        return Run::text(String::new(), end);
+    }
+    let frames: u64 = labels.iter().map(Label::number).sum();
+    // Each hour has as many labels as the next, in drop-frame counting too: 54 of its minutes drop two.
+    let an_hour = base.count.day() / 24;
+    let behind = Label::at(base.count, frames % an_hour).text();
+    Run::text(format!("{frames} {}{}\n", frames / an_hour, &behind[2..]), End::Done)
 }
 
 fn is_blank(byte: &u8) -> bool {

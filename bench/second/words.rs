@@ -3,7 +3,7 @@ use crate::cells::{Asked, Told, Tolerance, events, report};
 use crate::frames::{Frame, frames, jam, lines, midi, spans};
 use crate::intervals::{File, MOST_RATE, convert, read};
 use crate::labels::{Count, Label, Way};
-use crate::lines::{Base, Columns, Printed, along_columns, along_text};
+use crate::lines::{Base, Columns, Printed, added, along_columns, along_text};
 use crate::luma::{self, Raster};
 use crate::made::{Striping, load, stripe};
 use crate::run::{End, Run};
@@ -397,6 +397,7 @@ fn answered(words: &[String], input: &[u8]) -> Read<Run> {
     let values = words.len() - place - 1;
     let is_so_long = match &way[..] {
         "number" | "label" | "seconds" | "length" => values == 0,
+        "sum" if !is_parted => values == 0,
         "plus" | "minus" | "since" => values == 1,
         "to" => values == 1 || values == 2,
         _ => values <= 2,
@@ -420,6 +421,7 @@ fn answered(words: &[String], input: &[u8]) -> Read<Run> {
         "label" => Printed::Text,
         "seconds" => Printed::Seconds,
         "length" => Printed::Length,
+        "sum" if !is_parted => Printed::Sum,
         "plus" => Printed::Step(w.distance(count)?),
         "minus" => Printed::Step(-w.distance(count)?),
         "since" => Printed::Since(w.label(count)?),
@@ -436,6 +438,7 @@ fn answered(words: &[String], input: &[u8]) -> Read<Run> {
     let two = Columns { are_csv: false, first: 1, last: 2 };
     Ok(match columns.or(matches!(what, Printed::Length).then_some(two)) {
         Some(columns) => along_columns(base, &what, &columns, input),
+        None if matches!(what, Printed::Sum) => added(base, input),
         None => along_text(base, &what, input),
     })
 }

@@ -176,6 +176,9 @@ named_lines =
       codes "labels 24 ntsc length",
       Stream (jobs.Columns (length_run_of (label_run_of bases.PulledDown24 ways.Number) first_two)),
     )
+    ∷ (codes "labels 25 sum", Stream (jobs.Sum bases.F25))
+    ∷ (codes "labels 30d sum", Stream (jobs.Sum bases.Drop30))
+    ∷ (codes "labels 24 ntsc sum", Stream (jobs.Sum bases.PulledDown24))
     ∷ (codes "labels 30 to 24", Stream (jobs.Labels (label_run_of bases.F30 (ways.To bases.F24))))
     ∷ (codes "labels 25 to 30 ntsc", Stream (jobs.Labels (label_run_of bases.F25 (ways.To bases.PulledDown30))))
     ∷ (codes "labels 24 ntsc number", Stream (jobs.Labels (label_run_of bases.PulledDown24 ways.Number)))
@@ -293,6 +296,7 @@ refused_lines =
     ∷ (codes "labels 25 column 5 x", Value 4) ∷ (codes "labels 24 ntsc csv 5 x 1 2", Value 5)
     ∷ (codes "labels 25 column 5 number 1", CountOfWords) ∷ (codes "labels 25 column 5 since 01:02:03:25", Value 5)
     ∷ (codes "labels 24 ntsc csv 5 to 30d ntsc", Value 7)
+    ∷ (codes "labels 25 sum 1", CountOfWords) ∷ (codes "labels 25 column 5 sum", Value 4)
     ∷ (codes "labels 24 ntsc to 30d ntsc", Value 5) ∷ (codes "help x", Value 1) ∷ (codes "help help help", CountOfWords)
     ∷ []
 

@@ -278,5 +278,6 @@ task_in commands.PulledLabelsSince values = tasks.Stream (jobs.Labels (since_in 
 task_in commands.LabelColumns values = tasks.Stream (jobs.Columns (columns_in values))
 task_in commands.LabelColumnsSince values = tasks.Stream (jobs.Columns (columns_since_in values 1))
 task_in commands.PulledLabelColumnsSince values = tasks.Stream (jobs.Columns (columns_since_in values 2))
+task_in commands.LabelSum values = tasks.Stream (jobs.Sum (base_at values 0))
 task_in commands.Help values = tasks.Stream (help_in values)
 task_in commands.Version values = tasks.Stream jobs.Version

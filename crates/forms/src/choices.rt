@@ -51,9 +51,11 @@ pub const NOTHING: usize = 17;
 pub const STATUSES: usize = 18;
 /// Some columns of each line, and what parts them.
 pub const COLUMN: usize = 19;
+/// The sum of all labels.
+pub const SUM: usize = 20;
 
 /// The words of each choice, in the order of these places.
-pub static CHOICES: [&[(&str, Said)]; 20] = [
+pub static CHOICES: [&[(&str, Said)]; 21] = [
     &[
         ("24", Said::Count(Count::C24)),
         ("25", Said::Count(Count::C25)),
@@ -113,6 +115,7 @@ pub static CHOICES: [&[(&str, Said)]; 20] = [
         ("column", Said::Parting(Parting::Blanks)),
         ("csv", Said::Parting(Parting::CommasAndSemicolons)),
     ],
+    &[("sum", Said::Sum)],
 ];
 
 /// What a word of a choice says.

@@ -32,6 +32,7 @@ pub enum Command {
     LabelColumns,
     LabelColumnsSince,
     PulledLabelColumnsSince,
+    LabelSum,
     Help,
     Version,
 }

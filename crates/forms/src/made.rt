@@ -10,7 +10,8 @@ ghost use Rattle.forms.specs.declared.table.TheConstants.{LABEL, NUMBER};
 use crate::command::Command;
 use crate::held::{label_at, version_at, witness_at};
 use crate::made_labels::{
-    columns_of, columns_since, labels_job, labels_since, pulled_columns_since, pulled_labels_since,
+    base_at, columns_of, columns_since, labels_job, labels_since, pulled_columns_since,
+    pulled_labels_since,
 };
 use crate::made_sound::{level_of, path_slicing_of, slicing_of, track_path_of, wave_slicing_of};
 use crate::made_stripe::{
@@ -103,6 +104,9 @@ pub fn made(command: Command, values: &[Value]) -> Task
         }),
         Command::PulledLabelColumnsSince => Task::Stream(Job::Columns {
             run: pulled_columns_since(values),
+        }),
+        Command::LabelSum => Task::Stream(Job::Sum {
+            base: base_at(values, 0),
         }),
         Command::Help => Task::Stream(help_of(values)),
         Command::Version => Task::Stream(Job::Version),

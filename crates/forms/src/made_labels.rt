@@ -179,7 +179,7 @@ fn asks_length(values: &[Value], place: usize) -> bool
 }
 
 /// The count at a place, pulled down if `ntsc` comes after it.
-fn base_at(values: &[Value], place: usize) -> Timebase
+pub(crate) fn base_at(values: &[Value], place: usize) -> Timebase
     requires { place ≤ 5 }
     ensures { result ≡ base_at values.now place }
 {

@@ -223,6 +223,16 @@ const TO: &[Name] = &[
     ("COUNT", "that count, after to; ntsc may follow 24 or 30"),
 ];
 
+/// Of `labels` for a sum.
+const SUM: &[Name] = &[
+    ("COUNT", ""),
+    ("", ""),
+    (
+        "WAY",
+        "without columns: the sum of all lines, in frames and as a label",
+    ),
+];
+
 /// Of `help`. Which words it takes stands in its page.
 const HELP: &[Name] = &[("COMMAND|statuses", "")];
 
@@ -230,9 +240,9 @@ const HELP: &[Name] = &[("COMMAND|statuses", "")];
 const NONE: &[Name] = &[];
 
 /// What the values of each way are called, a row for each row of `FORMS`.
-pub static NAMES: [&[Name]; 45] = [
+pub static NAMES: [&[Name]; 47] = [
     NONE, NONE, ROUGH, FLIGHT, FLIGHT, FLIGHT, JAM, CONVERT, PCM_PATH, PCM, WAV_PATH, WAV, LEVEL,
     MAKE, LOAD, NONE, LABELLED, CHASE, NONE, LUMA, LINES, LABELLED, NUMBER, ALONE, ALONG, SINCE,
-    TO, NONE, NONE, NONE, NONE, NONE, NONE, NONE, NONE, NONE, NONE, NONE, NONE, NONE, NONE, NONE,
-    NONE, HELP, NONE,
+    TO, NONE, NONE, NONE, NONE, NONE, NONE, NONE, NONE, NONE, NONE, SUM, NONE, NONE, NONE, NONE,
+    NONE, NONE, NONE, HELP, NONE,
 ];

@@ -188,7 +188,7 @@ pub const PULLED_COLUMNS_SINCE: &[(Need, Slot)] = &[
 ];
 
 /// The forms, in the order of `help`. Of a command with several ways the first one whose marks stand is taken.
-pub static FORMS: [Form; 45] = [
+pub static FORMS: [Form; 47] = [
     ("ltc-read", &[], &[], Command::LtcRead),
     ("ltc-worn", &[], &[], Command::LtcWorn),
     (
@@ -389,6 +389,16 @@ pub static FORMS: [Form; 45] = [
     ),
     (
         "labels",
+        &[(1, choices::NTSC), (2, choices::SUM)],
+        &[
+            (Needed, OneOf(choices::COUNT)),
+            (Needed, Slot::Ntsc { count: 0 }),
+            (Needed, OneOf(choices::SUM)),
+        ],
+        Command::LabelSum,
+    ),
+    (
+        "labels",
         &[(1, choices::NTSC)],
         &[
             (Needed, OneOf(choices::COUNT)),
@@ -434,6 +444,15 @@ pub static FORMS: [Form; 45] = [
             (Optional, Slot::Ntsc { count: 2 }),
         ],
         Command::Labels,
+    ),
+    (
+        "labels",
+        &[(1, choices::SUM)],
+        &[
+            (Needed, OneOf(choices::COUNT)),
+            (Needed, OneOf(choices::SUM)),
+        ],
+        Command::LabelSum,
     ),
     (
         "labels",

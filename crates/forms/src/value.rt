@@ -53,6 +53,8 @@ pub enum Said {
     Asked(Asked),
     /// The way from a label is asked.
     Since,
+    /// The sum of all labels is asked.
+    Sum,
     /// The page of the exit numbers.
     Statuses,
 }

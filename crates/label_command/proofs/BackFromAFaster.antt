@@ -81,7 +81,7 @@ number_of_first : (a : Address) → IsFirst a (labels a.count) → is_same_time 
 unfolding number_of
 number_of_first a is same = rw is.are (rw same refl)
 
-midnight_is_first : (c : Count) → number_of (address c 0 0 0 0) ≡ 0
+pub midnight_is_first : (c : Count) → number_of (address c 0 0 0 0) ≡ 0
 midnight_is_first c = number_of_first (address c 0 0 0 0) (first_label c) refl
 
 -- ---- some frames behind it
@@ -93,7 +93,7 @@ pub record StepLaws : Type 0 where
   pub label : (a : Address) → IsLabel a → slice_get (labels a.count) (number_of a) ≡ Some a
   pub below : (a : Address) → IsLabel a → number_of a < day_length a.count
 
-forward : (n day : ℕ) → n < day → moved day 0 (pos n) ≡ n
+pub forward : (n day : ℕ) → n < day → moved day 0 (pos n) ≡ n
 forward n day within =
     let same : 0 + n ≡ n = omega arith in ap (λ (k : ℕ). k % day) same ∙ mod-eq_of_lt within
 

@@ -9,3 +9,6 @@ pub mod LinesTold
 pub mod OneLine
 pub mod ShortLines
 pub mod TextSplit
+pub mod SumsGrow
+pub mod SumsSaid
+pub mod SumsTold

@@ -1,8 +1,9 @@
 //! What follows from the definitions alone: that a text is answered line by line, and what is answered to answers.
-ghost use Rattle.std.specs.Prelude.{◌≡◌, ℕ, ◌+◌, ◌*◌, ◌<◌, ◌≤◌, List, [], ◌∷◌, ◌++◌, Option, Some};
-ghost use Rattle.std.specs.Prelude.{codes, decimal, length, pos, Ok};
+ghost use Rattle.std.specs.Prelude.{◌≡◌, ℕ, ◌+◌, ◌*◌, ◌/◌, ◌<◌, ◌≤◌, List, [], ◌∷◌, ◌++◌, Option, Some};
+ghost use Rattle.std.specs.Prelude.{codes, decimal, drop, length, pos, Ok};
 ghost use Rattle.label_command.specs.AnsweredAgain.{IsAnsweredAgain, Writes};
 ghost use Rattle.label_command.specs.Labels.{IsRefusedAtALine, along_labels, answers};
+ghost use Rattle.label_command.specs.Sums.{along_sum, rest_of, sum_line, sum_of, whole_label};
 ghost use Rattle.label_command.specs.ThereAndBack.{BeginBefore, BeginTogether, IsAsFast, IsLabelOf};
 ghost use Rattle.label_command.specs.TextLines.{HasLines, IsFirstRefused, IsLine, SayLabels};
 ghost use Rattle.label_lines.specs.declared.timebase.Timebase.{Timebase};
@@ -14,6 +15,7 @@ ghost use Rattle.label_lines.specs.Timebase.{count_of, rate_of};
 ghost use Rattle.label_text.specs.declared.fault.LineFault.{LineFault};
 ghost use Rattle.label_text.specs.declared.reader.TheConstants.{MAX_LINES};
 ghost use Rattle.real_time.specs.Moment.{shown_at};
+ghost use Rattle.tc_address.specs.declared.count.Count.{Count};
 ghost use Rattle.tc_address.specs.Label.{Address, IsLabel};
 ghost use Rattle.tc_address.specs.Circle.{ahead};
 ghost use Rattle.tc_address.specs.Numbering.{day_length, number_of, step};
@@ -112,6 +114,45 @@ pub fn a_label_comes_back_from_a_faster_count()
         → (passed : ℕ) × (answer other (To base) there ≡ text_of label ++ codes " " ++ decimal passed) }
 {
     a_frame_comes_back_from_a_faster_rate();
+    a_step_moves_the_number();
+    number_and_label_are_inverse();
+}
+
+/// Lines are added up: all of them if each says a label; and nothing is written if one says none, whose place is given,
+/// or if there are too many.
+pub fn lines_are_added_up()
+    ensures whole { (base : Timebase) (text : List ℕ) (lines : List (List ℕ)) (labels : List Address)
+        → HasLines text lines → length lines ≤ MAX_LINES → SayLabels base lines labels
+        → IsInput (along_sum base) text
+        × Meaning.output (along_sum base) text (sum_line (count_of base) (sum_of labels)) }
+    ensures refused { (base : Timebase) (text : List ℕ) (lines : List (List ℕ)) (labels : List Address)
+        (fault : LineFault) → HasLines text lines → IsFirstRefused base lines labels fault
+        → fault.line ≤ MAX_LINES
+        → StopsAlong (along_sum base) (Refused (Labels fault)) (Some []) text [] }
+    ensures limit { (base : Timebase) (text : List ℕ) (lines before behind : List (List ℕ)) (line : List ℕ)
+        (labels : List Address) → HasLines text lines → lines ≡ before ++ line ∷ behind
+        → SayLabels base before labels → length before ≡ MAX_LINES
+        → StopsAlong (along_sum base) Limit (Some []) text [] }
+{
+    a_text_is_read_as_its_label();
+    number_and_label_are_inverse();
+}
+
+/// No lines are no frames, one line more adds its number, and two texts one behind another are both of their sums.
+pub fn a_sum_is_of_each_line()
+    ensures none { (base : Timebase) → Meaning.output (along_sum base) [] (sum_line (count_of base) 0) }
+    ensures more { (labels : List Address) (label : Address)
+        → sum_of (labels ++ label ∷ []) ≡ sum_of labels + number_of label }
+    ensures both { (labels others : List Address) → sum_of (labels ++ others) ≡ sum_of labels + sum_of others }
+{}
+
+/// The label of a sum says the sum again: whole days, and behind them the number of a label of the count, whose hours
+/// are added to those of the days. Within a day it is the label of that number.
+pub fn a_sum_is_said_again()
+    ensures { (count : Count) (frames : ℕ) → (days : ℕ) × ((label : Address) × IsLabel label × (label.count ≡ count)
+        × (frames ≡ days * day_length count + number_of label)
+        × (whole_label count frames ≡ decimal (24 * days + label.hours) ++ drop 2 (text_of label))) }
+{
     a_step_moves_the_number();
     number_and_label_are_inverse();
 }

@@ -6,14 +6,20 @@
 //!   a command as any other (clause of `labels_are_lawful`).
 //! - So a text is its lines (`specs/TextLines.antt`, `HasLines`): if each says a label, the output is the answer of
 //!   each, a line a line (`AnswersTheLines`), and else the place of the first that says none is given (`laws`).
+//! - `labels COUNT sum` writes one line at the end: how many frames the labels of all lines are together, and the label
+//!   that they are without an end of the day (`specs/Sums.antt`, `SumsTheLines`); of a text with a line that says no
+//!   label it writes nothing (`laws`).
 //! - What is answered in one way is answered again in another as a third way answers the text
 //!   (`specs/AnsweredAgain.antt`, `AreTogether`), and a label comes back from a count as fast or faster
 //!   (`specs/ThereAndBack.antt`; `laws`).
 //!
-//! Read `labels` and `laws`, and the files of specs/ beside them.
+//! Read `labels`, `sums`, `sum_line` and `laws`, and the files of specs/ beside them.
 #![tactic(auto)]
 
 mod labels;
 pub mod laws;
+mod sum_line;
+mod sums;
 
 pub use labels::{answer_labels, labels_are_lawful};
+pub use sums::{add_labels, sums_are_lawful};

@@ -15,6 +15,7 @@ use crate::track_path::TrackPath;
 use crate::wave_slicing::WaveSlicing;
 use crate::witness::Witness;
 use interval_file::FileVersion;
+use label_lines::Timebase;
 use tc_address::Label;
 
 /// What the words name.
@@ -93,6 +94,9 @@ pub enum Job {
     /// `labels COUNT [ntsc] column|csv COLUMNS WAY`: reads a text of any lines, and writes it with the answers in
     /// the place of the labels in these columns of each line. `labels COUNT [ntsc] length` is one of these too.
     Columns { run: ColumnRun },
+    /// `labels COUNT [ntsc] sum`: reads lines that say labels, and writes one line at their end: how many frames they
+    /// are together, and the label that they are without an end of the day.
+    Sum { base: Timebase },
     /// `help`: writes how each command is typed, and where the manual is.
     Help,
     /// `help COMMAND`: writes of the command how it is typed, what it does, its values and examples. The page

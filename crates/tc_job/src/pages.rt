@@ -215,7 +215,8 @@ pub static SAID: [(&str, PageLine); 24] = [
             midnight with three decimals, as in 3600.040. With columns any text passes, and\n\
             the answer takes the place of each label in COLUMNS; numbers there stay. Of two\n\
             columns, or the first two, length puts in the place of the last label how far\n\
-            it is from the first one: as a label, and in frames.\n\
+            it is from the first one: as a label, and in frames. Without columns, sum is\n\
+            one line at the end: all labels added up, in frames and as a label.\n\
             Standard input is the text. WAY is one of these words, with what follows it.",
             "",
             "",

@@ -197,7 +197,8 @@ pub static VALUES: [(&str, PageLine); 24] = [
             \x20 WAY since: how many labels it is from LABEL, the shortest way and forward\n\
             \x20 LABEL HH:MM:SS:FF: that label, after since\n\
             \x20 WAY to: what another count shows at that moment, to thousandths of a frame\n\
-            \x20 COUNT 24|25|30|30d: that count, after to; ntsc may follow 24 or 30",
+            \x20 COUNT 24|25|30|30d: that count, after to; ntsc may follow 24 or 30\n\
+            \x20 WAY sum: without columns: the sum of all lines, in frames and as a label",
             "",
             "",
         ),

@@ -17,6 +17,7 @@ use Rattle.frame_commands.specs.LtcJam.{told_ltc_jam}
 use Rattle.frame_commands.specs.LtcMtc.{told_ltc_mtc}
 use Rattle.frame_commands.specs.LtcSpans.{told_ltc_spans}
 use Rattle.label_command.specs.Labels.{told_labels}
+use Rattle.label_command.specs.Sums.{told_sum}
 use Rattle.made_commands.specs.About.{told_help, told_version}
 use Rattle.made_commands.specs.Labels.{told_label, told_number}
 use Rattle.made_commands.specs.Load.{told_ltc_load}
@@ -59,6 +60,7 @@ told_of (jobs.Number label) = told_number label
 told_of (jobs.LabelOf label) = told_label label
 told_of (jobs.Labels run) = told_labels run
 told_of (jobs.Columns run) = told_columns run
+told_of (jobs.Sum base) = told_sum base
 told_of jobs.Help = told_help
 told_of (jobs.HelpOf page) = told_page page
 told_of jobs.HelpStatuses = told_statuses

@@ -23,7 +23,7 @@ use interval_commands::{
     conversions_are_lawful, convert_recording, firm_reports_are_lawful, made_sound_is_lawful,
     read_consecutively, read_firmly, read_recording, reports_are_lawful, sound_recording,
 };
-use label_command::{answer_labels, labels_are_lawful};
+use label_command::{add_labels, answer_labels, labels_are_lawful, sums_are_lawful};
 use made_commands::{
     line_stripes_are_lawful, loads_are_lawful, make_lines, make_recording, names_are_lawful,
     numbers_are_lawful, stripes_are_lawful, tell_help, tell_label, tell_load, tell_number,
@@ -113,6 +113,7 @@ pub(crate) fn each_job_is_lawful()
     names_are_lawful();
     labels_are_lawful();
     columns_are_lawful();
+    sums_are_lawful();
 }
 
 /// Works a job to its end, or to where it stops.
@@ -153,6 +154,7 @@ fn work_on<S: Source, K: Sink>(job: &Job, source: &mut S, out: &mut K) -> Result
         Job::LabelOf { label } => tell_label(label, source, out),
         Job::Labels { run } => answer_labels(run, source, out),
         Job::Columns { run } => answer_columns(run, source, out),
+        Job::Sum { base } => add_labels(*base, source, out),
         Job::Help => tell_help(source, out),
         Job::HelpOf { page } => tell_page(*page, source, out),
         Job::HelpStatuses => tell_statuses(source, out),

@@ -39,6 +39,7 @@ returns c = lawful
     lawful (jobs.LabelOf label) = c.names_are_lawful.ensures label
     lawful (jobs.Labels run) = c.labels_are_lawful.ensures run
     lawful (jobs.Columns run) = c.columns_are_lawful.ensures run
+    lawful (jobs.Sum base) = c.sums_are_lawful.ensures base
     lawful jobs.Help = text_is_lawful _
     lawful (jobs.HelpOf page) = text_is_lawful _
     lawful jobs.HelpStatuses = text_is_lawful _

@@ -1,6 +1,6 @@
 use Rattle.tc_top.proofs.streaming.work_on.Goals as goal
 
--- a search does not see these five: what is claimed of them unfolds too far
+-- a search does not see these six: what is claimed of them unfolds too far
 pub returns-in-LtcMake : goal.returns-in-LtcMake
 returns-in-LtcMake g c = rw c.in-LtcMake.is c.make_recording.ensures
 
@@ -15,3 +15,6 @@ returns-in-Labels g c = rw c.in-Labels.is c.answer_labels.ensures
 
 pub returns-in-Columns : goal.returns-in-Columns
 returns-in-Columns g c = rw c.in-Columns.is c.answer_columns.ensures
+
+pub returns-in-Sum : goal.returns-in-Sum
+returns-in-Sum g c = rw c.in-Sum.is c.add_labels.ensures
