@@ -392,7 +392,7 @@ pub static EXAMPLES: [(&str, PageLine); 34] = [
         "labels",
         (
             "Example: tc labels",
-            " 25 column 5-8 plus 00:00:10:00",
+            " 25 column 7-8 plus 01:00:00:00",
             " < list.edl",
         ),
     ),
