@@ -41,18 +41,20 @@ int main(int count, char **words) {
                                         "audio/x-raw,format=S16LE,channels=1,rate=48000 ! appsink name=end sync=false", NULL);
     GstElement *file = gst_bin_get_by_name(GST_BIN(line), "file"), *end = gst_bin_get_by_name(GST_BIN(line), "end");
     g_object_set(file, "location", words[1], NULL);
+    GstBus *bus = gst_element_get_bus(line);
     gst_element_set_state(line, GST_STATE_PLAYING);
+    GstMessage *why = NULL;
     bool goes_on = true;
-    for (GstSample *sample; goes_on && (sample = gst_app_sink_pull_sample(GST_APP_SINK(end)));) {
+    while (goes_on && !gst_app_sink_is_eos(GST_APP_SINK(end)) && !(why = gst_bus_pop_filtered(bus, GST_MESSAGE_ERROR))) {
+        GstSample *sample = gst_app_sink_try_pull_sample(GST_APP_SINK(end), GST_SECOND / 10);
+        GstBuffer *buffer = sample ? gst_sample_get_buffer(sample) : NULL;
         GstMapInfo held;
-        GstBuffer *buffer = gst_sample_get_buffer(sample);
-        if (gst_buffer_map(buffer, &held, GST_MAP_READ)) {
+        if (buffer && gst_buffer_map(buffer, &held, GST_MAP_READ)) {
             goes_on = read_all(&reader, (const int16_t *)held.data, held.size / sizeof(int16_t));
             gst_buffer_unmap(buffer, &held);
         }
-        gst_sample_unref(sample);
+        if (sample) gst_sample_unref(sample);
     }
-    GstMessage *why = gst_bus_pop_filtered(gst_element_get_bus(line), GST_MESSAGE_ERROR);
     if (why) fprintf(stderr, "%s can't be read\n", words[1]);
     gst_element_set_state(line, GST_STATE_NULL);
     return why || !goes_on ? 3 : 0;
