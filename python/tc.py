@@ -502,7 +502,10 @@ def _intervals_of(intervals) -> memoryview:
             return view if view.c_contiguous else memoryview(view.tobytes())
         row: Iterable[int] = _row(view, "hHiIlLqQ", "intervals")
     else:
-        row = list(intervals)
+        try:
+            row = list(intervals)
+        except TypeError:
+            raise ValueError(f"no intervals: {type(intervals).__name__}") from None
         if not all(isinstance(number, int) for number in row):
             raise ValueError("intervals are whole numbers")
     return memoryview(array.array("I", (number if 0 <= number < 1 << 32 else 0 for number in row)))
