@@ -1,7 +1,6 @@
 -- The number of a label is had by arithmetic from its digits, and so is the label that a step leads to.
 use Rattle.std.proofs.Common.{◌≡◌, ℕ, ◌+◌, ◌*◌, true, List, [], ◌∷◌, ℤ, pos, neg_ℤ, ap, sym, ◌∙◌, arith}
 use Rattle.std.specs.List.{AllByRecursion}
-use Rattle.std.proofs.lemmas.Bool.Decides.{nat_tests}
 use Rattle.tc_address.specs.declared.count.Count.{Count}
 use Rattle.tc_address.specs.declared.count.Count.TheVariants.{C24, C25, C30, Drop30}
 use Rattle.tc_address.specs.Count.{rate_of, system_with}
@@ -9,6 +8,7 @@ use Rattle.tc_address.specs.Circle.{moved}
 use Rattle.tc_address.specs.DropFrame.{dropped_before}
 use Rattle.tc_address.specs.KnownLabels.{AreApart, AreNumbered}
 use Rattle.tc_address.specs.Label.{Address, address, IsLabel, is_label}
+use Rattle.tc_address.specs.LabelLemmas.{label_by_test}
 use Rattle.tc_address.specs.Numbering.{day_length, number_of, step}
 use Rattle.tc_address.proofs.AroundTheDay.{moved-below}
 use Rattle.tc_address.proofs.DroppedLabels.{dropped_below, frame_of_day, label_with, place, place_of, place_by_tens}
@@ -27,16 +27,6 @@ pub number_by_digits : (a : Address) → IsLabel a → number_of a + dropped_bef
 number_by_digits a l =
     ap (λ n. n + dropped_before a.count (60 * a.hours + a.minutes)) (number_of_place a l)
     ∙ place_by_digits a.count a.hours a.minutes a.seconds a.frames l
-
--- an address that passes the test is a label
-label_by_test : (a : Address) → is_label a ≡ true → IsLabel a
-label_by_test a e = record {
-  hours = grind (arith, nat_tests);
-  minutes = grind (arith, nat_tests);
-  seconds = grind (arith, nat_tests);
-  frames = grind (arith, nat_tests);
-  counted = grind (arith, nat_tests);
-}
 
 -- the label that a step leads to, by arithmetic
 abbrev stepped : Address → ℤ → Address
