@@ -22,6 +22,8 @@
 //! Read `output`, `engine`, `running`, `inlet`, `outlet`, `halt`, `making`, `piece`, `input_fault`, `stop`, `status` and `notes`.
 #![tactic(auto)]
 
+mod between;
+mod command;
 mod engine;
 mod halt;
 mod inlet;
@@ -35,7 +37,10 @@ mod piece;
 mod running;
 mod status;
 mod stop;
+mod way;
 
+pub use between::work;
+pub use command::Command;
 pub use engine::Engine;
 pub use halt::Halt;
 pub use inlet::{KEPT, PULLED};
@@ -47,3 +52,4 @@ pub use piece::{PIECE, Piece, put_interval};
 pub use running::{run, run_behind};
 pub use status::Status;
 pub use stop::Stop;
+pub use way::Way;
