@@ -5,7 +5,7 @@ ghost use Rattle.tc_command.specs.Worked.{IsWorked};
 
 use crate::command::Command;
 use crate::engine::Engine;
-use crate::making::{Maker, make};
+use crate::making::{Maker, give_all, give_text};
 use crate::running::run_behind;
 use crate::stop::Stop;
 use crate::way::Way;
@@ -41,7 +41,11 @@ impl<S: Source, K: Sink> Way for Between<'_, '_, S, K> {
     }
 
     fn make<M: Maker>(&mut self, maker: &mut M) -> Result<(), Stop> {
-        make(maker, self.source, self.out)
+        give_all(maker, self.out)
+    }
+
+    fn write(&mut self, bytes: &[u8]) -> Result<(), Stop> {
+        give_text(bytes, self.out)
     }
 }
 

@@ -8,7 +8,7 @@ ghost use Rattle.tc_command.specs.Causes.{HasOutCause};
 ghost use Rattle.tc_command.specs.Meaning.{writes};
 ghost use Rattle.tc_command.specs.Worked.{IsWorked};
 
-use crate::piece::Piece;
+use crate::piece::{PIECE, Piece};
 use crate::stop::Stop;
 use tc_io::{Sink, Source, push_all};
 
@@ -51,6 +51,22 @@ pub fn give_all<M: Maker, K: Sink>(maker: &mut M, out: &mut K) -> Result<(), Sto
     'pieces: while maker.give(&mut room) {
         push_piece(out, room.as_slice())?;
         room.clear();
+    }
+    Ok(())
+}
+
+/// Pushes a text, piece by piece.
+pub(crate) fn give_text<K: Sink>(text: &[u8], out: &mut K) -> Result<(), Stop>
+    ensures all { OnOk result (Appends (K.written out.old) (K.written out.new) text.now) }
+    ensures front { OnErr result (AppendsFront (K.written out.old) (K.written out.new) text.now) }
+    ensures why { IfErr result (λ stop. stop ≡ Stop.WriteFault) }
+    ensures cause { HasOutCause (K.faults out.old) (K.faults out.new) result }
+{
+    let mut at = 0;
+    'pieces: while at < text.len() {
+        let end = text.len().min(at + PIECE);
+        push_piece(out, &text[at..end])?;
+        at = end;
     }
     Ok(())
 }

@@ -1,6 +1,6 @@
 //! What a command is worked along: the way from a source to a sink, neither of which it sees. Read next: `running`,
 //! and with what reads nothing `making`.
-ghost use Rattle.std.specs.Prelude.{◌≡◌, ◌≤◌, [], length, true, Result};
+ghost use Rattle.std.specs.Prelude.{◌≡◌, ℕ, ◌≤◌, List, [], length, true, Result};
 ghost use Rattle.tc_command.specs.declared.stop.Stop.{Stop};
 ghost use Rattle.tc_command.specs.Meaning.{Meaning, writes};
 
@@ -19,9 +19,14 @@ pub trait Way {
         requires going { E.is_going engine.old }
         requires new { E.stands engine.old [] first.now }
         requires reads { Meaning.reads (E.meaning (E.choice engine.old)) ≡ true }
-        ensures { worked (E.meaning (E.choice engine.old)) self.old self.new result };
+        ensures { (choice : E.Choice) → E.choice engine.old ≡ choice
+            → worked (E.meaning choice) self.old self.new result };
 
-    /// Writes the whole output of a command that reads nothing, and pulls nothing.
+    /// Writes the whole output of a command that reads nothing, piece by piece. It pulls nothing.
     fn make<M: Maker>(&mut self, maker: &mut M) -> Result<(), Stop>
-        ensures { worked (writes (M.rest maker.old)) self.old self.new result };
+        ensures { (text : List ℕ) → M.rest maker.old ≡ text → worked (writes text) self.old self.new result };
+
+    /// The same of an output that is there as a whole.
+    fn write(&mut self, bytes: &[u8]) -> Result<(), Stop>
+        ensures { (text : List ℕ) → bytes.now ≡ text → worked (writes text) self.old self.new result };
 }
