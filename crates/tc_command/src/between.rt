@@ -6,7 +6,7 @@ ghost use Rattle.tc_command.specs.Worked.{IsWorked};
 use crate::command::Command;
 use crate::engine::Engine;
 use crate::making::{Maker, give_all, give_text};
-use crate::running::run_behind;
+use crate::running::run;
 use crate::stop::Stop;
 use crate::way::Way;
 use tc_io::{Sink, Source};
@@ -37,7 +37,7 @@ impl<S: Source, K: Sink> Way for Between<'_, '_, S, K> {
         before.out.now after.out.now result };
 
     fn read<E: Engine>(&mut self, first: &[u8], engine: &mut E) -> Result<(), Stop> {
-        run_behind(first, engine, self.source, self.out)
+        run(first, engine, self.source, self.out)
     }
 
     fn make<M: Maker>(&mut self, maker: &mut M) -> Result<(), Stop> {

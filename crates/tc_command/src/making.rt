@@ -5,12 +5,10 @@ ghost use Rattle.std.specs.Io.KnownBytes.{Appends};
 ghost use Rattle.tc_io.specs.Sink.{AppendsFront};
 ghost use Rattle.tc_io.specs.Bytes.{AreBytes};
 ghost use Rattle.tc_command.specs.Causes.{HasOutCause};
-ghost use Rattle.tc_command.specs.Meaning.{writes};
-ghost use Rattle.tc_command.specs.Worked.{IsWorked};
 
 use crate::piece::{PIECE, Piece};
 use crate::stop::Stop;
-use tc_io::{Sink, Source, push_all};
+use tc_io::{Sink, push_all};
 
 /// A command that reads nothing, and has some of its output still to give.
 pub trait Maker {
@@ -26,18 +24,6 @@ pub trait Maker {
         ensures given { rest self.old ≡ room.new.items ++ rest self.new }
         ensures more { result ≡ true → pieces self.new < pieces self.old }
         ensures all { result ≡ false → rest self.old ≡ [] };
-}
-
-/// Gives the whole output, and pulls nothing.
-pub fn make<M: Maker, S: Source, K: Sink>(
-    maker: &mut M,
-    source: &mut S,
-    out: &mut K,
-) -> Result<(), Stop>
-    ensures { IsWorked (writes (M.rest maker.old)) S.left S.ends S.faults K.written K.faults
-        source.old source.new out.old out.new result }
-{
-    give_all(maker, out)
 }
 
 /// Pushes each piece.

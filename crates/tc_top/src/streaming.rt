@@ -13,7 +13,7 @@ ghost use Rattle.tc_command.specs.Told.{IsLawful, IsTold, WorksAsTold};
 ghost use Rattle.tc_top.specs.Commands.{meaning_of, told_of};
 
 use crate::reading_on::it_is_read_on;
-use biphase::Profile;
+use biphase::Profile::{Normal, Rough, Worn};
 use column_command::Columns;
 use frame_commands::{LtcChase, LtcFly, LtcJam, LtcMtc, LtcSpans};
 use interval_commands::{LtcConsecutive, LtcConvert, LtcFirm, LtcPcm, LtcRead};
@@ -24,7 +24,8 @@ use made_commands::{
 use signal_commands::{LumaVitc, MtcRead, PcmLtc, PcmPath, VitcRead, WavLtc, WavPath};
 use tc_command::{Command, Status, Stop, push_note, stop_note, work};
 use tc_io::{Sink, Source};
-use tc_job::{Job, Witness};
+use tc_job::Job;
+use tc_job::Witness::{Asked, Consecutive, NotAsked};
 
 /// Works a job along its input, in fixed memory. It never answers `Usage` or `Memory`.
 pub fn stream<S: Source, K: Sink, N: Sink>(
@@ -113,47 +114,13 @@ fn work_on<S: Source, K: Sink>(job: &Job, source: &mut S, out: &mut K) -> Result
         out.old out.new result }
 {
     match job {
-        Job::LtcRead => work(
-            &LtcRead {
-                profile: Profile::Normal,
-            },
-            source,
-            out,
-        ),
-        Job::LtcWorn => work(
-            &LtcRead {
-                profile: Profile::Worn,
-            },
-            source,
-            out,
-        ),
+        Job::LtcRead => work(&LtcRead { profile: Normal }, source, out),
+        Job::LtcWorn => work(&LtcRead { profile: Worn }, source, out),
+        Job::LtcRough { witness: NotAsked } => work(&LtcRead { profile: Rough }, source, out),
+        Job::LtcRough { witness: Asked } => work(&LtcFirm { profile: Rough }, source, out),
         Job::LtcRough {
-            witness: Witness::NotAsked,
-        } => work(
-            &LtcRead {
-                profile: Profile::Rough,
-            },
-            source,
-            out,
-        ),
-        Job::LtcRough {
-            witness: Witness::Asked,
-        } => work(
-            &LtcFirm {
-                profile: Profile::Rough,
-            },
-            source,
-            out,
-        ),
-        Job::LtcRough {
-            witness: Witness::Consecutive,
-        } => work(
-            &LtcConsecutive {
-                profile: Profile::Rough,
-            },
-            source,
-            out,
-        ),
+            witness: Consecutive,
+        } => work(&LtcConsecutive { profile: Rough }, source, out),
         Job::LtcFly { flight } => work(&LtcFly { flight: *flight }, source, out),
         Job::LtcSpans { flight } => work(&LtcSpans { flight: *flight }, source, out),
         Job::LtcMtc { flight } => work(&LtcMtc { flight: *flight }, source, out),

@@ -1,4 +1,4 @@
-use Rattle.std.proofs.Common.{refl, subst}
+use Rattle.std.proofs.Common.{refl}
 use Rattle.tc_command.proofs.WorkedSo.{text_worked}
 use Rattle.tc_command.proofs.between.BetweenWay.make.Goals as goal
 
