@@ -8,7 +8,7 @@ ghost use Rattle.line_file.specs.KeptPieces.{is_run_count};
 ghost use Rattle.line_file.specs.LineHeader.{IsHeader};
 ghost use Rattle.line_file.specs.declared.found.Found.TheVariants as things;
 
-use crate::fault::LineFileFault;
+use file_faults::LineFileFault;
 use crate::found::Found;
 use crate::header::LineHeader;
 use byteorder::{BigEndian, ByteOrder};

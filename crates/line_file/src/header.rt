@@ -6,7 +6,7 @@ ghost use Rattle.line_file.specs.KeptPieces.{is_line_length};
 ghost use Rattle.line_file.specs.LineFile.{whole};
 ghost use Rattle.line_file.specs.LineHeader.{IsHeader, header_bytes, system_at};
 
-use crate::fault::LineFileFault;
+use file_faults::LineFileFault;
 use crate::found::Found;
 use byteorder::{BigEndian, ByteOrder};
 use tc_address::{System, rate};

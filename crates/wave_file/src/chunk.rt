@@ -4,7 +4,7 @@ ghost use Rattle.wave_file.specs.Chunk.{chunk_of, data_in, extent_of, form_of, i
 ghost use Rattle.wave_file.specs.Chunk.{IsChunkFor, IsNoted};
 ghost use Rattle.wave_file.specs.declared.format.Asked.{Asked};
 
-use crate::fault::WaveFault;
+use file_faults::WaveFault;
 use crate::format::{MIN_FORMAT_LENGTH, WaveFormat};
 
 /// `RIFF`, as a number.

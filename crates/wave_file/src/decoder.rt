@@ -13,7 +13,7 @@ ghost use Rattle.wave_file.specs.StandsFor.{AddsTaken, IsCut, IsTold, StandsFor,
 ghost use Rattle.wave_file.specs.Wave.{end_fault_of, reading_of};
 
 use crate::chunk::{Extent, Notes};
-use crate::fault::WaveFault;
+use file_faults::WaveFault;
 use crate::format::{Asked, WaveFormat};
 use crate::sample::sample_in;
 use crate::stage::{

@@ -3,7 +3,7 @@ ghost use Rattle.std.specs.Prelude.{◌≡◌, ◌≤◌, ◌^◌, ◌<◌, ◌+
 ghost use Rattle.wave_file.specs.Format.{field_fault, format_in, format_of, is_pcm};
 ghost use Rattle.wave_file.specs.Format.{is_sample_size, is_track_count, is_rate, IsAsked, IsTakenFor};
 
-use crate::fault::WaveFault;
+use file_faults::WaveFault;
 use byteorder::{ByteOrder, LittleEndian};
 use limits::MAX_TRACKS;
 

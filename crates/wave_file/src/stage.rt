@@ -12,7 +12,7 @@ ghost use Rattle.wave_file.specs.declared.chunk.Notes.{Notes};
 ghost use Rattle.wave_file.specs.declared.format.Asked.{Asked};
 
 use crate::chunk::{Chunk, Extent, Notes, SIZES_LENGTH, WAVE, chunk_of, form_of};
-use crate::fault::WaveFault;
+use file_faults::WaveFault;
 use crate::format::{Asked, FORMAT_LENGTH, WaveFormat, format_in};
 use byteorder::{BigEndian, ByteOrder, LittleEndian};
 
