@@ -2,9 +2,9 @@
 //! source and a sink, and how it ends.
 //!
 //! A command that reads is an `Engine`: it takes what was pulled, and writes to an `Output` that cannot fail. `run`
-//! pulls its input to the end, keeps the few bytes that a pull cuts off from what they belong to, and pushes what it
-//! wrote; there alone a pull or a push may fail. A command that
-//! reads nothing is a `Maker`, whose output `make` pushes piece by piece. Both run in fixed memory.
+//! pulls its input to the end, keeps the bytes that a pull cuts off from what they belong to, and pushes what it wrote;
+//! there alone a pull or a push may fail. A command that reads nothing is a `Maker`, whose output `make` pushes piece
+//! by piece. Both run in fixed memory.
 //!
 //! What this crate promises, for all sources and sinks:
 //! - What a command takes and writes is its `Meaning` (`specs/Meaning.antt`), and a run of it has come to

@@ -1,4 +1,4 @@
-use Rattle.std.proofs.Common.{◌≡◌, [], true, false, ℕ, List, ap, append-nil, arith, sym, subst, ◌∙◌, Some}
+use Rattle.std.proofs.Common.{[], true, false, ℕ, ap, append-nil, arith, sym, subst, ◌∙◌, Some}
 use Rattle.wave_file.specs.declared.fault.WaveFault.TheVariants as fault
 use Rattle.wave_file.specs.StandsFor.{Decoding, StandsFor}
 use Rattle.wave_file.specs.Wave.{end_fault_of}
