@@ -5,8 +5,8 @@ use Rattle.std.proofs.Common.{length, take, drop, refl, sym, ap, ◌∙◌, arit
 use Rattle.std.specs.Prelude.{if◌then◌else◌, is_some}
 use Rattle.std.specs.declared.option.Option.{Option}
 use Rattle.std.proofs.lemmas.List.{length-append, length-take-le, drop_at}
-use Rattle.line_file.specs.declared.fault.LineFileFault.{LineFileFault}
-use Rattle.line_file.specs.declared.fault.LineFileFault.TheVariants as fault
+use Rattle.file_faults.specs.declared.lines.LineFileFault.{LineFileFault}
+use Rattle.file_faults.specs.declared.lines.LineFileFault.TheVariants as fault
 use Rattle.tc_io.specs.Verdict.{Verdict, good, refused, past_limit}
 use Rattle.vitc_reader.specs.declared.field.FieldAnswer.{FieldAnswer}
 use Rattle.vitc_reader.specs.Field.{IsAnswer}

@@ -4,9 +4,9 @@ ghost use Rattle.vitc_reader.specs.declared.field.FieldAnswer.{FieldAnswer};
 ghost use Rattle.line_file.specs.LineFile.{end_fault_of};
 ghost use Rattle.line_file.specs.StandsFor.{StandsFor, no_decoding, AddsTaken, FitsFields, IsCut, StopsAt};
 
-use crate::fault::LineFileFault;
 use crate::field::{FoundField, field_in};
 use crate::header::{FoundHeader, HEADER_LENGTH, LineHeader, header_in};
+use file_faults::LineFileFault;
 use std::marker::Model;
 use vitc_reader::FieldAnswer;
 

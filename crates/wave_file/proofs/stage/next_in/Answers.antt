@@ -1,4 +1,4 @@
-use Rattle.std.proofs.Common.{◌-◌, arith}
+use Rattle.std.proofs.Common.{◌-◌, arith, ap, sym, ◌∙◌}
 use Rattle.std.proofs.lemmas.Bool.{ne_eqb}
 use Rattle.wave_file.proofs.Pieces.{chunk_passed}
 use Rattle.wave_file.proofs.stage.next_in.Goals as goal
