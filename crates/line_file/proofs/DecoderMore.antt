@@ -1,10 +1,10 @@
 -- A decoder that takes a header or a field stands for the bytes with those that it took; and what is told where it
 -- takes none.
 use Rattle.std.proofs.Common.{true, false, ◌≡◌, ℕ, zero, suc, ◌+◌, ◌-◌, ◌<◌, ◌≤◌, Bool, List, [], ◌∷◌, ◌++◌, Some, None}
-use Rattle.std.proofs.Common.{length, take, drop, refl, sym, ap, ◌∙◌, arith, subst, append_assoc, append-nil}
+use Rattle.std.proofs.Common.{length, take, refl, sym, ap, ◌∙◌, arith, subst, append_assoc, append-nil}
 use Rattle.std.specs.Prelude.{if◌then◌else◌, is_some}
 use Rattle.std.specs.declared.option.Option.{Option}
-use Rattle.std.proofs.lemmas.List.{length-append, length-take-le, drop_at}
+use Rattle.std.proofs.lemmas.List.{length-append, length-take-le}
 use Rattle.file_faults.specs.declared.lines.LineFileFault.{LineFileFault}
 use Rattle.file_faults.specs.declared.lines.LineFileFault.TheVariants as fault
 use Rattle.tc_io.specs.Verdict.{Verdict, good, refused, past_limit}
@@ -12,14 +12,13 @@ use Rattle.vitc_reader.specs.declared.field.FieldAnswer.{FieldAnswer}
 use Rattle.vitc_reader.specs.Field.{IsAnswer}
 use Rattle.line_file.specs.declared.decoder.TheConstants.{FIELD_ROOM, MAX_FIELDS}
 use Rattle.line_file.specs.declared.header.LineHeader.{LineHeader}
-use Rattle.line_file.specs.declared.header.TheConstants.{HEADER_LENGTH}
 use Rattle.line_file.specs.Answers.{AreAnswers}
 use Rattle.line_file.specs.LineFile.{Front, whole, short, bad, header_at, field_at, Fields, field_then, fields_at}
 use Rattle.line_file.specs.LineFile.{Reading, behind_header, end_fault_of, reading_of}
 use Rattle.line_file.specs.KeptPieces.{field_width, no_field, no_header, with_field, with_fields}
 use Rattle.line_file.specs.StandsFor.{decoding_of, Adds, IsShort, IsTold, StandsFor}
 use Rattle.line_file.proofs.FieldByField.{fields_by, fields_behind}
-use Rattle.line_file.proofs.HeaderBytes.{own_header, short_header, whole_header}
+use Rattle.line_file.proofs.HeaderBytes.{short_header}
 use Rattle.line_file.proofs.OwnBytes.{own_field, short_field}
 
 -- ---- what is taken
@@ -69,34 +68,6 @@ field_added header place count bytes lines answer room read says =
       };
     }
 
--- the header
-pub header_added : (count : ℕ) (bytes : List ℕ) (header : LineHeader) → header_at bytes ≡ whole header
-    → Adds (decoding_of None 0 count) (decoding_of (Some header) HEADER_LENGTH count) bytes HEADER_LENGTH []
-header_added count bytes header read =
-    let within = whole_header bytes header read in
-    let piece = take 12 bytes in
-    let size : length piece ≡ 12 = length-take-le 12 bytes within in
-    record {
-      some = omega arith;
-      within = within;
-      taken = refl;
-      fields = omega arith;
-      stands = λ front answers s.
-          let number : count ≡ 0 = s.count ∙ ap length s.answered.0 in
-          let left : MAX_FIELDS - count ≡ MAX_FIELDS = omega (arith, number) in
-          record {
-            fields = [];
-            place = omega (arith, s.place, size, length-append front piece);
-            count = number;
-            follows = λ more.
-                let gone : drop HEADER_LENGTH (piece ++ more) ≡ more = drop_at piece more 12 size in
-                rw left (ap reading_of (append_assoc front piece more) ∙ s.follows (piece ++ more)
-                ∙ ap (λ (v : Front LineHeader). behind_header v (piece ++ more)) (own_header bytes more header read)
-                ∙ ap (λ (l : List ℕ). with_fields header [] (fields_at MAX_FIELDS HEADER_LENGTH l)) gone);
-            answered = rw s.answered.1 tt;
-          };
-    }
-
 -- ---- what is told
 
 -- bytes in which no field is whole
@@ -123,13 +94,7 @@ told_first place count front bytes answers verdict v s is ends =
     subst (λ (r : Reading). IsTold r verdict answers)
     (sym (s.follows bytes ∙ ap (λ (v : Front LineHeader). behind_header v bytes) is ∙ ends)) (refl, s.answered.1)
 
--- a fault of the header, or of a field
-pub header_fault : (place count : ℕ) (front bytes : List ℕ) (answers : List FieldAnswer) (f : LineFileFault)
-    → StandsFor (decoding_of None place count) front answers → header_at bytes ≡ bad f
-    → IsTold (reading_of (front ++ bytes)) (refused f) answers
-header_fault place count front bytes answers f s is =
-    told_first place count front bytes answers (refused f) (bad f) s is refl
-
+-- a fault of a field
 pub field_fault : (header : LineHeader) (place count : ℕ) (front bytes : List ℕ) (answers : List FieldAnswer)
     (f : LineFileFault) → count < MAX_FIELDS → 1 ≤ length bytes
     → StandsFor (decoding_of (Some header) place count) front answers → field_at place bytes ≡ bad f
