@@ -55,31 +55,31 @@ pub record MayTellFrom (r : ReaderState) (brought : Brought) (from : ℕ) : Type
 -- a reader that asks each word for a witness
 abbrev pub reading_of_firm : FirmState → ReadingState
 reading_of_firm r = record {
-  system = r.system;
-  profile = profile_of r.tracker;
-  count = r.intervals;
-  tick = r.tick;
+  system = r.reader.system;
+  profile = profile_of r.reader.tracker;
+  count = r.reader.intervals;
+  tick = r.reader.tick;
   until = told_until r;
   stands = λ intervals told. FirmStandsFor r intervals told;
 }
 
 -- this may be told, in turn from a tick on
 pub record MayTellFirmFrom (r : FirmState) (told : FirmEvents) (from : ℕ) : Type 0 where
-  pub brings : FirmBrings r.intervals r.tick told
+  pub brings : FirmBrings r.reader.intervals r.reader.tick told
   pub in_turn : DoNotFall from (map told_tick (firm_list told)) (told_until r)
 
 -- a reader of consecutive words
 abbrev pub reading_of_consecutive : ConsecutiveState → ReadingState
 reading_of_consecutive r = record {
-  system = r.reader.system;
-  profile = profile_of r.reader.tracker;
-  count = r.reader.intervals;
-  tick = r.reader.tick;
+  system = r.reader.reader.system;
+  profile = profile_of r.reader.reader.tracker;
+  count = r.reader.reader.intervals;
+  tick = r.reader.reader.tick;
   until = consecutive_until r;
   stands = λ intervals told. ConsecutiveStandsFor r intervals told;
 }
 
 -- this may be told, in turn from a tick on
 pub record MayTellConsecutiveFrom (r : ConsecutiveState) (told : ConsecutiveEvents) (from : ℕ) : Type 0 where
-  pub brings : ConsecutiveBrings r.reader.intervals r.reader.tick told
+  pub brings : ConsecutiveBrings r.reader.reader.intervals r.reader.reader.tick told
   pub in_turn : DoNotFall from (map told_tick (consecutive_list told)) (consecutive_until r)

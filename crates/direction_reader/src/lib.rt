@@ -56,7 +56,6 @@ mod consecutive;
 mod consecutive_event;
 pub mod consecutive_laws;
 mod event;
-mod firm_cells;
 mod firm_event;
 pub mod firm_laws;
 mod firm_reader;
