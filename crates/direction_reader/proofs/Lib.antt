@@ -54,5 +54,11 @@ pub mod WordsByEnd
 pub mod WordsEnd
 pub mod WordsAreRead
 pub mod WrittenOver
+pub mod CountedFronts
+pub mod CountedLists
+pub mod CountedNeighbours
+pub mod CountedSlots
+pub mod CountedTicks
+mod CountedExamples
 mod NextExamples
 mod RoughAlone
