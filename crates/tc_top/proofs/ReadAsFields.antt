@@ -2,7 +2,7 @@
 use Rattle.std.proofs.Common.{◌≡◌, ℕ, List, None, ap, subst, ◌∙◌}
 use Rattle.std.specs.Option.{option_map}
 use Rattle.std.specs.Prelude.{if◌then◌else◌, length, Some}
-use Rattle.line_file.specs.declared.fault.LineFileFault.TheVariants as fault
+use Rattle.file_faults.specs.declared.lines.LineFileFault.TheVariants as fault
 use Rattle.line_file.specs.Answers.{AreAnswersOf}
 use Rattle.line_file.specs.LineFile.{reading_of, Reading}
 use Rattle.signal_commands.specs.LumaVitc.{along_pixels, told_luma_vitc, ReadsThePixels}

@@ -12,7 +12,7 @@ use Rattle.wave_file.specs.declared.stage.Stage.TheVariants.{Riff, Wave, Chunk, 
 use Rattle.wave_file.specs.declared.chunk.Extent.TheVariants.{Announced, Open}
 use Rattle.byteorder.specs.Endian.{big_number, little_number}
 use Rattle.wave_file.specs.declared.chunk.TheConstants.{WAVE}
-use Rattle.wave_file.specs.declared.fault.WaveFault.TheVariants as fault
+use Rattle.file_faults.specs.declared.sound.WaveFault.TheVariants as fault
 use Rattle.wave_file.specs.Chunk.{form_of, no_notes}
 use Rattle.wave_file.specs.Format.{format_in, samples_at}
 use Rattle.wave_file.specs.Stage.{at, format_at_stage, width_of}

@@ -16,8 +16,8 @@ use Rattle.wave_file.specs.declared.chunk.Extent.TheVariants.{Announced, Open}
 use Rattle.wave_file.specs.declared.chunk.Notes.{Notes}
 use Rattle.wave_file.specs.declared.chunk.TheConstants.{RIFF, RF64, BW64, WAVE, FORMAT, SIZES, DATA, NO_SIZE}
 use Rattle.wave_file.specs.declared.chunk.TheConstants.{LEAST_OPEN_SIZE}
-use Rattle.wave_file.specs.declared.fault.WaveFault.{WaveFault}
-use Rattle.wave_file.specs.declared.fault.WaveFault.TheVariants as fault
+use Rattle.file_faults.specs.declared.sound.WaveFault.{WaveFault}
+use Rattle.file_faults.specs.declared.sound.WaveFault.TheVariants as fault
 use Rattle.wave_file.specs.declared.format.WaveFormat.{WaveFormat}
 use Rattle.wave_file.specs.Chunk.{chunk_of, extent_of, form_of, is_open, long_extent, no_notes}
 use Rattle.wave_file.specs.Format.{field_fault, format_in, format_of, is_pcm, is_rate, is_sample_size, is_track_count}

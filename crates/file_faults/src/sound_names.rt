@@ -1,4 +1,4 @@
-//! The names of the faults, as notes print them.
+//! The names of the faults of a sound file, as notes print them.
 
 /// The name of `WaveFault::Riff`.
 pub(crate) const RIFF_NAME: &str = "riff";

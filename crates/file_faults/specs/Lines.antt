@@ -1,9 +1,9 @@
 -- The faults of a line file: the name of each in notes, and its byte place.
 use Rattle.std.specs.Prelude.{ℕ, List}
-use Rattle.line_file.specs.declared.names.TheConstants as names
-use Rattle.line_file.specs.declared.fault.LineFileFault.{LineFileFault}
-use Rattle.line_file.specs.declared.fault.LineFileFault.TheVariants.{Magic, Version, System, Reserved, LineLength}
-use Rattle.line_file.specs.declared.fault.LineFileFault.TheVariants.{LineCount, RunCount, Run, Truncated}
+use Rattle.file_faults.specs.declared.line_names.TheConstants as names
+use Rattle.file_faults.specs.declared.lines.LineFileFault.{LineFileFault}
+use Rattle.file_faults.specs.declared.lines.LineFileFault.TheVariants.{Magic, Version, System, Reserved, LineLength}
+use Rattle.file_faults.specs.declared.lines.LineFileFault.TheVariants.{LineCount, RunCount, Run, Truncated}
 
 -- the name that notes print
 abbrev pub name_of : LineFileFault → List ℕ

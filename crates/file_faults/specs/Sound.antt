@@ -1,9 +1,9 @@
 -- The name and the place of a fault.
 use Rattle.std.specs.Prelude.{ℕ, List}
-use Rattle.wave_file.specs.declared.fault.WaveFault.{WaveFault}
-use Rattle.wave_file.specs.declared.fault.WaveFault.TheVariants.{Riff, Wave, Ds64, Format, Track, Truncated}
-use Rattle.wave_file.specs.declared.names.TheConstants.{RIFF_NAME, WAVE_NAME, DS64_NAME, FORMAT_NAME, TRACK_NAME}
-use Rattle.wave_file.specs.declared.names.TheConstants.{TRUNCATED_NAME}
+use Rattle.file_faults.specs.declared.sound.WaveFault.{WaveFault}
+use Rattle.file_faults.specs.declared.sound.WaveFault.TheVariants.{Riff, Wave, Ds64, Format, Track, Truncated}
+use Rattle.file_faults.specs.declared.sound_names.TheConstants.{RIFF_NAME, WAVE_NAME, DS64_NAME, FORMAT_NAME, TRACK_NAME}
+use Rattle.file_faults.specs.declared.sound_names.TheConstants.{TRUNCATED_NAME}
 
 -- the name under which notes print a fault
 abbrev pub name_of : WaveFault → List ℕ

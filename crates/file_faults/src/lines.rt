@@ -1,7 +1,7 @@
-//! The faults of a line file. Read next: `names`.
+//! The faults of a line file. Read next: `line_names`.
 ghost use Rattle.std.specs.Prelude.{◌≡◌};
 
-use crate::names;
+use crate::line_names as names;
 use std::error::Error;
 use std::fmt;
 
@@ -30,7 +30,7 @@ pub enum LineFileFault {
 
 impl fmt::Display for LineFileFault {
     ghost use Rattle.std.specs.Prelude.{Some};
-    ghost use Rattle.line_file.specs.Fault.{name_of};
+    ghost use Rattle.file_faults.specs.Lines.{name_of};
 
     ghost output = { λ fault. Some (name_of fault) };
 
@@ -42,7 +42,7 @@ impl fmt::Display for LineFileFault {
 impl Error for LineFileFault {}
 
 impl LineFileFault {
-    ghost use Rattle.line_file.specs.Fault.{name_of, place_of};
+    ghost use Rattle.file_faults.specs.Lines.{name_of, place_of};
 
     /// The name under which notes print the fault.
     pub fn name(self) -> &'static str

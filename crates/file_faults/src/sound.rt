@@ -1,8 +1,8 @@
-//! The faults of a sound file. Read next: `names`.
+//! The faults of a sound file. Read next: `sound_names`.
 ghost use Rattle.std.specs.Prelude.{◌≡◌};
-ghost use Rattle.wave_file.specs.Fault.{name_of, place_of};
+ghost use Rattle.file_faults.specs.Sound.{name_of, place_of};
 
-use crate::names;
+use crate::sound_names as names;
 use std::error::Error;
 use std::fmt;
 
@@ -26,7 +26,7 @@ pub enum WaveFault {
 
 impl fmt::Display for WaveFault {
     ghost use Rattle.std.specs.Prelude.{Some};
-    ghost use Rattle.wave_file.specs.Fault.{name_of};
+    ghost use Rattle.file_faults.specs.Sound.{name_of};
 
     ghost output = { λ fault. Some (name_of fault) };
 
