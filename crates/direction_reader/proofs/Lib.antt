@@ -9,7 +9,6 @@ pub mod EventsExist
 pub mod EventsJoin
 pub mod Examples
 pub mod FindsTheTape
-pub mod FirmAdds
 pub mod FirmJudges
 pub mod FirmKept
 pub mod FirmPlayed
@@ -18,7 +17,6 @@ pub mod FirmTicks
 pub mod FirmWindows
 pub mod FrontsFirst
 pub mod InOrder
-pub mod InSync
 pub mod LaterEvents
 pub mod KnownByReader
 pub mod KnownCells
@@ -35,6 +33,7 @@ pub mod OneList
 pub mod OneListOfEvents
 pub mod OneWaits
 pub mod ReaderSteps
+pub mod SameStretches
 pub mod TellsTheTape
 pub mod SyncInTime
 pub mod SyncsApart
