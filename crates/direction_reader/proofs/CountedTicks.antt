@@ -20,7 +20,7 @@ use Rattle.direction_reader.specs.CountedTold.{told_without, undecided, until_he
 use Rattle.direction_reader.specs.Events.{event_list, listed, tick_of}
 use Rattle.direction_reader.specs.Firm.{judged, told_tick, DoNotFall}
 use Rattle.direction_reader.specs.FirmReader.{IsToldBy}
-use Rattle.direction_reader.proofs.FirmAdds.{in_turn_append}
+use Rattle.direction_reader.proofs.InOrder.{in_turn_append}
 
 -- ---- what is told of an event
 

@@ -193,7 +193,8 @@ sync_behind cells start ends many =
 each_way : (f b : Event) (x y : Bool) → is_played Forward f ≡ true → is_played Backward f ≡ false
     → is_played Forward b ≡ false → is_played Backward b ≡ true → (own : Events)
     → event_list own ≡ (if x then f ∷ [] else []) ++ (if y then b ∷ [] else [])
-    → (listed (played Forward own) ≡ (if x then f ∷ [] else [])) × (listed (played Backward own) ≡ (if y then b ∷ [] else []))
+    → (listed (played Forward own) ≡ (if x then f ∷ [] else []))
+    × (listed (played Backward own) ≡ (if y then b ∷ [] else []))
 each_way f b true true ff fb bf bb own are = rw (are, ff, fb, bb) (refl, refl)
 each_way f b true false ff fb bf bb own are = rw (are, ff, fb) (refl, refl)
 each_way f b false true ff fb bf bb own are = rw (are, bf, bb) (refl, refl)

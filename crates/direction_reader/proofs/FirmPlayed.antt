@@ -97,15 +97,6 @@ there cells p i list are =
     are) in
     number_is cells (p + i) ∙ ap (λ (l : List Bool). number_of (take 80 l)) (sym (drop-drop i p (bits cells)) ∙ same)
 
--- sixteen cells there
-sixteen_there : (cells : List Cell) (p i : ℕ) (list : List Bool) → bits (drop p cells) ≡ list
-    → bits_in (take 16 (drop (p + i) cells)) ≡ number_of (take 16 (drop i list))
-sixteen_there cells p i list are =
-    let same : drop i (drop p (bits cells)) ≡ drop i list = ap (λ (l : List Bool). drop i l) (drop-map bit_of p cells ∙
-    are) in
-    cells_number cells 16 (p + i) ∙ ap (λ (l : List Bool). number_of (take 16 l)) (sym (drop-drop i p (bits cells))
-    ∙ same)
-
 next_are : (cells : List Cell) (w : Played) (more : List Played) (p : ℕ)
     → bits (drop p cells) ≡ bits_of_words (w ∷ more)
     → bits (drop (p + 80) cells) ≡ bits_of_words more
@@ -206,10 +197,6 @@ word_window laws cells w more p are lt =
     let g : p + 0 ≡ p = omega arith in
     rw g at (there cells p 0 (bits_of_words (w ∷ more)) are)
     ∙ window_is laws w.direction (spelling_of w.word) (bits_of_words more) lt
-
--- a later place: the word is not the last one
-has_next : (more : List Played) (i : ℕ) → 0 < i → i + 80 ≤ 80 * (1 + length more) → 0 < length more
-has_next more i some within = omega arith
 
 abbrev CellsAre : List Cell → ℕ → List Played → Type 0
 CellsAre cells p words = bits (drop p cells) ≡ bits_of_words words

@@ -1,5 +1,5 @@
--- What an interval does to the stretches decides how the judge goes on from a list, with what is told of it, to the list
--- with one interval more: the reader of all words stands for its stretches, and a list has one list of them.
+-- What an interval does to the stretches decides how the judge goes on from a list, with what is told of it, to the
+-- list with one interval more.
 use Rattle.std.proofs.Common.{◌≡◌, ◌≤◌, ℕ, ◌+◌, ◌-◌, List, [], ◌∷◌, ◌++◌, length, take, sum, map, ap, ap₂, sym}
 use Rattle.std.proofs.Common.{◌∙◌, arith, refl, subst, append-nil, append_assoc, Some, None, Option, Bool, false}
 use Rattle.std.proofs.Common.{◌⊎◌, inl, inr, length-append}
@@ -29,7 +29,7 @@ use Rattle.direction_reader.specs.FirmKnown.{Known, all_sure, known_of, known_of
 use Rattle.direction_reader.specs.FirmReader.{FirmState, FirmOpen, FirmLatest, FirmStandsFor}
 use Rattle.direction_reader.specs.FirmStandsFor.{beside_of, WaitsFor}
 use Rattle.direction_reader.specs.FirmStep.{ended, firm_list, firm_listed, heard_events}
-use Rattle.direction_reader.specs.Events.{played}
+use Rattle.direction_reader.specs.Events.{no_events, played}
 use Rattle.std.specs.Option.{option_map}
 use Rattle.direction_reader.specs.Gathered.{begin_of}
 use Rattle.direction_reader.specs.LatestCells.{AreWindowEvents, StepBrings}
@@ -37,8 +37,6 @@ use Rattle.direction_reader.specs.ListEvents.{duration, break_events}
 use Rattle.direction_reader.specs.Reader.{ReaderState}
 use Rattle.direction_reader.specs.StandsFor.{IsAtCell, LatestStandsFor, MayBreak, OpenStandsFor, StandsAfter, StandsFor}
 use Rattle.direction_reader.specs.StandsFor.{TrackerStandsFor, waiting}
-use Rattle.direction_reader.specs.Tracking.{Tracking}
-use Rattle.direction_reader.specs.Tracking.{AtCell, MidCell, Hunting}
 use Rattle.direction_reader.proofs.AsLists.{StandThere}
 use Rattle.direction_reader.proofs.EventsJoin.{begin_stays}
 use Rattle.direction_reader.proofs.FirmKept.{all_found, beside_more, firm_before, sync_behind}
@@ -46,36 +44,8 @@ use Rattle.direction_reader.proofs.KnownCells.{sure_append}
 use Rattle.direction_reader.proofs.KnownSteps.{end_stands, heard_stands}
 use Rattle.direction_reader.proofs.KnownStretches.{all_stay, broken_known}
 use Rattle.direction_reader.proofs.OneListOfEvents.{HasOneList}
+use Rattle.direction_reader.proofs.SameStretches.{same_stretches}
 use Rattle.direction_reader.proofs.SyncInTime.{WordLaws}
-
--- ---- one list of stretches
-
-same_last : (e f : List Stretch) (s t : Stretch) → e ++ s ∷ [] ≡ f ++ t ∷ [] → (e ≡ f) × (s ≡ t)
-same_last [] [] s t is = (refl, cc)
-same_last [] (v ∷ f) s t is = let count = ap length is in absurd (omega (arith, count, length-append f (t ∷ [])))
-same_last (u ∷ e) [] s t is = let count = ap length is in absurd (omega (arith, count, length-append e (s ∷ [])))
-same_last (u ∷ e) (v ∷ f) s t is =
-    let rest : e ++ s ∷ [] ≡ f ++ t ∷ [] = cc in
-    let first : u ≡ v = cc in
-    let more = same_last e f s t rest in
-    (ap₂ (λ (x : Stretch) (xs : List Stretch). x ∷ xs) first more.0, more.1)
-
--- a tracker stands for the stretches of a list in one way
-pub same_stretches : HasOneList → (t : Tracking) (l : List ℕ) (e f : List Stretch) (o p : Option Stretch)
-    → TrackerStandsFor t l e o → TrackerStandsFor t l f p → (f ≡ e) × (p ≡ o)
-same_stretches one (AtCell a) l e f None p is too = absurd is
-same_stretches one (AtCell a) l e f (Some s) None is too = absurd too
-same_stretches one (AtCell a) l e f (Some s) (Some t) is too =
-    let same = same_last f e t s (one a.profile l (f ++ t ∷ []) (e ++ s ∷ []) too.stretches_are is.stretches_are) in
-    (same.0, ap (λ (u : Stretch). Some u) same.1)
-same_stretches one (MidCell m) l e f None p is too = absurd is
-same_stretches one (MidCell m) l e f (Some s) None is too = absurd too
-same_stretches one (MidCell m) l e f (Some s) (Some t) is too =
-    let same = same_last f e t s (one m.profile l (f ++ t ∷ []) (e ++ s ∷ []) too.stretches_are is.stretches_are) in
-    (same.0, ap (λ (u : Stretch). Some u) same.1)
-same_stretches one (Hunting h) l e f (Some s) p is too = absurd is
-same_stretches one (Hunting h) l e f None (Some t) is too = absurd too
-same_stretches one (Hunting h) l e f None None is too = (one h.profile l f e too.stretches_are is.stretches_are, refl)
 
 -- ---- the stretches that were there
 
@@ -236,6 +206,20 @@ cell_told one laws there r n x l bit own told es system beside waits are stands
     goes_on r n x l told (firm_list (heard_events r.waits n.beside own).told) es system stands after same.0
     (rw same.1 (cell_heard laws there r n l (l ++ x ∷ []) s cell bit own after.latest stands.latest system is_bit beside
     waits are none (begin_stays l (x ∷ []) s within) open_now is))
+
+-- one that brings nothing, where no word waits
+pub quiet_cell : HasOneList → WordLaws → StandThere → (r n : FirmState) (x : ℕ) (l : List ℕ) (bit : Bool)
+    (told : List FirmEvent) (es : List Event) → n.reader.system ≡ r.reader.system
+    → n.beside ≡ beside_with r.beside bit → r.waits ≡ None → n.waits ≡ None
+    → AreWindowEvents n.reader.system n.reader.cells.bits n.reader.cells.boundaries n.reader.tick no_events
+    → (stands : FirmStandsFor r l told)
+    → StandsAfter r.reader.tracker n.reader.tracker x l stands.reader.earlier stands.reader.open_yet (Step.Cell bit)
+    → StandsFor n.reader (l ++ x ∷ []) es → FirmStandsFor n (l ++ x ∷ []) (told ++ [])
+quiet_cell one laws there r n x l bit told es system beside none still are stands is after =
+    let waits : n.waits ≡ (heard_events r.waits n.beside no_events).waiting = rw (still, none) refl in
+    subst (λ (w : Option Waiting). FirmStandsFor n (l ++ x ∷ []) (told
+    ++ firm_list (heard_events w n.beside no_events).told)) none
+    (cell_told one laws there r n x l bit no_events told es system beside waits are stands is after)
 
 -- ---- the stretch breaks
 

@@ -1,6 +1,6 @@
 -- The candidates of a window bear the tick at its end, and windows end one after another.
 use Rattle.std.proofs.Common.{◌≡◌, ◌≤◌, ◌⊎◌, ℕ, zero, suc, ◌+◌, Bool, true, false, List, [], ◌∷◌}
-use Rattle.std.proofs.Common.{take, drop, All, Option, Some, None}
+use Rattle.std.proofs.Common.{take, drop, All, IfSome, Option, Some, None}
 use Rattle.std.proofs.Common.{arith, refl, subst}
 use Rattle.std.proofs.lemmas.List.{take_all}
 use Rattle.std.proofs.lemmas.List.Elements.{All-nil, All-cons}
@@ -14,9 +14,13 @@ use Rattle.tc_bits.specs.declared.fault.FieldFault.{FieldFault}
 use Rattle.direction_reader.specs.declared.event.Event.{Event}
 use Rattle.direction_reader.specs.declared.event.Event.TheVariants.{Word, Refused, Lost}
 use Rattle.direction_reader.specs.declared.firm_event.FirmEvent.{FirmEvent}
+use Rattle.direction_reader.specs.declared.firm_event.FirmEvent.TheVariants.{Told, Alone}
+use Rattle.direction_reader.specs.declared.firm_event.FirmEvents.{FirmEvents}
 use Rattle.direction_reader.specs.Candidate.{event_of, candidate_in}
 use Rattle.direction_reader.specs.Events.{tick_of}
 use Rattle.direction_reader.specs.Firm.{judged, candidate_at, told_tick}
+use Rattle.direction_reader.specs.FirmReader.{FirmBrings, IsToldBy}
+use Rattle.direction_reader.specs.FirmStep.{IsToldWithin, TellsWithin}
 use Rattle.direction_reader.specs.FirmTold.{end_of_window}
 use Rattle.direction_reader.specs.ListEvents.{bits_in, duration}
 use Rattle.direction_reader.proofs.AsLists.{by_fault}
@@ -78,3 +82,22 @@ front_lasts (c ∷ cells) zero b less = omega arith
 front_lasts (c ∷ cells) (suc a) zero less = absurd (omega arith)
 front_lasts (c ∷ cells) (suc a) (suc b) less =
     omega (arith, duration_of c (take a cells), duration_of c (take b cells), front_lasts cells a b (omega arith))
+
+-- ---- what is told
+
+told_by : (n tick : ℕ) (o : Option FirmEvent) → IfSome o (IsToldWithin tick) → IfSome o (IsToldBy n tick)
+told_by n tick None is = tt
+told_by n tick (Some (Told (Word d w t m))) is = let long = is.1 in (is.0, long.0, long.1)
+told_by n tick (Some (Told (Refused d f t))) is = is.0
+told_by n tick (Some (Told (Lost p t))) is = absurd is.1
+told_by n tick (Some (Alone d w t m)) is = let long = is.1 in (is.0, long.0, long.1)
+
+-- what is told of windows that ended by the sum of the intervals
+pub brings_within : (n tick : ℕ) (told : FirmEvents) → TellsWithin tick told → FirmBrings n tick told
+brings_within n tick told is = record {
+  first = told_by n tick told.first is.first;
+  second = told_by n tick told.second is.second;
+  third = told_by n tick told.third is.third;
+  played = is.played;
+  no_word = is.no_word;
+}

@@ -21,10 +21,14 @@ use Rattle.direction_reader.specs.Gathered.{begin_of}
 use Rattle.direction_reader.specs.ListEvents.{AreEvents, break_events, duration, events_at, events_of_cells}
 use Rattle.direction_reader.specs.ListEvents.{events_of_stretch, events_of_window}
 use Rattle.direction_reader.proofs.FindsTheTape.{break_behind, end_tick, sum_at, sum_later}
-use Rattle.direction_reader.proofs.FirmAdds.{in_turn_append}
 use Rattle.direction_reader.proofs.FirmTicks.{candidate_ticks, front_lasts, EndsAt}
 use Rattle.direction_reader.proofs.LateStretches.{lock_behind}
 use Rattle.direction_reader.proofs.WindowsFromCells.{duration_of, front_within}
+
+pub in_turn_append : (xs ys : List ℕ) (a b c : ℕ) → DoNotFall a xs b → DoNotFall b ys c → DoNotFall a (xs ++ ys) c
+in_turn_append [] [] a b c one two = omega (arith, one, two)
+in_turn_append [] (y ∷ ys) a b c one two = let first = two.0 in (omega (arith, one, first), two.1)
+in_turn_append (x ∷ xs) ys a b c one two = (one.0, in_turn_append xs ys x b c one.1 two)
 
 -- one list of events behind another
 joined : (a b c : ℕ) (one two : List Event) → DoNotFall a (map tick_of one) b → DoNotFall b (map tick_of two) c

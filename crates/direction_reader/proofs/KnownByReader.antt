@@ -96,4 +96,5 @@ pub finished : (r : FirmState) (l : List ℕ) (told : List FirmEvent) → FirmSt
     → AreFirmEvents r.reader.system (profile_of r.reader.tracker) l (told ++ firm_list (ended r.waits))
 finished r l told is =
     let known = known_list r l told is in
-    (known.0, known.1, sym (ended_is told r.waits) ∙ ap (map closed) (sym known.2) ∙ closed_of r.reader.system l known.0)
+    let same = sym (ended_is told r.waits) ∙ ap (map closed) (sym known.2) in
+    (known.0, known.1, same ∙ closed_of r.reader.system l known.0)

@@ -10,7 +10,6 @@ pub mod EventsExist
 pub mod EventsJoin
 pub mod Examples
 pub mod FindsTheTape
-pub mod FirmAdds
 pub mod FirmJudges
 pub mod FirmKept
 pub mod FirmPlayed
@@ -19,7 +18,6 @@ pub mod FirmTicks
 pub mod FirmWindows
 pub mod FrontsFirst
 pub mod InOrder
-pub mod InSync
 pub mod LateStretches
 pub mod LaterEvents
 pub mod KnownByReader
@@ -39,6 +37,7 @@ pub mod OneList
 pub mod OneListOfEvents
 pub mod OneWaits
 pub mod ReaderSteps
+pub mod SameStretches
 pub mod SyncOverWords
 pub mod TellsTheTape
 pub mod SyncInTime

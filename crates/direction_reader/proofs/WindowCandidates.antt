@@ -1,20 +1,30 @@
 -- Which windows of cells are candidates, and which are none: two in one direction are at least 16 cells apart.
-use Rattle.std.proofs.Common.{◌≡◌, ◌<◌, ℕ, ◌+◌, Bool, List, [], ◌∷◌, ◌++◌, take, drop, inl, inr, ap, sym, ◌∙◌, refl}
+use Rattle.std.proofs.Common.{◌≡◌, ◌<◌, ℕ, ◌+◌, Bool, List, [], ◌∷◌, ◌++◌, take, drop, false, inl, inr, ap, sym, ◌∙◌}
+use Rattle.std.proofs.Common.{refl}
+use Rattle.std.proofs.lemmas.Bool.Decides.{eqb_tells}
 use Rattle.std.proofs.lemmas.List.{take-map, drop-map}
 use Rattle.biphase.specs.declared.cell.Cell.{Cell}
 use Rattle.biphase.specs.Chain.{bit_of, bits}
-use Rattle.ltc_word.specs.Reversal.{reversed_bits, EndsInSync}
+use Rattle.ltc_word.specs.declared.places.TheConstants.{SYNC, SYNC_PATTERN}
+use Rattle.ltc_word.specs.Reversal.{ends_in_sync, reversed_bits, EndsInSync}
 use Rattle.ltc_word.specs.SyncLemmas.{in_sync_or_not}
 use Rattle.tc_address.specs.declared.direction.Direction.TheVariants.{Forward, Backward}
 use Rattle.tc_address.specs.declared.system.System.{System}
+use Rattle.tc_bits.specs.Register.{number_in}
 use Rattle.direction_reader.specs.declared.event.Event.{Event}
 use Rattle.direction_reader.specs.Firm.{candidate_at}
 use Rattle.direction_reader.specs.ListEvents.{bits_in}
 use Rattle.direction_reader.specs.Windows.{number_of}
 use Rattle.direction_reader.proofs.AsLists.{bits_are}
-use Rattle.direction_reader.proofs.InSync.{sync_false}
 use Rattle.direction_reader.proofs.SyncInTime.{WordLaws, window_bits}
 use Rattle.direction_reader.proofs.SyncsApart.{backwards_apart, forwards_apart}
+
+-- bits that do not end in the sync word, as a test
+sync_false : (bits : ℕ) → (EndsInSync bits → ⊥) → ends_in_sync bits ≡ false
+sync_false bits sync = elim (eqb_tells (number_in SYNC bits) SYNC_PATTERN) [
+  | inl same ↦ absurd (sync same.1)
+  | inr other ↦ other.0
+]
 
 abbrev number_at : List Cell → ℕ → ℕ
 number_at cells k = bits_in (take 80 (drop k cells))

@@ -1,5 +1,5 @@
 -- What one interval brought, in order, and the kinds of event.
-use Rattle.std.specs.Prelude.{ℕ, List, [], ◌∷◌, ◌++◌, Option, Some, None, Bool, true, false, slice_get}
+use Rattle.std.specs.Prelude.{◌≡◌, ℕ, List, [], ◌∷◌, ◌++◌, Option, Some, None, Bool, true, false, slice_get}
 use Rattle.std.specs.List.{filter}
 use Rattle.tc_address.specs.declared.direction.Direction.{Direction}
 use Rattle.tc_address.specs.declared.direction.Direction.TheVariants.{Forward, Backward}
@@ -57,6 +57,12 @@ abbrev pub is_played : Direction → Event → Bool
 is_played direction (Word own word tick length) = same_way own direction
 is_played direction (Refused own fault tick) = same_way own direction
 is_played direction (Lost interval tick) = false
+
+-- and so it is no break
+abbrev pub IsPlayed : Direction → Event → Type 0
+IsPlayed direction (Word own word tick length) = own ≡ direction
+IsPlayed direction (Refused own fault tick) = own ≡ direction
+IsPlayed direction (Lost interval tick) = ⊥
 
 -- the first candidate of what one interval brought that is played in a direction
 abbrev pub played : Direction → Events → Option Event

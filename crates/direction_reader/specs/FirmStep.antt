@@ -13,7 +13,7 @@ use Rattle.direction_reader.specs.declared.waiting.Waiting.{Waiting}
 use Rattle.direction_reader.specs.declared.waiting.Heard.{Heard}
 use Rattle.direction_reader.specs.Beside.{BesideBits, is_firm_before, is_sync_behind}
 use Rattle.direction_reader.specs.Brings.{greatest_cell}
-use Rattle.direction_reader.specs.Events.{is_word, played, tick_of}
+use Rattle.direction_reader.specs.Events.{is_word, played, tick_of, IsPlayed}
 use Rattle.direction_reader.specs.Firm.{judged, told_tick}
 
 -- nothing is told
@@ -29,15 +29,9 @@ firm_listed (Some event) = event ∷ []
 abbrev pub firm_list : FirmEvents → List FirmEvent
 firm_list events = firm_listed events.first ++ firm_listed events.second ++ firm_listed events.third
 
--- a candidate that is read backward
-abbrev pub IsPlayedBackward : Event → Type 0
-IsPlayedBackward (Word direction word tick length) = direction ≡ Backward
-IsPlayedBackward (Refused direction fault tick) = direction ≡ Backward
-IsPlayedBackward (Lost interval tick) = ⊥
-
--- as it is told
+-- a candidate that is played backward, as it is told
 abbrev pub IsToldBackward : FirmEvent → Type 0
-IsToldBackward (Told event) = IsPlayedBackward event
+IsToldBackward (Told event) = IsPlayed Backward event
 IsToldBackward (Alone direction word tick length) = direction ≡ Backward
 
 -- a word that is read backward waits; a candidate at fault is told
@@ -77,21 +71,33 @@ abbrev pub ended : Option Waiting → FirmEvents
 ended None = nothing_told
 ended (Some w) = record { first = Some (Told w.word); second = w.behind; third = None }
 
--- an event of a window that ended by a tick, a word with the length of 80 cells
-abbrev pub IsWithin : ℕ → Event → Type 0
-IsWithin tick (Word direction word end length) = (end ≤ tick) × (80 ≤ length) × (length ≤ 80 * greatest_cell)
-IsWithin tick (Refused direction fault end) = end ≤ tick
-IsWithin tick (Lost interval end) = ⊥
+-- a candidate, a word with the length of 80 cells
+abbrev pub IsLong : Event → Type 0
+IsLong (Word direction word tick length) = (80 ≤ length) × (length ≤ 80 * greatest_cell)
+IsLong (Refused direction fault tick) = Unit {0}
+IsLong (Lost interval tick) = ⊥
 
 -- as it is told
+abbrev pub IsToldLong : FirmEvent → Type 0
+IsToldLong (Told event) = IsLong event
+IsToldLong (Alone direction word tick length) = (80 ≤ length) × (length ≤ 80 * greatest_cell)
+
+-- the window of a candidate ends at a tick
+abbrev pub IsAt : ℕ → Event → Type 0
+IsAt tick event = (tick_of event ≡ tick) × IsLong event
+
+abbrev pub IsToldAt : ℕ → FirmEvent → Type 0
+IsToldAt tick event = (told_tick event ≡ tick) × IsToldLong event
+
+-- or ended by it
 abbrev pub IsToldWithin : ℕ → FirmEvent → Type 0
-IsToldWithin tick (Told event) = IsWithin tick event
-IsToldWithin tick (Alone direction word end length) = IsWithin tick (Word direction word end length)
+IsToldWithin tick event = (told_tick event ≤ tick) × IsToldLong event
 
 -- a word that waits, which is played backward, and what stands behind it, which ended at its tick or later
 pub record IsWaitingWithin (tick : ℕ) (w : Waiting) : Type 0 where
-  pub word : IsWithin tick w.word
-  pub played : IsPlayedBackward w.word
+  pub word : tick_of w.word ≤ tick
+  pub long : IsLong w.word
+  pub played : IsPlayed Backward w.word
   pub behind : IfSome w.behind (IsToldWithin tick)
   pub later : IfSome w.behind (λ event. tick_of w.word ≤ told_tick event)
 

@@ -30,7 +30,10 @@ pub enum Event {
 }
 
 impl Event {
-    ghost use Rattle.direction_reader.specs.Events.{is_played, tick_of};
+    ghost use Rattle.std.specs.Prelude.{ℕ, IsTrue};
+    ghost use Rattle.direction_reader.specs.Brings.{IsLatest};
+    ghost use Rattle.direction_reader.specs.Events.{is_played, tick_of, IsPlayed};
+    ghost use Rattle.direction_reader.specs.FirmStep.{IsAt};
 
     /// Its tick.
     pub(crate) fn tick(&self) -> u64
@@ -44,7 +47,9 @@ impl Event {
 
     /// Whether it is a candidate that is played in this direction.
     fn is_played(&self, direction: Direction) -> bool
-        ensures { result ≡ is_played direction self.now }
+        ensures value { result ≡ is_played direction self.now }
+        ensures way { IsTrue result → IsPlayed direction self.now }
+        ensures at { (intervals sum : ℕ) → IsLatest intervals sum self.now → IsTrue result → IsAt sum self.now }
     {
         match *self {
             Event::Word { direction: own, .. } | Event::Refused { direction: own, .. } => match (
@@ -68,7 +73,10 @@ pub struct Events {
 }
 
 impl Events {
-    ghost use Rattle.direction_reader.specs.Events.{no_events, one_event, played};
+    ghost use Rattle.std.specs.Prelude.{ℕ, IfSome};
+    ghost use Rattle.direction_reader.specs.Brings.{Brings};
+    ghost use Rattle.direction_reader.specs.FirmStep.{IsAt};
+    ghost use Rattle.direction_reader.specs.Events.{no_events, one_event, played, IsPlayed};
 
     /// No event.
     pub(crate) fn none() -> Events
@@ -92,7 +100,9 @@ impl Events {
 
     /// The candidate that is played in this direction.
     pub(crate) fn played(&self, direction: Direction) -> Option<Event>
-        ensures { result ≡ played direction self.now }
+        ensures value { result ≡ played direction self.now }
+        ensures way { IfSome result (IsPlayed direction) }
+        ensures at { (intervals sum : ℕ) → Brings intervals sum self.now → IfSome result (IsAt sum) }
     {
         match (self.first, self.second) {
             (Some(event), _) if event.is_played(direction) => Some(event),

@@ -13,6 +13,7 @@ ghost use Rattle.direction_reader.specs.Tracker.{profile_of};
 ghost use Rattle.direction_reader.specs.Tracking.{searching};
 
 use crate::beside::Beside;
+use crate::brought::Brought;
 use crate::event::Event;
 use crate::firm_event::{FirmEvent, FirmEvents};
 use crate::reader::DirectionReader;
@@ -123,10 +124,16 @@ impl FirmReader {
             Step::Nothing => FirmEvents::none(),
             Step::Cell(bit) => {
                 self.beside.push(bit);
-                let events = self.reader.told(taken.brought);
-                let heard = hear_events(self.waits, &self.beside, &events);
-                self.waits = heard.waiting;
-                heard.told
+                match (taken.brought, self.waits) {
+                    // Nearly every cell.
+                    (Brought::Nothing, None) => FirmEvents::none(),
+                    (brought, waits) => {
+                        let events = self.reader.told(brought);
+                        let heard = hear_events(waits, &self.beside, &events);
+                        self.waits = heard.waiting;
+                        heard.told
+                    }
+                }
             }
             Step::FirstZero | Step::ZeroBefore(_) => {
                 self.beside.push(false);

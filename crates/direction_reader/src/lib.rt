@@ -19,11 +19,12 @@
 //!   last cell alone, they find it again between damage (`specs/Tape.antt`), and mirror it in reverse
 //!   order (`specs/Mirror.antt`): clauses `truth`, `damage` and `mirror` of `feed`.
 //! - `FirmReader` needs a witness beside each word: another word's sync word on the side away from its
-//!   own, or the edge of its stretch (`specs/Firm.antt`, `AreFirmEvents`). It stands for the intervals
-//!   that it was fed and for the events that it has given (`specs/FirmReader.antt`, and of the list alone
-//!   `specs/FirmTold.antt`, `AreTold`, over what is known of each candidate by the cells beside it,
-//!   `specs/FirmKnown.antt`), and `finish` gives what still waits (clause `all`). At most one
-//!   word waits, and one candidate behind it. What a witness changes and what not is in `firm_laws`.
+//!   own, or the edge of its stretch (`specs/Firm.antt`, `AreFirmEvents`). It judges the events of a
+//!   `DirectionReader` by the bits beside them, and stands for that reader's intervals and for the events
+//!   that it has given of them (`specs/FirmReader.antt`, and of the list alone `specs/FirmTold.antt`,
+//!   `AreTold`, over what is known of each candidate by the cells beside it, `specs/FirmKnown.antt`), and
+//!   `finish` gives what still waits (clause `all`). At most one word waits, and one candidate behind it.
+//!   What a witness changes and what not is in `firm_laws`.
 //! - `ConsecutiveReader` tells a word without a witness all the same if the word that follows it on the
 //!   tape is beside it, begins or ends where it does, and has the next label (`specs/Consecutive.antt`,
 //!   `AreConsecutiveEvents`). It stands for the events of a `FirmReader` and for those that it has given of
@@ -46,10 +47,10 @@
 //! - The numbers of an event are in the ranges of `specs/Brings.antt`.
 //!
 //! Read `reader`, `tracker`, `state`, `latest_cells`, `latest_bits`, `window`, `boundaries`, `brought`,
-//! `candidates` and `event`, in this order: the way of an interval. Then `firm_reader`, `firm_cells`,
-//! `beside`, `waiting` and `firm_event`, the way of a word that needs a witness, over the same tracker
-//! and cells, and `consecutive`, `consecutive_event` and `neighbours`, which come behind them; `counted` and
-//! `counting`, the way of a word that needs another one; and `reading`, `witness` and `reading_laws`, what all
+//! `candidates` and `event`, in this order: the way of an interval. Then `firm_reader`, `beside`,
+//! `waiting` and `firm_event`, a judge of what that reader tells, and `consecutive`, `consecutive_event`
+//! and `neighbours`, a judge of what this one tells; `counted` and `counting`, a judge of all words by the
+//! words beside them; and `reading`, `witness` and `reading_laws`, what all
 //! of them are.
 //! `specs/Invariants.antt` is what the code keeps. `report_text` prints the events. Nothing
 //! here allocates.

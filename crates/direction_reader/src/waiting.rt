@@ -2,9 +2,12 @@
 ghost use Rattle.std.specs.Prelude.{◌≡◌, ◌≤◌, ℕ, IfSome, map};
 ghost use Rattle.std.specs.Option.{option_map};
 ghost use Rattle.direction_reader.specs.Brings.{Brings};
+ghost use Rattle.direction_reader.specs.Events.{tick_of, IsPlayed};
 ghost use Rattle.direction_reader.specs.Firm.{judged, told_tick, DoNotFall};
 ghost use Rattle.direction_reader.specs.FirmStep.{began, ended, firm_list, heard, heard_events, or_else, until_of};
+ghost use Rattle.direction_reader.specs.FirmStep.{IsAt, IsLong, IsToldAt, IsToldBackward, IsToldLong, IsToldWithin};
 ghost use Rattle.direction_reader.specs.FirmStep.{TellsWithin, WaitsWithin};
+ghost use Rattle.tc_address.specs.declared.direction.Direction.TheVariants.{Backward};
 
 use crate::beside::Beside;
 use crate::event::{Event, Events};
@@ -51,7 +54,10 @@ pub fn hear_events(waiting: Option<Waiting>, beside: &Beside, events: &Events) -
 
 /// What becomes of the event of a candidate.
 fn judge(firm: bool, event: Event) -> FirmEvent
-    ensures { result ≡ judged firm event }
+    ensures value { result ≡ judged firm event }
+    ensures tick { told_tick result ≡ tick_of event }
+    ensures long { IsLong event → IsToldLong result }
+    ensures played { IsPlayed Backward event → IsToldBackward result }
 {
     if firm {
         return FirmEvent::Told(event);
@@ -74,7 +80,8 @@ fn judge(firm: bool, event: Event) -> FirmEvent
 
 /// What becomes of a candidate that may be there.
 fn judge_found(firm: bool, found: Option<Event>) -> Option<FirmEvent>
-    ensures { result ≡ option_map (judged firm) found }
+    ensures value { result ≡ option_map (judged firm) found }
+    ensures at { (tick : ℕ) → IfSome found (IsAt tick) → IfSome result (IsToldAt tick) }
 {
     match found {
         Some(event) => Some(judge(firm, event)),
@@ -91,7 +98,13 @@ fn hear(
     backward: Option<Event>,
 ) -> Heard
     requires { IfSome waiting (λ w. w.age ≤ 15) }
-    ensures { result ≡ heard waiting sync forward backward }
+    ensures value { result ≡ heard waiting sync forward backward }
+    ensures within { (before tick : ℕ) → before ≤ tick → WaitsWithin before waiting → IfSome forward (IsToldAt tick)
+        → IfSome backward (IsAt tick) → IfSome backward (IsPlayed Backward)
+        → WaitsWithin tick result.waiting × TellsWithin tick result.told }
+    ensures in_turn { (before tick : ℕ) → before ≤ tick → WaitsWithin before waiting → IfSome forward (IsToldAt tick)
+        → IfSome backward (IsAt tick) → DoNotFall (until_of before waiting)
+        (map told_tick (firm_list result.told)) (until_of tick result.waiting) }
 {
     match waiting {
         None => begin(None, forward, backward),
@@ -109,7 +122,13 @@ fn hear(
 
 /// A word that is read backward waits, and all else is given.
 fn begin(first: Option<FirmEvent>, second: Option<FirmEvent>, backward: Option<Event>) -> Heard
-    ensures { result ≡ began first second backward }
+    ensures value { result ≡ began first second backward }
+    ensures within { (tick : ℕ) → IfSome first (IsToldWithin tick) → IfSome first IsToldBackward
+        → IfSome second (IsToldWithin tick) → IfSome backward (IsAt tick) → IfSome backward (IsPlayed Backward)
+        → WaitsWithin tick result.waiting × TellsWithin tick result.told }
+    ensures in_turn { (from tick : ℕ) → from ≤ tick → IfSome first (λ e. told_tick e ≡ from)
+        → IfSome second (λ e. (from ≤ told_tick e) × (told_tick e ≤ tick)) → IfSome backward (IsAt tick)
+        → DoNotFall from (map told_tick (firm_list result.told)) (until_of tick result.waiting) }
 {
     match backward {
         Some(word @ Event::Word { .. }) => Heard {

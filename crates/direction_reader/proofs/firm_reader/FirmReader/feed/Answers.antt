@@ -2,16 +2,17 @@ use Rattle.std.proofs.Common.{◌-◌, arith, refl, subst, sym}
 use Rattle.direction_reader.specs.declared.event.Event.TheVariants.{Lost}
 use Rattle.direction_reader.specs.Events.{no_events, one_event}
 use Rattle.direction_reader.specs.FirmReader.{FirmState, FirmStandsFor}
+use Rattle.direction_reader.specs.StandsFor.{Tells}
 use Rattle.direction_reader.proofs.AsLists.{StandThere}
-use Rattle.direction_reader.proofs.FirmAdds.{brings_within}
-use Rattle.direction_reader.proofs.FirmSteps.{begins, broken, cell_told, nothing_ended, quiet_first}
+use Rattle.direction_reader.proofs.FirmTicks.{brings_within}
+use Rattle.direction_reader.proofs.FirmSteps.{begins, broken, cell_told, nothing_ended, quiet_cell, quiet_first}
 use Rattle.direction_reader.proofs.ReaderSteps.{told_of_cell}
 use Rattle.direction_reader.proofs.SyncInTime.{WordLaws}
 use Rattle.direction_reader.proofs.firm_reader.FirmReader.feed.Goals as goal
 
 -- what waits lies within the ticks
-pub invariant_of-self-in-Cell : goal.invariant_of-self-in-Cell
-invariant_of-self-in-Cell c =
+pub invariant_of-self-in_default : goal.invariant_of-self-in_default
+invariant_of-self-in_default c =
     let tick = c.take-taken.ensures.next.tick in
     record {
       most = c.take-taken.ensures.within;
@@ -21,15 +22,15 @@ invariant_of-self-in-Cell c =
     }
 
 -- what is given lies within the ticks
-pub returns-in-Cell-clause-brings : goal.returns-in-Cell-clause-brings
-returns-in-Cell-clause-brings c =
+pub returns-in_default-clause-brings : goal.returns-in_default-clause-brings
+returns-in_default-clause-brings c =
     let tick = c.take-taken.ensures.next.tick in
     brings_within _ _ _ (c.hear_events-heard.ensures.within _ c.self.inside.reader.tick c.take-taken.new.self.tick
     (omega (arith, tick)) c.told-events.ensures.brings c.self.invariant.waits).1
 
 -- and comes in turn
-pub returns-in-Cell-clause-in_turn : goal.returns-in-Cell-clause-in_turn
-returns-in-Cell-clause-in_turn c =
+pub returns-in_default-clause-in_turn : goal.returns-in_default-clause-in_turn
+returns-in_default-clause-in_turn c =
     let tick = c.take-taken.ensures.next.tick in
     rw (← c.self.view_is) (c.hear_events-heard.ensures.in_turn _ c.self.inside.reader.tick c.take-taken.new.self.tick
     (omega (arith, tick)) c.told-events.ensures.brings c.self.invariant.waits)
@@ -58,27 +59,42 @@ returns-in-FirstZero-clause-stands c = λ l told stands.
     (taken.stands l is.events no_events old (rw quiet refl)))
 
 -- a cell ended, and its events are judged
-pub returns-in-Cell-clause-stands : goal.returns-in-Cell-clause-stands
-returns-in-Cell-clause-stands c = λ l told stands.
+pub returns-in_default-clause-stands : goal.returns-in_default-clause-stands
+returns-in_default-clause-stands c = λ l told stands.
     let is = subst (λ (r : FirmState). FirmStandsFor r l told) (sym c.self.view_is) stands in
-    let laws : WordLaws = record {
-      one = c.twelve_ones_are_the_sync_word.ensures.one;
-      turned = c.reversed_twice_is_the_same.ensures.bits;
-      width = c.reversed_twice_is_the_same.ensures.width;
-      twice = c.reversed_twice_is_the_same.ensures.twice;
-    } in
-    let there : StandThere = record {
-      word = c.what_stands_in_bits_is_what_they_spell.ensures.word;
-      fault = c.what_stands_in_bits_is_what_they_spell.ensures.fault;
-    } in
     let old = is.reader in
     let taken = c.take-taken.ensures in
+    let twelve = c.twelve_ones_are_the_sync_word.ensures in
+    let turns = c.reversed_twice_is_the_same.ensures in
+    let stand = c.what_stands_in_bits_is_what_they_spell.ensures in
+    let laws : WordLaws = record { one = twelve.one; turned = turns.bits; width = turns.width; twice = turns.twice } in
+    let there : StandThere = record { word = stand.word; fault = stand.fault } in
     let tells = c.told-events.ensures.told taken.may in
-    rw c.hear_events-heard.ensures.value (cell_told c.a_list_has_one_list_of_stretches.ensures.one laws there _ _ c.args.x
-    l c.in-Cell.bit c.told-events.result told _ taken.next.system c.push.ensures refl
+    rw c.hear_events-heard.ensures.value (cell_told c.a_list_has_one_list_of_stretches.ensures.one laws there _ _
+    c.args.x l c.in-Cell.bit c.told-events.result told _ taken.next.system c.push.ensures refl
     (told_of_cell c.take-taken.new.self _ c.told-events.result (rw c.in-Cell.is at taken.step) tells) is
     (rw c.in-Cell.is at (taken.stepped.stands l old.earlier old.open_yet old.tracker))
     (taken.stands l is.events c.told-events.result old tells))
+
+-- a cell ended that brings nothing, and no word waits
+pub returns-in-Nothing-None-clause-stands : goal.returns-in-Nothing-None-clause-stands
+returns-in-Nothing-None-clause-stands c = λ l told stands.
+    let is = subst (λ (r : FirmState). FirmStandsFor r l told) (sym c.self.view_is) stands in
+    let old = is.reader in
+    let taken = c.take-taken.ensures in
+    let twelve = c.twelve_ones_are_the_sync_word.ensures in
+    let turns = c.reversed_twice_is_the_same.ensures in
+    let stand = c.what_stands_in_bits_is_what_they_spell.ensures in
+    let laws : WordLaws = record { one = twelve.one; turned = turns.bits; width = turns.width; twice = turns.twice } in
+    let there : StandThere = record { word = stand.word; fault = stand.fault } in
+    let quiet = c.in-Nothing-None.is-0 in
+    let none = c.in-Nothing-None.is-1 in
+    let tells : Tells c.take-taken.new.self c.take-taken.result.brought no_events = rw quiet refl in
+    rw c.none-in-Nothing-None.ensures (quiet_cell c.a_list_has_one_list_of_stretches.ensures.one laws there _ _ c.args.x
+    l c.in-Cell.bit told _ taken.next.system c.push.ensures none none
+    (told_of_cell c.take-taken.new.self _ no_events (rw c.in-Cell.is at taken.step) tells) is
+    (rw c.in-Cell.is at (taken.stepped.stands l old.earlier old.open_yet old.tracker))
+    (taken.stands l is.events no_events old tells))
 
 -- the stretch breaks
 pub returns-in-Break-clause-stands : goal.returns-in-Break-clause-stands
@@ -87,7 +103,8 @@ returns-in-Break-clause-stands c = λ l told stands.
     let old = is.reader in
     let taken = c.take-taken.ensures in
     let n = c.take-taken.new.self in
-    rw (c.end-told.ensures.value, c.intervals.ensures.value, c.tick.ensures.value) (broken c.a_list_has_one_list_of_stretches.ensures.one _ _ c.args.x l told _
+    rw (c.end-told.ensures.value, c.intervals.ensures.value, c.tick.ensures.value)
+    (broken c.a_list_has_one_list_of_stretches.ensures.one _ _ c.args.x l told _
     taken.next.system c.new-self-inside.ensures refl is
     (rw c.in-Break.is at (taken.stepped.stands l old.earlier old.open_yet old.tracker))
     (taken.stands l is.events (one_event (Lost (n.intervals - 1) n.tick)) old

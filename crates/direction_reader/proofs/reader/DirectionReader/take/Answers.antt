@@ -40,7 +40,8 @@ returns-in-Cell-true-clause-stands c = λ l es own stands told.
       intervals = refl;
       tick = ap (λ m. c.self.inside.tick + m) c.from.ensures;
     })
-    (rw c.in-Cell-true.field-0-test c.add-brought.ensures.bits) c.add-brought.ensures.boundaries c.add-brought.ensures.brings
+    (rw c.in-Cell-true.field-0-test c.add-brought.ensures.bits) c.add-brought.ensures.boundaries
+    c.add-brought.ensures.brings
     is (c.in-Cell-true.ensures.stands l is.earlier is.open_yet is.tracker) told
 
 -- and a zero
@@ -54,8 +55,9 @@ returns-in-Cell-false-clause-stands c = λ l es own stands told.
       intervals = refl;
       tick = ap (λ m. c.self.inside.tick + m) c.from.ensures;
     })
-    (rw c.in-Cell-false.field-0-test c.add-brought-in-Cell-false.ensures.bits) c.add-brought-in-Cell-false.ensures.boundaries
-    c.add-brought-in-Cell-false.ensures.brings is (c.in-Cell-false.ensures.stands l is.earlier is.open_yet is.tracker) told
+    (rw c.in-Cell-false.field-0-test c.add-brought-in-Cell-false.ensures.bits)
+    c.add-brought-in-Cell-false.ensures.boundaries c.add-brought-in-Cell-false.ensures.brings is
+    (c.in-Cell-false.ensures.stands l is.earlier is.open_yet is.tracker) told
 
 -- no cell ended
 pub returns-in-Nothing-clause-stands : goal.returns-in-Nothing-clause-stands
