@@ -1,40 +1,31 @@
--- What is kept of some cells, with a word that waits, becomes what is kept of one cell more; and the numbers of what is
--- given lie within those of the cells.
-use Rattle.std.proofs.Common.{◌≡◌, ◌≤◌, ℕ, ◌+◌, ◌-◌, Bool, true, false, List, [], ◌∷◌, ◌++◌, length, Option, Some}
-use Rattle.std.proofs.Common.{None, IfSome}
-use Rattle.std.proofs.Common.{ap, sym, ◌∙◌, arith, refl, subst, length-append, inl, inr, map}
-use Rattle.std.specs.Prelude.{nat_lt}
+-- What is told lies within the ticks of the intervals, and comes in turn: a word that waited, what came behind it, and
+-- then what ends with the interval.
+use Rattle.std.proofs.Common.{◌≡◌, ◌≤◌, ℕ, ◌+◌, Bool, true, false, List, [], ◌∷◌, ◌++◌, Option, Some, None, IfSome}
+use Rattle.std.proofs.Common.{ap, sym, ◌∙◌, arith, refl, subst, inl, inr, map}
+use Rattle.std.specs.Prelude.{nat_lt, slice_get}
+use Rattle.std.specs.List.{filter}
 use Rattle.std.specs.Option.{option_map}
 use Rattle.std.proofs.lemmas.Bool.{cases_lt}
 use Rattle.std.proofs.lemmas.Grind.{common_steps}
 use Rattle.std.proofs.lemmas.List.{map-append}
-use Rattle.biphase.specs.declared.cell.Cell.{Cell}
-use Rattle.biphase.specs.Chain.{bit_of, bits}
-use Rattle.biphase.specs.Tolerance.{length_of}
-use Rattle.tc_address.specs.declared.system.System.{System}
-use Rattle.direction_reader.specs.declared.candidates.Candidates.{Candidates}
+use Rattle.tc_address.specs.declared.direction.Direction.{Direction}
+use Rattle.tc_address.specs.declared.direction.Direction.TheVariants.{Forward, Backward}
 use Rattle.direction_reader.specs.declared.event.Event.{Event}
 use Rattle.direction_reader.specs.declared.event.Event.TheVariants.{Word, Refused, Lost}
+use Rattle.direction_reader.specs.declared.event.Events.{Events}
 use Rattle.direction_reader.specs.declared.firm_event.FirmEvent.{FirmEvent}
 use Rattle.direction_reader.specs.declared.firm_event.FirmEvent.TheVariants.{Told, Alone}
-use Rattle.direction_reader.specs.declared.waiting.Waiting.{Waiting}
-use Rattle.direction_reader.specs.Beside.{BesideBits, none_beside, beside_with, is_firm_before, is_sync_behind}
-use Rattle.direction_reader.specs.Brings.{IsWordAt}
-use Rattle.direction_reader.specs.Events.{tick_of}
-use Rattle.direction_reader.specs.Firm.{judged, told_tick, DoNotFall}
-use Rattle.direction_reader.specs.FirmStandsFor.{KeptFirm, FirmCellsStandFor, beside_of}
-use Rattle.direction_reader.specs.FirmStep.{FindsAt, AreWindowCandidates, heard, began, or_else, ended, firm_list}
-use Rattle.direction_reader.specs.FirmStep.{IsPlayedBackward, IsToldBackward, IsWithin, IsToldWithin, firm_listed, until_of}
 use Rattle.direction_reader.specs.declared.firm_event.FirmEvents.{FirmEvents}
+use Rattle.direction_reader.specs.declared.waiting.Waiting.{Waiting}
+use Rattle.direction_reader.specs.Beside.{BesideBits, is_firm_before, is_sync_behind}
+use Rattle.direction_reader.specs.Brings.{Brings, IsLatest, IsWordAt}
+use Rattle.direction_reader.specs.Events.{is_played, listed, played, tick_of}
+use Rattle.direction_reader.specs.Firm.{judged, told_tick, DoNotFall}
+use Rattle.direction_reader.specs.FirmReader.{FirmBrings, IsToldBy}
+use Rattle.direction_reader.specs.FirmStep.{heard, heard_events, began, or_else, ended, firm_list, firm_listed, until_of}
+use Rattle.direction_reader.specs.FirmStep.{IsPlayedBackward, IsToldBackward, IsWithin, IsToldWithin}
 use Rattle.direction_reader.specs.FirmStep.{WaitsWithin, TellsWithin}
-use Rattle.direction_reader.specs.LatestBits.{after_bit}
-use Rattle.direction_reader.specs.LatestCells.{with_boundary}
-use Rattle.direction_reader.specs.ListEvents.{duration}
-use Rattle.direction_reader.proofs.CellsGrow.{cell_more, duration_more}
-use Rattle.direction_reader.proofs.KnownSteps.{heard_stands}
-use Rattle.direction_reader.proofs.FirmKept.{all_found, beside_more, firm_before, sync_behind}
 use Rattle.direction_reader.proofs.FirmTicks.{judged_tick}
-use Rattle.direction_reader.proofs.SyncInTime.{WordLaws}
 
 -- ---- numbers
 
@@ -162,17 +153,75 @@ told_at : (tick : ℕ) (firm : Bool) (o : Option Event) → IfSome o (IsWordAt t
 told_at tick firm None at = tt
 told_at tick firm (Some event) at = judged_tick firm event ∙ at_tick tick event at
 
+-- of what an interval brought, the candidate that is played in a direction
+first_played : (P : Event → Type 0) (d : Direction) (e : Event) (b : Bool) (rest : List Event) → is_played d e ≡ b
+    → (is_played d e ≡ true → P e) → IfSome (slice_get (filter (is_played d) rest) 0) P
+    → IfSome (slice_get (filter (is_played d) (e ∷ rest)) 0) P
+first_played P d e true rest is one more = rw is (one is)
+first_played P d e false rest is one more = rw is more
+
+played_of : (P : Event → Type 0) (d : Direction) (a b : Option Event) → IfSome a (λ e. is_played d e ≡ true → P e)
+    → IfSome b (λ e. is_played d e ≡ true → P e) → IfSome (slice_get (filter (is_played d) (listed a ++ listed b)) 0) P
+played_of P d None None one two = tt
+played_of P d None (Some f) one two = first_played P d f (is_played d f) [] refl two tt
+played_of P d (Some e) None one two = first_played P d e (is_played d e) [] refl one tt
+played_of P d (Some e) (Some f) one two =
+    first_played P d e (is_played d e) (f ∷ []) refl one (first_played P d f (is_played d f) [] refl two tt)
+
+latest_at : (n tick : ℕ) (d : Direction) (o : Option Event) → IfSome o (IsLatest n tick)
+    → IfSome o (λ e. is_played d e ≡ true → IsWordAt tick e)
+latest_at n tick d None is = tt
+latest_at n tick d (Some (Word e w t m)) is = λ way. is
+latest_at n tick d (Some (Refused e f t)) is = λ way. is
+latest_at n tick d (Some (Lost p t)) is = λ way. (let no : false ≡ true = way in absurd cc)
+
+back_at : (o : Option Event) → IfSome o (λ e. is_played Backward e ≡ true → IsPlayedBackward e)
+back_at None = tt
+back_at (Some (Word Forward w t m)) = λ way. (let no : false ≡ true = way in absurd cc)
+back_at (Some (Word Backward w t m)) = λ way. refl
+back_at (Some (Refused Forward f t)) = λ way. (let no : false ≡ true = way in absurd cc)
+back_at (Some (Refused Backward f t)) = λ way. refl
+back_at (Some (Lost p t)) = λ way. (let no : false ≡ true = way in absurd cc)
+
+played_at : (n tick : ℕ) (d : Direction) (events : Events) → Brings n tick events
+    → IfSome (played d events) (IsWordAt tick)
+played_at n tick d events brings =
+    played_of (IsWordAt tick) d events.first events.second (latest_at n tick d events.first brings.first)
+    (latest_at n tick d events.second brings.second)
+
+played_back : (events : Events) → IfSome (played Backward events) IsPlayedBackward
+played_back events =
+    played_of IsPlayedBackward Backward events.first events.second (back_at events.first) (back_at events.second)
+
 -- what one cell gives
-pub add_within : (before tick : ℕ) (waits : Option Waiting) (firm sync : Bool) (found : Candidates) → before ≤ tick
-    → WaitsWithin before waits
-    → FindsAt tick found
-    → WaitsWithin tick (heard waits sync (option_map (judged firm) found.forward) found.backward).waiting
-    × TellsWithin tick (heard waits sync (option_map (judged firm) found.forward) found.backward).told
-add_within before tick waits firm sync found late within at =
-    heard_within tick waits sync (option_map (judged firm) found.forward) found.backward (later_waits before tick waits
-    late within)
-    (all_judged_within tick firm found.forward (found_within tick found.forward at.forward))
-    (told_at tick firm found.forward at.forward) (found_within tick found.backward at.backward) at.played
+pub add_within : (n before tick : ℕ) (waits : Option Waiting) (beside : BesideBits) (events : Events) → before ≤ tick
+    → Brings n tick events → WaitsWithin before waits
+    → WaitsWithin tick (heard_events waits beside events).waiting
+    × TellsWithin tick (heard_events waits beside events).told
+add_within n before tick waits beside events late brings within =
+    let firm = is_firm_before beside in
+    let f = played Forward events in
+    let at = played_at n tick Forward events brings in
+    heard_within tick waits (is_sync_behind beside) (option_map (judged firm) f) (played Backward events)
+    (later_waits before tick waits late within) (all_judged_within tick firm f (found_within tick f at))
+    (told_at tick firm f at) (found_within tick (played Backward events) (played_at n tick Backward events brings))
+    (played_back events)
+
+told_by : (n tick : ℕ) (o : Option FirmEvent) → IfSome o (IsToldWithin tick) → IfSome o (IsToldBy n tick)
+told_by n tick None is = tt
+told_by n tick (Some (Told (Word d w t m))) is = is
+told_by n tick (Some (Told (Refused d f t))) is = is
+told_by n tick (Some (Told (Lost p t))) is = absurd is
+told_by n tick (Some (Alone d w t m)) is = is
+
+pub brings_within : (n tick : ℕ) (told : FirmEvents) → TellsWithin tick told → FirmBrings n tick told
+brings_within n tick told is = record {
+  first = told_by n tick told.first is.first;
+  second = told_by n tick told.second is.second;
+  third = told_by n tick told.third is.third;
+  played = is.played;
+  no_word = is.no_word;
+}
 
 -- ---- in turn
 
@@ -274,73 +323,12 @@ heard_in_turn before tick (Some w) sync forward backward late within one back =
     ]
 
 -- what one cell gives
-pub add_in_turn : (before tick : ℕ) (waits : Option Waiting) (firm sync : Bool) (found : Candidates) → before ≤ tick
-    → WaitsWithin before waits → FindsAt tick found
-    → DoNotFall (until_of before waits)
-    (map told_tick (firm_list (heard waits sync (option_map (judged firm) found.forward) found.backward).told))
-    (until_of tick (heard waits sync (option_map (judged firm) found.forward) found.backward).waiting)
-add_in_turn before tick waits firm sync found late within at =
-    heard_in_turn before tick waits sync (option_map (judged firm) found.forward) found.backward late within
-    (told_at tick firm found.forward at.forward) at.backward
-
--- what the end of a stretch gives
-pub end_in_turn : (before tick : ℕ) (waits : Option Waiting) → before ≤ tick → WaitsWithin before waits
-    → DoNotFall (until_of before waits) (map told_tick (firm_list (ended waits))) tick
-end_in_turn before tick None late within = late
-end_in_turn before tick (Some w) late within =
-    let from = tick_of w.word in
-    let first = within_tick before w.word within.word in
-    three_in_turn (ended (Some w)) from from tick tick (omega arith, omega arith)
-    (waited_in_turn from before tick w.behind first late within.behind within.later) (omega arith)
-
--- a stretch begins anew
-pub begins_in_turn : (before now : ℕ) (old new : Option Waiting) (ticks : List ℕ) → before ≤ now
-    → WaitsWithin before old → ((from : ℕ) → from ≤ before → DoNotFall from ticks (until_of before new))
-    → DoNotFall (until_of before old) ticks (until_of now new)
-begins_in_turn before now old new ticks late within law =
-    ends_later ticks (until_of before old) (until_of before new) (until_of now new)
-    (law (until_of before old) (until_within before old within)) (until_later before now new late)
-
--- ---- what is kept
-
-pub add_stands : WordLaws → (old new : KeptFirm) (system : System) (begin tick : ℕ) (bit : Bool) (found : Candidates)
-    (cells : List Cell)
-    (cell : Cell) (told : List FirmEvent)
-    → new.cells.bits ≡ after_bit old.cells.bits bit → new.cells.boundaries ≡ with_boundary old.cells.boundaries tick
-    → new.beside ≡ beside_with old.beside bit
-    → AreWindowCandidates system new.cells.bits new.cells.boundaries tick found
-    → (let h = heard old.waits (is_sync_behind new.beside) (option_map (judged (is_firm_before new.beside))
-    found.forward) found.backward in
-    new.waits ≡ h.waiting → FirmCellsStandFor old system begin cells told → bit_of cell ≡ bit
-    → tick ≡ begin + duration cells + length_of cell
-    → FirmCellsStandFor new system begin (cells ++ cell ∷ []) (told ++ firm_list h.told))
-add_stands laws old new system begin tick bit found cells cell told is_bits is_boundaries is_beside are waits stands
-    same ends =
-    let all = cells ++ cell ∷ [] in
-    let bits_too : new.cells.bits ≡ after_bit old.cells.bits (bit_of cell) = rw same is_bits in
-    let latest = cell_more old.cells new.cells begin tick cells cell stands.latest ends bits_too is_boundaries in
-    let more = duration_more cells cell in
-    let ends_all : tick ≡ begin + duration all = omega (arith, ends, more) in
-    let bits_all : bits all ≡ bits cells ++ bit ∷ [] = map-append bit_of cells (cell ∷ [])
-    ∙ ap (λ (b : Bool). bits cells ++ b ∷ []) same in
-    let beside : new.beside ≡ beside_of none_beside (bits all) =
-    is_beside ∙ ap (λ (b : BesideBits). beside_with b bit) stands.beside
-    ∙ sym (beside_more none_beside (bits cells) bit)
-    ∙ ap (λ (l : List Bool). beside_of none_beside l) (sym bits_all) in
-    let count = length-append cells (cell ∷ []) in
-    let firm : 79 ≤ length cells → is_firm_before new.beside ≡ Rattle.direction_reader.specs.Firm.is_firm
-    Rattle.tc_address.specs.declared.direction.Direction.TheVariants.Forward all (length cells - 79) =
-    λ enough. (
-    let place : length all - 80 ≡ length cells - 79 = omega arith in
-    ap is_firm_before beside ∙ rw place at (firm_before all (omega arith))) in
-    let found_all = all_found system new.cells begin tick cells cell found (is_firm_before new.beside) latest ends_all
-    are firm in
-    let heard_now = heard_stands laws system begin cells cell old.waits told (is_sync_behind new.beside)
-    (option_map (judged (is_firm_before new.beside)) found.forward) found.backward found_all
-    (λ enough. ap is_sync_behind beside ∙ sync_behind all (length cells - 15) (omega arith) (omega arith)) stands.waits
-    in
-    record {
-      latest = latest;
-      beside = beside;
-      waits = rw waits heard_now;
-    }
+pub add_in_turn : (n before tick : ℕ) (waits : Option Waiting) (beside : BesideBits) (events : Events) → before ≤ tick
+    → Brings n tick events → WaitsWithin before waits
+    → DoNotFall (until_of before waits) (map told_tick (firm_list (heard_events waits beside events).told))
+    (until_of tick (heard_events waits beside events).waiting)
+add_in_turn n before tick waits beside events late brings within =
+    let firm = is_firm_before beside in
+    let f = played Forward events in
+    heard_in_turn before tick waits (is_sync_behind beside) (option_map (judged firm) f) (played Backward events) late
+    within (told_at tick firm f (played_at n tick Forward events brings)) (played_at n tick Backward events brings)

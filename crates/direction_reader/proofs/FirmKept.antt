@@ -4,7 +4,7 @@ use Rattle.std.proofs.Common.{◌≡◌, ◌<◌, ◌≤◌, ℕ, zero, suc, ◌
 use Rattle.std.proofs.Common.{◌∷◌, ◌++◌, length, take, drop, map}
 use Rattle.std.proofs.Common.{ap, ap₂, sym, ◌∙◌, arith, refl, subst, append_assoc, append-nil, length-append, inl, inr}
 use Rattle.std.proofs.Common.{replicate, min, mul_assoc}
-use Rattle.std.specs.Prelude.{nat_lt, ◌==◌, slice_index}
+use Rattle.std.specs.Prelude.{nat_lt, ◌==◌, if◌then◌else◌, Option, Some, None}
 use Rattle.std.specs.Option.{option_map}
 use Rattle.std.proofs.lemmas.Bool.{cases_lt}
 use Rattle.std.proofs.lemmas.Grind.{common_steps}
@@ -13,28 +13,31 @@ use Rattle.std.proofs.lemmas.List.{take-append-drop, take_all, length-take, leng
 use Rattle.std.proofs.lemmas.List.{drop-drop, take-map, drop-map}
 use Rattle.biphase.specs.declared.cell.Cell.{Cell}
 use Rattle.biphase.specs.Chain.{bit_of, bits}
+use Rattle.ltc_word.specs.Reading.{fault_in}
+use Rattle.ltc_word.specs.Reversal.{ends_in_sync, reversed_bits}
+use Rattle.tc_address.specs.declared.direction.Direction.{Direction}
 use Rattle.tc_address.specs.declared.direction.Direction.TheVariants.{Forward, Backward}
 use Rattle.tc_address.specs.declared.system.System.{System}
-use Rattle.direction_reader.specs.declared.candidates.Candidates.{Candidates}
+use Rattle.tc_bits.specs.declared.fault.FieldFault.{FieldFault}
 use Rattle.direction_reader.specs.declared.event.Event.{Event}
+use Rattle.direction_reader.specs.declared.event.Events.{Events}
 use Rattle.direction_reader.specs.declared.latest_bits.LatestBits.{LatestBits}
 use Rattle.direction_reader.specs.declared.latest_bits.LatestBits.TheVariants as latest
 use Rattle.direction_reader.specs.Beside.{BesideBits, none_beside, beside_with, is_firm_before, is_sync_behind}
-use Rattle.direction_reader.specs.Events.{listed}
-use Rattle.direction_reader.specs.Firm.{is_firm, judged, candidate_at, sync_in_time}
+use Rattle.direction_reader.specs.Candidate.{event_of}
+use Rattle.direction_reader.specs.Events.{event_list, is_played, listed, no_events, played, same_way}
+use Rattle.direction_reader.specs.Firm.{is_firm, judged, sync_in_time}
 use Rattle.direction_reader.specs.FirmStandsFor.{beside_of}
-use Rattle.direction_reader.specs.FirmStep.{AreWindowCandidates, AreCandidatesOf, no_candidates}
-use Rattle.direction_reader.specs.LatestCells.{Cells}
-use Rattle.direction_reader.specs.ListEvents.{bits_in, duration}
+use Rattle.direction_reader.specs.LatestCells.{AreWindowEvents, Cells}
+use Rattle.direction_reader.specs.ListEvents.{bits_in, duration, events_at, events_of_window}
 use Rattle.direction_reader.specs.StandsFor.{BitsStandFor, CellsStandFor}
 use Rattle.direction_reader.specs.Window.{bit_value}
 use Rattle.direction_reader.specs.Windows.{CellWindow, number_of, window_at}
-use Rattle.direction_reader.proofs.AsLists.{bits_are}
+use Rattle.direction_reader.proofs.AsLists.{bits_are, by_fault, of_window, StandThere}
 use Rattle.direction_reader.proofs.BitsShift.{bit_value-least, number_of-append}
-use Rattle.direction_reader.proofs.CellsGrow.{oldest}
-use Rattle.direction_reader.proofs.KnownSteps.{AreFound, forward_listed}
-use Rattle.direction_reader.proofs.WindowsGrow.{last_window}
-use Rattle.direction_reader.specs.PlayedLemmas.{duration-append}
+use Rattle.direction_reader.proofs.CellsGrow.{kept_events}
+use Rattle.direction_reader.proofs.FirmJudges.{event_by}
+use Rattle.direction_reader.proofs.KnownSteps.{AreFound, More, forward_listed}
 
 -- ---- numbers of bits
 
@@ -184,106 +187,82 @@ sync_behind cells start ends many =
     ∙ ap number_of (there ∙ sym sixteen) ∙ sym (cells_number cells 16 start) in
     rw all refl
 
--- ---- the candidates of what is kept
+-- ---- the events of the window that ends with a cell
 
--- the window of a full register
-pub record IsLatestWindow (kept : Cells) (n tick end : ℕ) (cells : List Cell) : Type 0 where
-  pub many : 80 ≤ length cells
-  pub bits_are : n ≡ bits_in (take 80 (drop (length cells - 80) cells))
-  pub ends : end ≡ tick + duration (take (length cells - 80 + 80) cells)
-  pub long : end - slice_index kept.boundaries 0 ≡ duration (take 80 (drop (length cells - 80) cells))
+-- two candidates, each played in its direction
+each_way : (f b : Event) (x y : Bool) → is_played Forward f ≡ true → is_played Backward f ≡ false
+    → is_played Forward b ≡ false → is_played Backward b ≡ true → (own : Events)
+    → event_list own ≡ (if x then f ∷ [] else []) ++ (if y then b ∷ [] else [])
+    → (listed (played Forward own) ≡ (if x then f ∷ [] else [])) × (listed (played Backward own) ≡ (if y then b ∷ [] else []))
+each_way f b true true ff fb bf bb own are = rw (are, ff, fb, bb) (refl, refl)
+each_way f b true false ff fb bf bb own are = rw (are, ff, fb) (refl, refl)
+each_way f b false true ff fb bf bb own are = rw (are, bf, bb) (refl, refl)
+each_way f b false false ff fb bf bb own are = rw are (refl, refl)
 
-latest_window : (kept : Cells) (n tick end : ℕ) (cells : List Cell) → CellsStandFor kept tick cells
-    → kept.bits ≡ latest.Full n → end ≡ tick + duration cells → IsLatestWindow kept n tick end cells
-latest_window kept n tick end cells stands full ends =
-    let is = subst (λ (b : LatestBits). BitsStandFor b stands.older stands.newest) full stands.bits_are in
-    let same = stands.are in
-    let count : length cells ≡ length stands.older + 80 = ap length same ∙ length-append stands.older stands.newest
-    ∙ ap (λ m. length stands.older + m) is.0 in
+played_by : (system : System) (d e : Direction) (bits end n : ℕ) (o : Option FieldFault)
+    → is_played e (event_by system d bits end n o) ≡ same_way d e
+played_by system d e bits end n None = refl
+played_by system d e bits end n (Some f) = refl
+
+event_played : (system : System) (d e : Direction) (bits end n : ℕ)
+    → is_played e (event_of system d bits end n) ≡ same_way d e
+event_played system d e bits end n =
+    let o = fault_in system bits in
+    subst (λ (own : Event). is_played e own ≡ same_way d e)
+    (by_fault system d bits end n (event_by system d bits end n o) o refl refl) (played_by system d e bits end n o)
+
+-- they are the candidates of the latest window, and none before it is full
+pub record AreLast (system : System) (tick : ℕ) (cells : List Cell) (own : Events) : Type 0 where
+  pub many : 80 ≤ length cells → event_list own ≡ events_at system tick cells (length cells - 80)
+  pub few : length cells < 80 → own ≡ no_events
+
+last_events : StandThere → (system : System) (kept : Cells) (b : LatestBits) (tick end : ℕ) (cells : List Cell)
+    (own : Events) → kept.bits ≡ b → CellsStandFor kept tick cells → end ≡ tick + duration cells
+    → AreWindowEvents system kept.bits kept.boundaries end own → AreLast system tick cells own
+last_events there system kept (latest.Full n) tick end cells own full stands ends are =
+    let is = kept_events system kept n tick end cells own stands full ends are in
     let k = length cells - 80 in
-    let place : k ≡ length stands.older = omega arith in
-    let window : window_at tick cells k
-    ≡ record {
-      bits = number_of (bits stands.newest);
-      end = tick + duration (stands.older ++ stands.newest);
-      length =
-          duration stands.newest;
-    } =
-    rw place (rw same (last_window tick stands.older stands.newest is.0)) in
-    let first : slice_index kept.boundaries 0 ≡ tick + duration stands.older = ap (λ l. slice_index l 0)
-    stands.boundaries_are ∙ oldest _ stands.newest in
-    let whole = duration-append stands.older stands.newest in
-    let long : end - slice_index kept.boundaries 0 ≡ duration stands.newest = omega (arith, ap duration same) in
-    let number : number_of (bits (take 80 (drop k cells))) ≡ number_of (bits stands.newest) = ap (λ (w : CellWindow).
-    w.bits) window in
-    let finish : tick + duration (take (k + 80) cells) ≡ tick + duration (stands.older ++ stands.newest) = ap (λ (w :
-    CellWindow). w.end) window in
-    let length_is : duration (take 80 (drop k cells)) ≡ duration stands.newest = ap (λ (w : CellWindow). w.length)
-    window in
-    record {
-      many = omega arith;
-      bits_are = is.1 ∙ sym number ∙ bits_are (take 80 (drop k cells));
-      ends = ends ∙ ap (λ (l : List Cell). tick + duration l) same ∙ sym finish;
-      long = long ∙ sym length_is;
-    }
-
-forward_there : (system : System) (kept : Cells) (n tick end : ℕ) (cells : List Cell) (found : Candidates)
-    → IsLatestWindow kept n tick end cells
-    → AreCandidatesOf system n end (end - slice_index kept.boundaries 0) found
-    → listed found.forward ≡ candidate_at system tick cells (length cells - 80) Forward
-forward_there system kept n tick end cells found is are =
-    are.forward ∙ (let a = is.bits_are in let b = is.ends in let c = is.long in rw (← a, ← b, ← c) refl)
-
-backward_there : (system : System) (kept : Cells) (n tick end : ℕ) (cells : List Cell) (found : Candidates)
-    → IsLatestWindow kept n tick end cells
-    → AreCandidatesOf system n end (end - slice_index kept.boundaries 0) found
-    → listed found.backward ≡ candidate_at system tick cells (length cells - 80) Backward
-backward_there system kept n tick end cells found is are =
-    are.backward ∙ (let a = is.bits_are in let b = is.ends in let c = is.long in rw (← a, ← b, ← c) refl)
-
--- what is found of the window that ends with a cell
-found_by : (system : System) (kept : Cells) (b : LatestBits) (tick end : ℕ) (cells : List Cell) (cell : Cell) (found :
-    Candidates) (firm : Bool)
-    → kept.bits ≡ b → CellsStandFor kept tick (cells ++ cell ∷ []) → end ≡ tick + duration (cells ++ cell ∷ [])
-    → AreWindowCandidates system kept.bits kept.boundaries end found
-    → (79 ≤ length cells → firm ≡ is_firm Forward (cells ++ cell ∷ []) (length cells - 79))
-    → AreFound system tick cells cell (option_map (judged firm) found.forward) found.backward
-found_by system kept (latest.Full n) tick end cells cell found firm full stands ends are firm_is =
-    let all = cells ++ cell ∷ [] in
-    let window = latest_window kept n tick end all stands full ends in
-    let of_full = subst (λ (b : LatestBits). AreWindowCandidates system b kept.boundaries end found) full are in
-    let more = length-append cells (cell ∷ []) in
-    let many = window.many in
-    let place : length all - 80 ≡ length cells - 79 = omega arith in
-    let forward = rw place at (forward_there system kept n tick end all found window of_full) in
-    let backward = rw place at (backward_there system kept n tick end all found window of_full) in
-    record {
-      forward_is = λ enough. forward_listed firm found.forward
-          ∙ ap₂ (λ (b : Bool) (es : List Event). map (judged b) es) (firm_is enough) forward;
-      backward_is = λ enough. backward;
-      no_forward_yet = λ few. absurd (omega arith);
-      no_backward_yet = λ few. absurd (omega arith);
-    }
-found_by system kept (latest.Filling f) tick end cells cell found firm filling stands ends are firm_is =
+    let w : CellWindow = window_at tick cells k in
+    let window = take 80 (drop k cells) in
+    let all : event_list own ≡ events_at system tick cells k = of_window there system w own is.1
+    ∙ ap (λ (m : ℕ). events_of_window system m w.end w.length) (bits_are window) in
+    record { many = λ enough. all; few = λ few. absurd (omega (arith, few, is.0)) }
+last_events there system kept (latest.Filling f) tick end cells own filling stands ends are =
     let is = subst (λ (b : LatestBits). BitsStandFor b stands.older stands.newest) filling stands.bits_are in
-    let none : found ≡ no_candidates = subst (λ (b : LatestBits). AreWindowCandidates system b kept.boundaries end
-    found) filling are in
+    let none : own ≡ no_events = subst (λ (b : LatestBits). AreWindowEvents system b kept.boundaries end own) filling
+    are in
     let alone : stands.older ++ stands.newest ≡ stands.newest = rw is.0 refl in
     let room = is.2.1 in
-    let count : length (cells ++ cell ∷ []) ≡ length stands.newest = ap length stands.are ∙ ap length alone in
-    let more = length-append cells (cell ∷ []) in
-    record {
-      forward_is = λ enough. absurd (omega arith);
-      backward_is = λ enough. absurd (omega arith);
-      no_forward_yet = λ few. rw none refl;
-      no_backward_yet = λ few. rw none refl;
-    }
+    let count : length cells ≡ length stands.newest = ap length stands.are ∙ ap length alone in
+    record { many = λ enough. absurd (omega (arith, enough, count, room)); few = λ few. none }
 
-pub all_found : (system : System) (kept : Cells) (tick end : ℕ) (cells : List Cell) (cell : Cell) (found : Candidates)
-    (firm : Bool)
-    → CellsStandFor kept tick (cells ++ cell ∷ []) → end ≡ tick + duration (cells ++ cell ∷ [])
-    → AreWindowCandidates system kept.bits kept.boundaries end found
-    → (79 ≤ length cells → firm ≡ is_firm Forward (cells ++ cell ∷ []) (length cells - 79))
-    → AreFound system tick cells cell (option_map (judged firm) found.forward) found.backward
-all_found system kept tick end cells cell found firm stands ends are firm_is =
-    found_by system kept kept.bits tick end cells cell found firm refl stands ends are firm_is
+-- and so what is found of them is there
+pub all_found : StandThere → (system : System) (kept : Cells) (tick end : ℕ) (cells : List Cell) (cell : Cell)
+    (own : Events) (firm : Bool) → CellsStandFor kept tick (More cells cell) → end ≡ tick + duration (More cells cell)
+    → AreWindowEvents system kept.bits kept.boundaries end own
+    → (79 ≤ length cells → firm ≡ is_firm Forward (More cells cell) (length cells - 79))
+    → AreFound system tick cells cell (option_map (judged firm) (played Forward own)) (played Backward own)
+unfolding events_of_window
+all_found there system kept tick end cells cell own firm stands ends are firm_is =
+    let all = More cells cell in
+    let last = last_events there system kept kept.bits tick end all own refl stands ends are in
+    let more = length-append cells (cell ∷ []) in
+    let k = length cells - 79 in
+    let bits = bits_in (take 80 (drop k all)) in
+    let long = duration (take 80 (drop k all)) in
+    let ends_at = tick + duration (take (k + 80) all) in
+    let there_are : 79 ≤ length cells → event_list own ≡ events_at system tick all k =
+    λ enough. (let place : length all - 80 ≡ k = omega (arith, more, enough) in
+    rw place at (last.many (omega (arith, more, enough)))) in
+    let ways = λ (enough : 79 ≤ length cells). each_way (event_of system Forward bits ends_at long)
+    (event_of system Backward (reversed_bits bits) ends_at long) (ends_in_sync bits) (ends_in_sync (reversed_bits bits))
+    (event_played system Forward Forward bits ends_at long) (event_played system Forward Backward bits ends_at long)
+    (event_played system Backward Forward (reversed_bits bits) ends_at long)
+    (event_played system Backward Backward (reversed_bits bits) ends_at long) own (there_are enough) in
+    record {
+      forward_is = λ enough. forward_listed firm (played Forward own)
+          ∙ ap₂ (λ (b : Bool) (es : List Event). map (judged b) es) (firm_is enough) (ways enough).0;
+      backward_is = λ enough. (ways enough).1;
+      no_forward_yet = λ few. (let none = last.few (omega (arith, more, few)) in rw none refl);
+      no_backward_yet = λ few. (let none = last.few (omega (arith, more, few)) in rw none refl);
+    }

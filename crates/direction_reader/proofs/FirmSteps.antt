@@ -1,301 +1,311 @@
--- Each step of the tracker takes the reader that needs witnesses from a list, with what is given of it, to the list
--- with one interval more.
+-- What an interval does to the stretches decides how the judge goes on from a list, with what is told of it, to the list
+-- with one interval more: the reader of all words stands for its stretches, and a list has one list of them.
 use Rattle.std.proofs.Common.{◌≡◌, ◌≤◌, ℕ, ◌+◌, ◌-◌, List, [], ◌∷◌, ◌++◌, length, take, sum, map, ap, ap₂, sym}
-use Rattle.std.proofs.Common.{◌∙◌, arith, refl, subst}
-use Rattle.std.proofs.Common.{append-nil, append_assoc, Some, None, Option, IsSome, Bool, false}
+use Rattle.std.proofs.Common.{◌∙◌, arith, refl, subst, append-nil, append_assoc, Some, None, Option, Bool, false}
+use Rattle.std.proofs.Common.{◌⊎◌, inl, inr, length-append}
 use Rattle.std.specs.List.{flat_map}
 use Rattle.std.proofs.lemmas.Grind.{flat_map-append}
-use Rattle.std.proofs.lemmas.List.{take-append-le, take_all}
+use Rattle.std.proofs.lemmas.List.{map-append, take_all}
 use Rattle.lemmas.specs.Lists.{length-last}
 use Rattle.biphase.specs.declared.cell.Cell.{Cell}
-use Rattle.biphase.specs.declared.cell.Cell.TheVariants as cell
-use Rattle.biphase.specs.Tolerance.{length_of}
-use Rattle.biphase.specs.Chain.{bit_of}
+use Rattle.biphase.specs.Chain.{bit_of, bits}
 use Rattle.cell_tracker.specs.Stretch.{Stretch, begun, with_cell, with_break}
 use Rattle.tc_address.specs.declared.system.System.{System}
+use Rattle.direction_reader.specs.declared.brought.Brought.{Brought}
+use Rattle.direction_reader.specs.declared.brought.Brought.TheVariants as brings
 use Rattle.direction_reader.specs.declared.event.Event.{Event}
 use Rattle.direction_reader.specs.declared.event.Event.TheVariants.{Lost}
+use Rattle.direction_reader.specs.declared.event.Events.{Events}
 use Rattle.direction_reader.specs.declared.firm_event.FirmEvent.{FirmEvent}
 use Rattle.direction_reader.specs.declared.firm_event.FirmEvent.TheVariants.{Told}
+use Rattle.direction_reader.specs.declared.latest_bits.LatestBits.{LatestBits}
 use Rattle.direction_reader.specs.declared.state.Step.{Step}
 use Rattle.direction_reader.specs.declared.state.Step.TheVariants.{Nothing, FirstZero, ZeroBefore, Break}
 use Rattle.direction_reader.specs.declared.waiting.Waiting.{Waiting}
-use Rattle.direction_reader.specs.Firm.{firm_events_of_cells, firm_events_of_stretch}
-use Rattle.direction_reader.specs.FirmReader.{FirmState, FirmTakes, FirmOpen, FirmLatest, FirmStandsFor}
-use Rattle.direction_reader.specs.FirmStandsFor.{KeptFirm, no_firm_cells, FirmCellsStandFor}
-use Rattle.direction_reader.specs.FirmStep.{ended, firm_list, firm_listed}
+use Rattle.direction_reader.specs.Beside.{BesideBits, none_beside, beside_with, is_firm_before, is_sync_behind}
+use Rattle.direction_reader.specs.Firm.{firm_events_of_cells, firm_events_of_stretch, is_firm, judged}
+use Rattle.tc_address.specs.declared.direction.Direction.TheVariants.{Forward, Backward}
+use Rattle.direction_reader.specs.FirmKnown.{Known, all_sure, known_of, known_of_stretch}
+use Rattle.direction_reader.specs.FirmReader.{FirmState, FirmOpen, FirmLatest, FirmStandsFor}
+use Rattle.direction_reader.specs.FirmStandsFor.{beside_of, WaitsFor}
+use Rattle.direction_reader.specs.FirmStep.{ended, firm_list, firm_listed, heard_events}
+use Rattle.direction_reader.specs.Events.{played}
+use Rattle.std.specs.Option.{option_map}
 use Rattle.direction_reader.specs.Gathered.{begin_of}
+use Rattle.direction_reader.specs.LatestCells.{AreWindowEvents, StepBrings}
 use Rattle.direction_reader.specs.ListEvents.{duration, break_events}
-use Rattle.direction_reader.specs.StandsFor.{waiting, AreInside, TrackerStandsFor, StandsAfter, MayBreak}
-use Rattle.direction_reader.proofs.CellsGrow.{none_yet, duration_more}
-use Rattle.direction_reader.proofs.EventsJoin.{begin_stays, break_stays, all_inside, one_inside}
-use Rattle.direction_reader.proofs.KnownSteps.{end_stands}
-use Rattle.direction_reader.proofs.ReaderSteps.{sum_more, last_sum}
+use Rattle.direction_reader.specs.Reader.{ReaderState}
+use Rattle.direction_reader.specs.StandsFor.{IsAtCell, LatestStandsFor, MayBreak, OpenStandsFor, StandsAfter, StandsFor}
+use Rattle.direction_reader.specs.StandsFor.{TrackerStandsFor, waiting}
+use Rattle.direction_reader.specs.Tracking.{Tracking}
+use Rattle.direction_reader.specs.Tracking.{AtCell, MidCell, Hunting}
+use Rattle.direction_reader.proofs.AsLists.{StandThere}
+use Rattle.direction_reader.proofs.EventsJoin.{begin_stays}
+use Rattle.direction_reader.proofs.FirmKept.{all_found, beside_more, firm_before, sync_behind}
+use Rattle.direction_reader.proofs.KnownCells.{sure_append}
+use Rattle.direction_reader.proofs.KnownSteps.{end_stands, heard_stands}
+use Rattle.direction_reader.proofs.KnownStretches.{all_stay, broken_known}
+use Rattle.direction_reader.proofs.OneListOfEvents.{HasOneList}
+use Rattle.direction_reader.proofs.SyncInTime.{WordLaws}
+
+-- ---- one list of stretches
+
+same_last : (e f : List Stretch) (s t : Stretch) → e ++ s ∷ [] ≡ f ++ t ∷ [] → (e ≡ f) × (s ≡ t)
+same_last [] [] s t is = (refl, cc)
+same_last [] (v ∷ f) s t is = let count = ap length is in absurd (omega (arith, count, length-append f (t ∷ [])))
+same_last (u ∷ e) [] s t is = let count = ap length is in absurd (omega (arith, count, length-append e (s ∷ [])))
+same_last (u ∷ e) (v ∷ f) s t is =
+    let rest : e ++ s ∷ [] ≡ f ++ t ∷ [] = cc in
+    let first : u ≡ v = cc in
+    let more = same_last e f s t rest in
+    (ap₂ (λ (x : Stretch) (xs : List Stretch). x ∷ xs) first more.0, more.1)
+
+-- a tracker stands for the stretches of a list in one way
+pub same_stretches : HasOneList → (t : Tracking) (l : List ℕ) (e f : List Stretch) (o p : Option Stretch)
+    → TrackerStandsFor t l e o → TrackerStandsFor t l f p → (f ≡ e) × (p ≡ o)
+same_stretches one (AtCell a) l e f None p is too = absurd is
+same_stretches one (AtCell a) l e f (Some s) None is too = absurd too
+same_stretches one (AtCell a) l e f (Some s) (Some t) is too =
+    let same = same_last f e t s (one a.profile l (f ++ t ∷ []) (e ++ s ∷ []) too.stretches_are is.stretches_are) in
+    (same.0, ap (λ (u : Stretch). Some u) same.1)
+same_stretches one (MidCell m) l e f None p is too = absurd is
+same_stretches one (MidCell m) l e f (Some s) None is too = absurd too
+same_stretches one (MidCell m) l e f (Some s) (Some t) is too =
+    let same = same_last f e t s (one m.profile l (f ++ t ∷ []) (e ++ s ∷ []) too.stretches_are is.stretches_are) in
+    (same.0, ap (λ (u : Stretch). Some u) same.1)
+same_stretches one (Hunting h) l e f (Some s) p is too = absurd is
+same_stretches one (Hunting h) l e f None (Some t) is too = absurd too
+same_stretches one (Hunting h) l e f None None is too = (one h.profile l f e too.stretches_are is.stretches_are, refl)
 
 -- ---- the stretches that were there
 
-pub stretch_stays : (system : System) (l more : List ℕ) (s : Stretch) (n : ℕ) → n ≡ length l
-    → Rattle.direction_reader.specs.StandsFor.IsInside n s
-    → firm_events_of_stretch system (l ++ more) s ≡ firm_events_of_stretch system l s
-stretch_stays system l more s n count inside =
-    let within = rw count at inside in
-    ap₂ (λ (tick : ℕ) (es : List Event). firm_events_of_cells system tick s.cells ++ map (λ (e : Event). Told e) es)
-    (begin_stays l more s within.lock) (break_stays l more s.broken_at within.broken)
+-- the stretches are the same, but for the open one
+goes_on : (r n : FirmState) (x : ℕ) (l : List ℕ) (told own : List FirmEvent) (es : List Event)
+    → n.reader.system ≡ r.reader.system → (stands : FirmStandsFor r l told)
+    → (after : StandsFor n.reader (l ++ x ∷ []) es) → after.earlier ≡ stands.reader.earlier
+    → FirmLatest n (l ++ x ∷ []) after.open_yet (stands.latest ++ own) → FirmStandsFor n (l ++ x ∷ []) (told ++ own)
+goes_on r n x l told own es system stands after same latest = record {
+  events = es;
+  reader = after;
+  past = stands.past;
+  latest = stands.latest ++ own;
+  past_are = rw (system, same) (all_stay r.reader.system l (x ∷ []) stands.reader.earlier stands.reader.inside
+      ∙ stands.past_are);
+  latest_are = latest;
+  all = ap (λ (es : List FirmEvent). es ++ own) stands.all ∙ append_assoc stands.past stands.latest own;
+}
 
-past_stays : (system : System) (l more : List ℕ) (ss : List Stretch) → AreInside (length l) ss
-    → flat_map (firm_events_of_stretch system (l ++ more)) ss ≡ flat_map (firm_events_of_stretch system l) ss
-past_stays system l more [] inside = refl
-past_stays system l more (s ∷ ss) inside =
-    ap₂ (λ (a b : List FirmEvent). a ++ b) (stretch_stays system l more s (length l) refl inside.0) (past_stays system
-    l more ss inside.1)
-
--- what was given of them
-abbrev past_of : System → List ℕ → List Stretch → List FirmEvent
-past_of system l ss = flat_map (firm_events_of_stretch system l) ss
-
-past_after : (r n : FirmState) (x : ℕ) (l : List ℕ) (told : List FirmEvent) → FirmTakes r x n
-    → (stands : FirmStandsFor r l told)
-    → past_of n.system (l ++ x ∷ []) stands.earlier ≡ past_of r.system l stands.earlier
-past_after r n x l told takes stands =
-    ap (λ (s : System). past_of s (l ++ x ∷ []) stands.earlier) takes.system
-    ∙ past_stays r.system l (x ∷ []) stands.earlier stands.inside
-
-inside_after : (x : ℕ) (l : List ℕ) (ss : List Stretch) → AreInside (length l) ss → AreInside (length (l ++ x ∷ [])) ss
-inside_after x l ss inside = all_inside (length l) (length (l ++ x ∷ [])) ss (omega (arith, length-last l x)) inside
+-- where one is open it began among the intervals
+began_within : (r : ReaderState) (l : List ℕ) (s : Stretch) (es : List Event) (o : Option Stretch)
+    → LatestStandsFor r l o es → o ≡ Some s → s.lock ≤ length l
+began_within r l s es o is same =
+    let open_is : OpenStandsFor r l s es = subst (λ (o : Option Stretch). LatestStandsFor r l o es) same is in
+    open_is.lock
 
 -- ---- no cell ended
 
-latest_waits : (r n : FirmState) (x : ℕ) (l : List ℕ) (o : Option Stretch) (told : List FirmEvent) → FirmTakes r x n
-    → n.cells ≡ r.cells
-    → (IsSome o → waiting n.tracker ≡ waiting r.tracker + x) → FirmLatest r l o told → FirmLatest n (l ++ x ∷ []) o told
-latest_waits r n x l None told takes same waits is = (is.0, rw same is.1)
-latest_waits r n x l (Some s) told takes same waits is =
-    let begins : begin_of (l ++ x ∷ []) s ≡ begin_of l s = begin_stays l (x ∷ []) s is.lock in
-    let half = waits refl in
-    let ticks = takes.tick in
-    let was = is.ends in
-    let count = length-last l x in
-    let inside = is.lock in
-    record {
-      lock = omega arith;
-      kept = rw (begins, same, takes.system) is.kept;
-      ends = omega arith;
-    }
+still : (r n : FirmState) (x : ℕ) (l : List ℕ) (o : Option Stretch) (es : List Event) (told : List FirmEvent)
+    → n.reader.system ≡ r.reader.system → n.beside ≡ r.beside → n.waits ≡ r.waits → LatestStandsFor r.reader l o es
+    → FirmLatest r l o told → FirmLatest n (l ++ x ∷ []) o told
+still r n x l None es told system beside waits within is = (beside ∙ is.0, waits ∙ is.1, is.2)
+still r n x l (Some s) es told system beside waits within is =
+    let begins : begin_of (l ++ x ∷ []) s ≡ begin_of l s = begin_stays l (x ∷ []) s within.lock in
+    record { beside = beside ∙ is.beside; waits = rw (begins, system, waits) is.waits }
 
-pub nothing_ended : (r n : FirmState) (x : ℕ) (l : List ℕ) (told : List FirmEvent) → FirmTakes r x n → n.cells ≡ r.cells
-    → (stands : FirmStandsFor r l told) → StandsAfter r.tracker n.tracker x l stands.earlier stands.open_yet Nothing
-    → FirmStandsFor n (l ++ x ∷ []) (told ++ [])
-nothing_ended r n x l told takes same stands after = record {
-  count = takes.intervals ∙ ap (λ m. m + 1) stands.count ∙ sym (length-last l x);
-  sum_is = takes.tick ∙ ap (λ m. m + x) stands.sum_is ∙ sym (sum_more l x);
-  earlier = stands.earlier;
-  open_yet = stands.open_yet;
-  tracker = after.0;
-  inside = inside_after x l stands.earlier stands.inside;
-  latest = stands.latest;
-  latest_are = latest_waits r n x l stands.open_yet stands.latest takes same after.1 stands.latest_are;
-  all = append-nil told ∙ stands.all
-      ∙ ap (λ (es : List FirmEvent). es ++ stands.latest) (sym (past_after r n x l told takes stands));
-}
-
--- ---- a cell ended
-
--- a cell of this bit that ends at a tick is added
-abbrev pub Adds : KeptFirm → KeptFirm → System → ℕ → Bool → List FirmEvent → Type 0
-Adds old new system tick bit own = (begin : ℕ) (cells : List Cell) (cell : Cell) (told : List FirmEvent)
-    → FirmCellsStandFor old system begin cells told → bit_of cell ≡ bit → tick ≡ begin + duration cells + length_of cell
-    → FirmCellsStandFor new system begin (cells ++ cell ∷ []) (told ++ own)
-
-cell_opens : (r n : FirmState) (x : ℕ) (l : List ℕ) (s : Stretch) (c : Cell) (bit : Bool) (told own : List FirmEvent) →
-    FirmTakes r x n
-    → Adds r.cells n.cells r.system n.tick bit own → bit_of c ≡ bit → length_of c ≡ waiting r.tracker + x
-    → waiting n.tracker ≡ 0
-    → FirmOpen r l s told → FirmOpen n (l ++ x ∷ []) (with_cell c s) (told ++ own)
-cell_opens r n x l s c bit told own takes adds is_bit long waits is =
-    let begin = begin_of l s in
-    let begins : begin_of (l ++ x ∷ []) s ≡ begin = begin_stays l (x ∷ []) s is.lock in
-    let ticks = takes.tick in
-    let was = is.ends in
-    let more = duration_more s.cells c in
-    let count = length-last l x in
-    let inside = is.lock in
-    let ends : n.tick ≡ begin + duration s.cells + length_of c = omega arith in
-    record {
-      lock = omega arith;
-      kept = rw (begins, takes.system) (adds begin s.cells c told is.kept is_bit ends);
-      ends = rw begins (omega arith);
-    }
-
-pub cell_told : (r n : FirmState) (x : ℕ) (l : List ℕ) (bit : Bool) (told own : List FirmEvent) → FirmTakes r x n
-    → Adds r.cells n.cells r.system n.tick bit own → (stands : FirmStandsFor r l told)
-    → StandsAfter r.tracker n.tracker x l stands.earlier stands.open_yet (Step.Cell bit)
-    → FirmStandsFor n (l ++ x ∷ []) (told ++ own)
-cell_told r n x l bit told own takes adds stands (s, c, open_yet, is_bit, long, waits, tracker) =
-    let is : FirmOpen r l s stands.latest = subst (λ (o : Option Stretch). FirmLatest r l o stands.latest) open_yet
-    stands.latest_are in
-    record {
-      count = takes.intervals ∙ ap (λ m. m + 1) stands.count ∙ sym (length-last l x);
-      sum_is = takes.tick ∙ ap (λ m. m + x) stands.sum_is ∙ sym (sum_more l x);
-      earlier = stands.earlier;
-      open_yet = Some (with_cell c s);
-      tracker = tracker;
-      inside = inside_after x l stands.earlier stands.inside;
-      latest = stands.latest ++ own;
-      latest_are = cell_opens r n x l s c bit stands.latest own takes adds is_bit long waits is;
-      all = ap (λ (es : List FirmEvent). es ++ own) stands.all
-          ∙ append_assoc (past_of r.system l stands.earlier) stands.latest own
-          ∙ ap (λ (es : List FirmEvent). es ++ (stands.latest ++ own)) (sym (past_after r n x l told takes stands));
-    }
+pub nothing_ended : HasOneList → (r n : FirmState) (x : ℕ) (l : List ℕ) (told : List FirmEvent) (es : List Event)
+    → n.reader.system ≡ r.reader.system → n.beside ≡ r.beside → n.waits ≡ r.waits → (stands : FirmStandsFor r l told)
+    → StandsAfter r.reader.tracker n.reader.tracker x l stands.reader.earlier stands.reader.open_yet Nothing
+    → StandsFor n.reader (l ++ x ∷ []) es → FirmStandsFor n (l ++ x ∷ []) (told ++ [])
+nothing_ended one r n x l told es system beside waits stands is after =
+    let old = stands.reader in
+    let same = same_stretches one n.reader.tracker (l ++ x ∷ []) old.earlier after.earlier old.open_yet after.open_yet
+    is.0 after.tracker in
+    goes_on r n x l told [] es system stands after same.0
+    (rw (same.1, append-nil stands.latest) (still r n x l old.open_yet old.latest stands.latest system beside waits
+    old.latest_are stands.latest_are))
 
 -- ---- a stretch begins
 
-none_told : (r : FirmState) (l : List ℕ) (told : List FirmEvent) (stands : FirmStandsFor r l told)
-    → stands.open_yet ≡ None
-    → told ≡ past_of r.system l stands.earlier
-none_told r l told stands closed =
-    let none = subst (λ (o : Option Stretch). FirmLatest r l o stands.latest) closed stands.latest_are in
-    stands.all ∙ ap (λ (es : List FirmEvent). past_of r.system l stands.earlier ++ es) none.0
-    ∙ append-nil (past_of r.system l stands.earlier)
-
--- no cell yet
-nothing_yet : (system : System) (tick : ℕ) → FirmCellsStandFor (no_firm_cells tick) system tick [] []
-nothing_yet system tick = record {
-  latest = none_yet tick;
-  beside = refl;
-  waits = record { front = []; sure = refl; before = refl };
-}
-
-begins : (r n : FirmState) (x : ℕ) (l : List ℕ) (told own : List FirmEvent) (lock first tick end : ℕ) → FirmTakes r x n
-    → Adds (no_firm_cells tick) n.cells r.system end false own → end ≡ tick + first
-    → lock ≤ length l → begin_of (l ++ x ∷ []) (begun lock first) ≡ tick → n.tick ≡ tick + first + waiting n.tracker
-    → (stands : FirmStandsFor r l told) → stands.open_yet ≡ None
-    → TrackerStandsFor n.tracker (l ++ x ∷ []) stands.earlier (Some (begun lock first))
-    → FirmStandsFor n (l ++ x ∷ []) (told ++ own)
-begins r n x l told own lock first tick end takes adds ends_at within start ends stands closed tracker =
-    let one : duration (cell.Zero first ∷ []) ≡ first = omega arith in
-    let zero_ends : end ≡ tick + duration [] + first = omega arith in
-    let kept = adds tick [] (cell.Zero first) [] (nothing_yet r.system tick) refl zero_ends in
-    let count = length-last l x in
+first_cell : (r n : FirmState) (l more : List ℕ) (o : Option Stretch) (lock first : ℕ) (told : List FirmEvent)
+    → n.beside ≡ beside_with r.beside false → n.waits ≡ r.waits → o ≡ None → FirmLatest r l o told
+    → FirmLatest n more (Some (begun lock first)) (told ++ [])
+first_cell r n l more o lock first told beside waits closed is =
+    let none : FirmLatest r l None told = subst (λ (o : Option Stretch). FirmLatest r l o told) closed is in
+    let empty = none.0 in
+    let nothing = none.1 in
+    let untold = none.2 in
     record {
-      count = takes.intervals ∙ ap (λ m. m + 1) stands.count ∙ sym (length-last l x);
-      sum_is = takes.tick ∙ ap (λ m. m + x) stands.sum_is ∙ sym (sum_more l x);
-      earlier = stands.earlier;
-      open_yet = Some (begun lock first);
-      tracker = tracker;
-      inside = inside_after x l stands.earlier stands.inside;
-      latest = own;
-      latest_are = record { lock = omega arith; kept = rw (start, takes.system) kept; ends = rw (start, one) ends };
-      all = ap (λ (es : List FirmEvent). es ++ own) (none_told r l told stands closed
-          ∙ sym (past_after r n x l told takes stands));
+      beside = beside ∙ ap (λ (b : BesideBits). beside_with b false) empty;
+      waits = rw (waits, nothing, untold) (record { front = []; sure = refl; before = refl });
     }
 
--- with the interval
-pub begins_now : (r n : FirmState) (x : ℕ) (l : List ℕ) (told own : List FirmEvent) → FirmTakes r x n
-    → Adds (no_firm_cells r.tick) n.cells r.system n.tick false own → (stands : FirmStandsFor r l told)
-    → StandsAfter r.tracker n.tracker x l stands.earlier stands.open_yet FirstZero
-    → FirmStandsFor n (l ++ x ∷ []) (told ++ own)
-begins_now r n x l told own takes adds stands after =
-    let ticks = takes.tick in
-    let waits = after.1 in
-    let start : begin_of (l ++ x ∷ []) (begun (length l) x) ≡ r.tick =
-    ap sum (take-append-le (length l) l (x ∷ []) (omega arith) ∙ take_all (length l) l (omega arith))
-    ∙ sym stands.sum_is in
-    begins r n x l told own (length l) x r.tick n.tick takes adds ticks (omega arith) start (omega arith) stands
-    after.0 after.2
+begins_at : HasOneList → (r n : FirmState) (x lock first : ℕ) (l : List ℕ) (told : List FirmEvent) (es : List Event)
+    → n.reader.system ≡ r.reader.system → n.beside ≡ beside_with r.beside false → n.waits ≡ r.waits
+    → (stands : FirmStandsFor r l told) → stands.reader.open_yet ≡ None
+    → TrackerStandsFor n.reader.tracker (l ++ x ∷ []) stands.reader.earlier (Some (begun lock first))
+    → StandsFor n.reader (l ++ x ∷ []) es → FirmStandsFor n (l ++ x ∷ []) (told ++ [])
+begins_at one r n x lock first l told es system beside waits stands closed is after =
+    let old = stands.reader in
+    let same = same_stretches one n.reader.tracker (l ++ x ∷ []) old.earlier after.earlier (Some (begun lock first))
+    after.open_yet is after.tracker in
+    goes_on r n x l told [] es system stands after same.0
+    (rw same.1 (first_cell r n l (l ++ x ∷ []) old.open_yet lock first stands.latest beside waits closed
+    stands.latest_are))
 
--- with the interval before
-pub begins_before : (r n : FirmState) (x first tick : ℕ) (l : List ℕ) (told own : List FirmEvent) → FirmTakes r x n
-    → tick ≡ r.tick - first
-    → Adds (no_firm_cells tick) n.cells r.system r.tick false own → (stands : FirmStandsFor r l told)
-    → StandsAfter r.tracker n.tracker x l stands.earlier stands.open_yet (ZeroBefore first)
-    → FirmStandsFor n (l ++ x ∷ []) (told ++ own)
-begins_before r n x first tick l told own takes starts adds stands after =
-    let ticks = takes.tick in
-    let waits = after.2 in
-    let sum_is = stands.sum_is in
-    let last = last_sum l first after.1 in
-    let before : begin_of (l ++ x ∷ []) (begun (length l - 1) first) ≡ sum (take (length l - 1) l) =
-    ap sum (take-append-le (length l - 1) l (x ∷ []) (omega arith)) in
-    begins r n x l told own (length l - 1) first tick r.tick takes adds (omega (arith, last.1)) (omega arith) (omega
-    (arith, last.1))
-    (omega (arith, last.1)) stands after.0 after.3
+-- the step is the first zero of a stretch, this one or the one before
+abbrev pub IsFirst : Step → Type 0
+IsFirst step = (step ≡ FirstZero) ⊎ ((first : ℕ) × (step ≡ ZeroBefore first))
+
+pub begins : HasOneList → (r n : FirmState) (x : ℕ) (l : List ℕ) (told : List FirmEvent) (es : List Event) (step : Step)
+    → n.reader.system ≡ r.reader.system → n.beside ≡ beside_with r.beside false → n.waits ≡ r.waits
+    → (stands : FirmStandsFor r l told) → IsFirst step
+    → StandsAfter r.reader.tracker n.reader.tracker x l stands.reader.earlier stands.reader.open_yet step
+    → StandsFor n.reader (l ++ x ∷ []) es → FirmStandsFor n (l ++ x ∷ []) (told ++ [])
+begins one r n x l told es step system beside waits stands (inl now) is after =
+    let begun_now = rw now at is in
+    begins_at one r n x (length l) x l told es system beside waits stands begun_now.0 begun_now.2 after
+begins one r n x l told es step system beside waits stands (inr (first, before)) is after =
+    let begun_before = rw before at is in
+    begins_at one r n x (length l - 1) first l told es system beside waits stands begun_before.0 begun_before.3 after
+
+-- it brings nothing
+pub quiet_first : (b : LatestBits) (step : Step) (brought : Brought) → IsFirst step → StepBrings b step brought
+    → brought ≡ brings.Nothing
+quiet_first b step brought (inl now) is = rw now at is
+quiet_first b step brought (inr (first, before)) is = rw before at is
+
+-- ---- a cell ended
+
+-- the bits beside the window that ends with it
+beside_all : (b n : BesideBits) (cells : List Cell) (cell : Cell) (bit : Bool) → bit_of cell ≡ bit
+    → n ≡ beside_with b bit → b ≡ beside_of none_beside (bits cells)
+    → n ≡ beside_of none_beside (bits (cells ++ cell ∷ []))
+beside_all b n cells cell bit same is before =
+    let all : bits (cells ++ cell ∷ []) ≡ bits cells ++ bit ∷ [] =
+    map-append bit_of cells (cell ∷ []) ∙ ap (λ (b : Bool). bits cells ++ b ∷ []) same in
+    is ∙ ap (λ (b : BesideBits). beside_with b bit) before ∙ sym (beside_more none_beside (bits cells) bit)
+    ∙ ap (λ (bs : List Bool). beside_of none_beside bs) (sym all)
+
+cell_heard : WordLaws → StandThere → (r n : FirmState) (l more : List ℕ) (s : Stretch) (cell : Cell) (bit : Bool)
+    (own : Events) (es : List Event) (told : List FirmEvent) → n.reader.system ≡ r.reader.system → bit_of cell ≡ bit
+    → n.beside ≡ beside_with r.beside bit → n.waits ≡ (heard_events r.waits n.beside own).waiting
+    → AreWindowEvents n.reader.system n.reader.cells.bits n.reader.cells.boundaries n.reader.tick own
+    → waiting n.reader.tracker ≡ 0 → begin_of more s ≡ begin_of l s
+    → OpenStandsFor n.reader more (with_cell cell s) es → FirmOpen r l s told
+    → FirmOpen n more (with_cell cell s) (told ++ firm_list (heard_events r.waits n.beside own).told)
+cell_heard laws there r n l more s cell bit own es told system same beside waits are ended_now begin after is =
+    let cells = s.cells in
+    let all = cells ++ cell ∷ [] in
+    let tick = begin_of l s in
+    let count = length-append cells (cell ∷ []) in
+    let own_system = r.reader.system in
+    let register = beside_all r.beside n.beside cells cell bit same beside is.beside in
+    let kept = rw begin at after.kept in
+    let at_end = after.ends in
+    let ends : n.reader.tick ≡ tick + duration all = omega (arith, at_end, ended_now, begin) in
+    let firm : 79 ≤ length cells → is_firm_before n.beside ≡ is_firm Forward all (length cells - 79) =
+    λ enough. (
+    let place : length all - 80 ≡ length cells - 79 = omega (arith, count) in
+    ap is_firm_before register ∙ rw place at (firm_before all (omega (arith, count, enough)))) in
+    let found = all_found there own_system n.reader.cells tick n.reader.tick cells cell own (is_firm_before n.beside)
+    kept ends (rw system at are) firm in
+    let now = heard_stands laws own_system tick cells cell r.waits told (is_sync_behind n.beside)
+    (option_map (judged (is_firm_before n.beside)) (played Forward own)) (played Backward own) found
+    (λ enough. ap is_sync_behind register ∙ sync_behind all (length cells - 15) (omega (arith, count, enough))
+    (omega (arith, count, enough))) is.waits in
+    record { beside = register; waits = rw (system, begin, waits) now }
+
+pub cell_told : HasOneList → WordLaws → StandThere → (r n : FirmState) (x : ℕ) (l : List ℕ) (bit : Bool) (own : Events)
+    (told : List FirmEvent) (es : List Event) → n.reader.system ≡ r.reader.system
+    → n.beside ≡ beside_with r.beside bit → n.waits ≡ (heard_events r.waits n.beside own).waiting
+    → AreWindowEvents n.reader.system n.reader.cells.bits n.reader.cells.boundaries n.reader.tick own
+    → (stands : FirmStandsFor r l told)
+    → StandsAfter r.reader.tracker n.reader.tracker x l stands.reader.earlier stands.reader.open_yet (Step.Cell bit)
+    → StandsFor n.reader (l ++ x ∷ []) es
+    → FirmStandsFor n (l ++ x ∷ []) (told ++ firm_list (heard_events r.waits n.beside own).told)
+cell_told one laws there r n x l bit own told es system beside waits are stands
+    (s, cell, open_yet, is_bit, long, none, tracker) after =
+    let old = stands.reader in
+    let same = same_stretches one n.reader.tracker (l ++ x ∷ []) old.earlier after.earlier (Some (with_cell cell s))
+    after.open_yet tracker after.tracker in
+    let within = began_within r.reader l s old.latest old.open_yet old.latest_are open_yet in
+    let is : FirmOpen r l s stands.latest =
+    subst (λ (o : Option Stretch). FirmLatest r l o stands.latest) open_yet stands.latest_are in
+    let open_now : OpenStandsFor n.reader (l ++ x ∷ []) (with_cell cell s) after.latest =
+    subst (λ (o : Option Stretch). LatestStandsFor n.reader (l ++ x ∷ []) o after.latest) same.1 after.latest_are in
+    goes_on r n x l told (firm_list (heard_events r.waits n.beside own).told) es system stands after same.0
+    (rw same.1 (cell_heard laws there r n l (l ++ x ∷ []) s cell bit own after.latest stands.latest system is_bit beside
+    waits are none (begin_stays l (x ∷ []) s within) open_now is))
 
 -- ---- the stretch breaks
 
-abbrev lost_of : FirmState → FirmEvent
-lost_of n = Told (Lost (n.intervals - 1) n.tick)
+-- all that is given of it
+breaks_with : (r : FirmState) (x : ℕ) (l : List ℕ) (o : Option Stretch) (s : Stretch) (es : List Event)
+    (told : List FirmEvent) → LatestStandsFor r.reader l o es → FirmLatest r l o told → MayBreak l o s
+    → told ++ firm_list (ended r.waits) ≡ firm_events_of_cells r.reader.system (begin_of (l ++ x ∷ []) s) s.cells
+breaks_with r x l (Some o) s es told within is same =
+    let begins : begin_of (l ++ x ∷ []) s ≡ begin_of l s =
+    begin_stays l (x ∷ []) s (began_within r.reader l s es (Some o) within (ap (λ (u : Stretch). Some u) (sym same))) in
+    let all : told ++ firm_list (ended r.waits) ≡ firm_events_of_cells r.reader.system (begin_of l s) s.cells =
+    rw same (end_stands r.reader.system (begin_of l o) o.cells told r.waits is.waits) in
+    rw begins all
+breaks_with r x l None s es told within is (first, last, same) =
+    let nothing = is.1 in
+    let untold = is.2 in
+    rw (nothing, untold, same) refl
 
--- all that is given of a stretch that breaks
-breaks_with : (r : FirmState) (x : ℕ) (l : List ℕ) (o : Option Stretch) (s : Stretch) (told : List FirmEvent)
-    → FirmLatest r l o told → MayBreak l o s
-    → (s.lock ≤ length l) × (told ++ firm_list (ended r.cells.waits) ≡ firm_events_of_cells r.system (begin_of (l ++ x
-    ∷ []) s) s.cells)
-breaks_with r x l (Some o) s told is same =
-    let within : s.lock ≤ length l = rw same is.lock in
-    let begins : begin_of (l ++ x ∷ []) s ≡ begin_of l s = begin_stays l (x ∷ []) s within in
-    let all : told ++ firm_list (ended r.cells.waits) ≡ firm_events_of_cells r.system (begin_of l s) s.cells =
-    rw same (end_stands r.system (begin_of l o) o.cells told r.cells.waits is.kept.waits) in
-    (within, rw begins all)
-breaks_with r x l None s told is (first, last, same) =
-    let within : s.lock ≤ length l = rw same (omega arith) in
-    let none = is.1 in
-    let nothing : told ++ firm_list (ended r.cells.waits) ≡ [] = rw (is.0, none) refl in
-    let no_window : firm_events_of_cells r.system (begin_of (l ++ x ∷ []) s) s.cells ≡ [] = rw same refl in
-    (within, nothing ∙ sym no_window)
-
-two_ended : (waits : Option Waiting) → firm_list (ended waits) ≡ firm_listed (ended waits).first ++ firm_listed (ended
-    waits).second
+two_ended : (waits : Option Waiting)
+    → firm_list (ended waits) ≡ firm_listed (ended waits).first ++ firm_listed (ended waits).second
 two_ended None = refl
 two_ended (Some w) = append-nil (firm_listed (ended (Some w)).first ++ firm_listed (ended (Some w)).second)
 
-pub broken : (r n : FirmState) (x : ℕ) (l : List ℕ) (told : List FirmEvent) → FirmTakes r x n → n.cells.waits ≡ None
-    → (stands : FirmStandsFor r l told)
-    → StandsAfter r.tracker n.tracker x l stands.earlier stands.open_yet Break
-    → FirmStandsFor n (l ++ x ∷ [])
-    (told ++ (firm_listed (ended r.cells.waits).first ++ firm_listed (ended r.cells.waits).second ++ lost_of n ∷ []))
-broken r n x l told takes empty stands (s, breaks, tracker) =
-    let with = breaks_with r x l stands.open_yet s stands.latest stands.latest_are breaks in
-    let counted : n.intervals - 1 ≡ length l = let a = takes.intervals in let b = stands.count in omega arith in
-    let all_taken : take (length l + 1) (l ++ x ∷ []) ≡ l ++ x ∷ [] = take_all (length l + 1) (l ++ x ∷ []) (omega
-    (arith, length-last l x)) in
-    let summed : n.tick ≡ sum (l ++ x ∷ []) = takes.tick ∙ ap (λ m. m + x) stands.sum_is ∙ sym (sum_more l x) in
-    let t = with_break (length l) s in
-    let e = ended r.cells.waits in
-    let lost : List FirmEvent = lost_of n ∷ [] in
+abbrev lost_of : FirmState → FirmEvent
+lost_of n = Told (Lost (n.reader.intervals - 1) n.reader.tick)
+
+pub broken : HasOneList → (r n : FirmState) (x : ℕ) (l : List ℕ) (told : List FirmEvent) (es : List Event)
+    → n.reader.system ≡ r.reader.system → n.beside ≡ none_beside → n.waits ≡ None → (stands : FirmStandsFor r l told)
+    → StandsAfter r.reader.tracker n.reader.tracker x l stands.reader.earlier stands.reader.open_yet Break
+    → StandsFor n.reader (l ++ x ∷ []) es → FirmStandsFor n (l ++ x ∷ [])
+    (told ++ (firm_listed (ended r.waits).first ++ firm_listed (ended r.waits).second ++ lost_of n ∷ []))
+broken one r n x l told es system beside empty stands (s, breaks, tracker) after =
+    let old = stands.reader in
+    let own_system = r.reader.system in
+    let e = ended r.waits in
     let pair = firm_listed e.first ++ firm_listed e.second in
-    let same : lost ≡ map (λ (event : Event). Told event) (break_events (l ++ x ∷ []) (Some (length l))) =
-    rw (counted, all_taken, summed) refl in
+    let lost : List FirmEvent = lost_of n ∷ [] in
+    let t = with_break (length l) s in
+    let all = l ++ x ∷ [] in
+    let count = after.count in
     let more = length-last l x in
-    let within = with.0 in
-    let own : (stands.latest ++ pair) ++ lost ≡ firm_events_of_stretch r.system (l ++ x ∷ []) t =
-    ap₂ (λ (a b : List FirmEvent). a ++ b) (ap (λ (es : List FirmEvent). stands.latest ++ es) (sym (two_ended
-    r.cells.waits)) ∙ with.1) same in
-    let past = past_of r.system (l ++ x ∷ []) stands.earlier in
-    let split : past_of r.system (l ++ x ∷ []) (stands.earlier ++ t ∷ []) ≡ past ++ ((stands.latest ++ pair) ++ lost) =
-    flat_map-append (firm_events_of_stretch r.system (l ++ x ∷ [])) stands.earlier (t ∷ [])
-    ∙ ap (λ (es : List FirmEvent). past ++ es) (append-nil (firm_events_of_stretch r.system (l ++ x ∷ []) t)
-    ∙ sym own) in
-    let inside = inside_after x l stands.earlier stands.inside in
-    let before : told ≡ past ++ stands.latest =
-    stands.all ∙ ap (λ (es : List FirmEvent). es ++ stands.latest) (sym (past_stays r.system l (x ∷ []) stands.earlier
-    stands.inside)) in
+    let counted : n.reader.intervals - 1 ≡ length l = omega (arith, count, more) in
+    let summed = after.sum_is in
+    let all_taken : take (length l + 1) all ≡ all = take_all (length l + 1) all (omega (arith, more)) in
+    let same = same_stretches one n.reader.tracker all (old.earlier ++ t ∷ []) after.earlier None after.open_yet tracker
+    after.tracker in
+    let cells = breaks_with r x l old.open_yet s old.latest stands.latest old.latest_are stands.latest_are breaks in
+    let lost_is : lost ≡ map (λ (event : Event). Told event) (break_events all (Some (length l))) =
+    rw (counted, all_taken, summed) refl in
+    let own : firm_events_of_stretch own_system all t ≡ (stands.latest ++ pair) ++ lost =
+    ap₂ (λ (a b : List FirmEvent). a ++ b) (sym cells
+    ∙ ap (λ (es : List FirmEvent). stands.latest ++ es) (two_ended r.waits)) (sym lost_is) in
+    let known : known_of own_system all (old.earlier ++ t ∷ [])
+    ≡ all_sure (stands.past ++ ((stands.latest ++ pair) ++ lost)) =
+    flat_map-append (known_of_stretch own_system all) old.earlier (t ∷ [])
+    ∙ ap₂ (λ (ks ls : List Known). ks ++ ls)
+    (all_stay own_system l (x ∷ []) old.earlier old.inside ∙ stands.past_are)
+    (append-nil (known_of_stretch own_system all t) ∙ broken_known own_system all t (length l) refl
+    ∙ ap all_sure own) ∙ sym (sure_append stands.past ((stands.latest ++ pair) ++ lost)) in
+    let nothing : FirmLatest n all after.open_yet [] = rw same.1 (beside, empty, refl) in
+    let past = stands.past in
     record {
-      count = takes.intervals ∙ ap (λ m. m + 1) stands.count ∙ sym (length-last l x);
-      sum_is = summed;
-      earlier = stands.earlier ++ t ∷ [];
-      open_yet = None;
-      tracker = tracker;
-      inside = one_inside (length (l ++ x ∷ [])) stands.earlier t inside (record {
-        lock = omega arith;
-        broken = omega
-            arith;
-      });
+      events = es;
+      reader = after;
+      past = past ++ ((stands.latest ++ pair) ++ lost);
       latest = [];
-      latest_are = (refl, empty);
-      all = ap (λ (es : List FirmEvent). es ++ (pair ++ lost)) before
+      past_are = rw (system, same.0) known;
+      latest_are = nothing;
+      all = ap (λ (es : List FirmEvent). es ++ (pair ++ lost)) stands.all
           ∙ append_assoc past stands.latest (pair ++ lost)
           ∙ ap (λ (es : List FirmEvent). past ++ es) (sym (append_assoc stands.latest pair lost))
-          ∙ sym split
-          ∙ ap (λ (system : System). past_of system (l ++ x ∷ []) (stands.earlier ++ t ∷ [])) (sym takes.system)
-          ∙ sym (append-nil (past_of n.system (l ++ x ∷ []) (stands.earlier ++ t ∷ [])));
+          ∙ sym (append-nil (past ++ ((stands.latest ++ pair) ++ lost)));
     }

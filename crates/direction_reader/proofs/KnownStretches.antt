@@ -52,6 +52,19 @@ closed_of system l (s ∷ ss) =
 
 -- ---- more intervals
 
+pub known_stays : (system : System) (l more : List ℕ) (s : Stretch) → IsInside (length l) s
+    → known_of_stretch system (l ++ more) s ≡ known_of_stretch system l s
+known_stays system l more s inside =
+    ap₂ (λ (n : ℕ) (es : List Event). known_of_cells (has_no_break s.broken_at) system n s.cells
+    ++ all_sure (map (λ (e : Event). Told e) es)) (begin_stays l more s inside.lock)
+    (break_stays l more s.broken_at inside.broken)
+
+pub all_stay : (system : System) (l more : List ℕ) (ss : List Stretch) → AreInside (length l) ss
+    → known_of system (l ++ more) ss ≡ known_of system l ss
+all_stay system l more [] inside = refl
+all_stay system l more (s ∷ ss) inside =
+    ap₂ (λ (ks ls : List Known). ks ++ ls) (known_stays system l more s inside.0) (all_stay system l more ss inside.1)
+
 grow_step : (profile : Profile) (system : System) (l more : List ℕ) (s t : Stretch) (ss ts : List Stretch)
     (o : Option ℕ) → s.broken_at ≡ o → IsInside (length l) s → GrowsTo s t
     → MatchOption o (ss ≡ []) (λ place. AreStretchesFrom profile l place ss)
@@ -80,10 +93,7 @@ grow_step profile system l more s t ss ts (Some place) at inside goes next again
     let same : t ≡ s = goes.broken (rw at refl) in
     let here = known_of_stretch system l s in
     let stays : known_of_stretch system (l ++ more) t ≡ here =
-    ap (known_of_stretch system (l ++ more)) same
-    ∙ ap₂ (λ (n : ℕ) (es : List Event). known_of_cells (has_no_break s.broken_at) system n s.cells
-    ++ all_sure (map (λ (e : Event). Told e) es)) (begin_stays l more s inside.lock)
-    (break_stays l more s.broken_at inside.broken) in
+    ap (known_of_stretch system (l ++ more)) same ∙ known_stays system l more s inside in
     rw stays (grow_append here here (known_of system l ss) (known_of system (l ++ more) ts) (grow_refl here, refl)
     (again place next))
 

@@ -323,7 +323,7 @@ quiet_window system (latest.Full n) boundaries end own quiet none = rw none (rec
 quiet_window system (latest.Filling f) boundaries end own quiet none = none
 
 -- what is given of a cell is what its window brings
-told_of_cell : (n : ReaderState) (brought : Brought) (own : Events) → CellBrings n.cells.bits brought
+pub told_of_cell : (n : ReaderState) (brought : Brought) (own : Events) → CellBrings n.cells.bits brought
     → Tells n brought own
     → AreWindowEvents n.system n.cells.bits n.cells.boundaries n.tick own
 told_of_cell n Brought.Nothing own brings told =

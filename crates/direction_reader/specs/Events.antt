@@ -1,5 +1,8 @@
 -- What one interval brought, in order, and the kinds of event.
-use Rattle.std.specs.Prelude.{ℕ, List, [], ◌∷◌, ◌++◌, Option, Some, None, Bool, true, false}
+use Rattle.std.specs.Prelude.{ℕ, List, [], ◌∷◌, ◌++◌, Option, Some, None, Bool, true, false, slice_get}
+use Rattle.std.specs.List.{filter}
+use Rattle.tc_address.specs.declared.direction.Direction.{Direction}
+use Rattle.tc_address.specs.declared.direction.Direction.TheVariants.{Forward, Backward}
 use Rattle.direction_reader.specs.declared.event.Event.{Event}
 use Rattle.direction_reader.specs.declared.event.Event.TheVariants.{Word, Refused, Lost}
 use Rattle.direction_reader.specs.declared.event.Events.{Events}
@@ -41,3 +44,20 @@ is_refused event = false
 abbrev pub is_lost : Event → Bool
 is_lost (Lost interval tick) = true
 is_lost event = false
+
+-- two directions are one
+abbrev pub same_way : Direction → Direction → Bool
+same_way Forward Forward = true
+same_way Forward Backward = false
+same_way Backward Forward = false
+same_way Backward Backward = true
+
+-- the event is a candidate that is played in a direction
+abbrev pub is_played : Direction → Event → Bool
+is_played direction (Word own word tick length) = same_way own direction
+is_played direction (Refused own fault tick) = same_way own direction
+is_played direction (Lost interval tick) = false
+
+-- the first candidate of what one interval brought that is played in a direction
+abbrev pub played : Direction → Events → Option Event
+played direction events = slice_get (filter (is_played direction) (event_list events)) 0

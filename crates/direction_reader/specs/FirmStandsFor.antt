@@ -1,32 +1,19 @@
--- Which cells a reader that needs a witness for each word stands for. What it has given and what waits are together
--- the events of the cells so far.
+-- What a word that waits for its witness says of the cells so far: what was told and what waits are together their
+-- events.
 use Rattle.std.specs.Prelude.{◌≡◌, ℕ, ◌+◌, ◌<◌, ◌≤◌, ◌⊎◌, List, [], ◌∷◌, ◌++◌, length, take, drop, map}
 use Rattle.std.specs.Prelude.{Option, Some, None, Bool, true}
 use Rattle.biphase.specs.declared.cell.Cell.{Cell}
-use Rattle.biphase.specs.Chain.{bits}
 use Rattle.ltc_word.specs.Reversal.{EndsInSync}
 use Rattle.tc_address.specs.declared.direction.Direction.TheVariants.{Backward}
 use Rattle.tc_address.specs.declared.system.System.{System}
 use Rattle.direction_reader.specs.declared.firm_event.FirmEvent.{FirmEvent}
 use Rattle.direction_reader.specs.declared.waiting.Waiting.{Waiting}
-use Rattle.direction_reader.specs.Beside.{BesideBits, none_beside, beside_with}
+use Rattle.direction_reader.specs.Beside.{BesideBits, beside_with}
 use Rattle.direction_reader.specs.Events.{is_word}
 use Rattle.direction_reader.specs.Firm.{candidate_at}
 use Rattle.direction_reader.specs.FirmKnown.{Sight, Beside, all_sure, known, sights_of}
 use Rattle.direction_reader.specs.FirmStep.{firm_listed}
-use Rattle.direction_reader.specs.LatestCells.{Cells, no_cells}
 use Rattle.direction_reader.specs.ListEvents.{bits_in}
-use Rattle.direction_reader.specs.StandsFor.{CellsStandFor}
-
--- the latest cells of a stretch, the latest 96 bits, and the word that waits for its witness
-pub record KeptFirm : Type 0 where
-  pub cells : Cells
-  pub beside : BesideBits
-  pub waits : Option Waiting
-
--- a stretch that begins at a tick, with no cell yet
-abbrev pub no_firm_cells : ℕ → KeptFirm
-no_firm_cells tick = record { cells = no_cells tick; beside = none_beside; waits = None }
 
 -- the register that was given these bits, one after another
 abbrev pub beside_of : BesideBits → List Bool → BesideBits
@@ -58,10 +45,3 @@ pub record WaitsFor (waits : Option Waiting) (system : System) (tick : ℕ) (cel
   pub front : List Sight
   pub sure : map (known true) front ≡ all_sure told
   pub before : AreBefore waits system tick cells front
-
--- what is kept of cells that begin at a tick, of which these events are told
-pub record FirmCellsStandFor (kept : KeptFirm) (system : System) (tick : ℕ) (cells : List Cell) (told : List FirmEvent)
-    : Type 0 where
-  pub latest : CellsStandFor kept.cells tick cells
-  pub beside : kept.beside ≡ beside_of none_beside (bits cells)
-  pub waits : WaitsFor kept.waits system tick cells told

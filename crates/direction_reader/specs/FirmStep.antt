@@ -1,22 +1,19 @@
 -- What a cell does to a word that waits for its witness, in numbers. No public clause speaks of it.
-use Rattle.std.specs.Prelude.{◌≡◌, ℕ, ◌+◌, ◌-◌, List, [], ◌∷◌, ◌++◌, Option, Some, None, Bool, false, slice_index}
+use Rattle.std.specs.Prelude.{◌≡◌, ℕ, ◌+◌, List, [], ◌∷◌, ◌++◌, Option, Some, None, Bool, false}
 use Rattle.std.specs.Prelude.{nat_lt, if◌then◌else◌, IfSome, ◌≤◌, ◌*◌}
-use Rattle.ltc_word.specs.Reversal.{reversed_bits}
+use Rattle.std.specs.Option.{option_map}
 use Rattle.tc_address.specs.declared.direction.Direction.TheVariants.{Forward, Backward}
-use Rattle.tc_address.specs.declared.system.System.{System}
 use Rattle.direction_reader.specs.declared.event.Event.{Event}
 use Rattle.direction_reader.specs.declared.event.Event.TheVariants.{Word, Refused, Lost}
-use Rattle.direction_reader.specs.declared.candidates.Candidates.{Candidates}
+use Rattle.direction_reader.specs.declared.event.Events.{Events}
 use Rattle.direction_reader.specs.declared.firm_event.FirmEvent.{FirmEvent}
 use Rattle.direction_reader.specs.declared.firm_event.FirmEvent.TheVariants.{Told, Alone}
 use Rattle.direction_reader.specs.declared.firm_event.FirmEvents.{FirmEvents}
-use Rattle.direction_reader.specs.declared.latest_bits.LatestBits.{LatestBits}
-use Rattle.direction_reader.specs.declared.latest_bits.LatestBits.TheVariants as latest
 use Rattle.direction_reader.specs.declared.waiting.Waiting.{Waiting}
 use Rattle.direction_reader.specs.declared.waiting.Heard.{Heard}
-use Rattle.direction_reader.specs.Brings.{IsWordAt, greatest_cell}
-use Rattle.direction_reader.specs.Candidate.{candidate_in, Bears}
-use Rattle.direction_reader.specs.Events.{is_word, listed, tick_of}
+use Rattle.direction_reader.specs.Beside.{BesideBits, is_firm_before, is_sync_behind}
+use Rattle.direction_reader.specs.Brings.{greatest_cell}
+use Rattle.direction_reader.specs.Events.{is_word, played, tick_of}
 use Rattle.direction_reader.specs.Firm.{judged, told_tick}
 
 -- nothing is told
@@ -43,30 +40,6 @@ abbrev pub IsToldBackward : FirmEvent → Type 0
 IsToldBackward (Told event) = IsPlayedBackward event
 IsToldBackward (Alone direction word tick length) = direction ≡ Backward
 
--- the candidates of a window, one in each direction
-pub record AreCandidatesOf (system : System) (bits end length : ℕ) (found : Candidates) : Type 0 where
-  pub forward : listed found.forward ≡ candidate_in system Forward bits end length
-  pub backward : listed found.backward ≡ candidate_in system Backward (reversed_bits bits) end length
-  pub forward_bears : IfSome found.forward (Bears end length)
-  pub backward_bears : IfSome found.backward (Bears end length)
-  pub played : IfSome found.backward IsPlayedBackward
-
--- each of them ends at a tick, a word with the length of 80 cells
-pub record FindsAt (end : ℕ) (found : Candidates) : Type 0 where
-  pub forward : IfSome found.forward (IsWordAt end)
-  pub backward : IfSome found.backward (IsWordAt end)
-  pub played : IfSome found.backward IsPlayedBackward
-
--- no candidate
-abbrev pub no_candidates : Candidates
-no_candidates = record { forward = None; backward = None }
-
--- the candidates of the latest window, which ends at a tick: none before it is full
-abbrev pub AreWindowCandidates : System → LatestBits → List ℕ → ℕ → Candidates → Type 0
-AreWindowCandidates system (latest.Full bits) boundaries end found =
-    AreCandidatesOf system bits end (end - slice_index boundaries 0) found
-AreWindowCandidates system (latest.Filling _) boundaries end found = found ≡ no_candidates
-
 -- a word that is read backward waits; a candidate at fault is told
 abbrev pub began : Option FirmEvent → Option FirmEvent → Option Event → Heard
 began first second None = record { waiting = None; told = record { first = first; second = second; third = None } }
@@ -91,6 +64,13 @@ heard (Some w) sync forward backward =
       waiting = Some (record { word = w.word; age = w.age + 1; behind = or_else w.behind forward });
       told = nothing_told;
     } else began (Some (judged sync w.word)) (or_else w.behind forward) backward
+
+-- what the events of a cell's window do to a word that waits, where these are the bits beside the window: a candidate
+-- that is played forward is judged by those before it
+abbrev pub heard_events : Option Waiting → BesideBits → Events → Heard
+heard_events waits beside events =
+    heard waits (is_sync_behind beside) (option_map (judged (is_firm_before beside)) (played Forward events))
+    (played Backward events)
 
 -- what is told where the stretch ends: a word that waits stands at its edge
 abbrev pub ended : Option Waiting → FirmEvents

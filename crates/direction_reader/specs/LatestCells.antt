@@ -7,6 +7,8 @@ use Rattle.direction_reader.specs.declared.brought.Brought.TheVariants.{Nothing,
 use Rattle.direction_reader.specs.declared.event.Events.{Events}
 use Rattle.direction_reader.specs.declared.latest_bits.LatestBits.{LatestBits}
 use Rattle.direction_reader.specs.declared.latest_bits.LatestBits.TheVariants as latest
+use Rattle.direction_reader.specs.declared.state.Step.{Step}
+use Rattle.direction_reader.specs.declared.state.Step.TheVariants as step
 use Rattle.direction_reader.specs.Candidate.{AreEventsOf}
 use Rattle.direction_reader.specs.Events.{no_events}
 use Rattle.direction_reader.specs.LatestBits.{EndsInCandidate}
@@ -30,6 +32,14 @@ abbrev pub CellBrings : LatestBits → Brought → Type 0
 CellBrings bits Nothing = ¬ EndsInCandidate bits
 CellBrings bits Candidate = EndsInCandidate bits
 CellBrings bits Break = ⊥
+
+-- what a step of the tracker brings, by the bits after it
+abbrev pub StepBrings : LatestBits → Step → Brought → Type 0
+StepBrings bits step.Nothing brought = brought ≡ Nothing
+StepBrings bits step.FirstZero brought = brought ≡ Nothing
+StepBrings bits (step.ZeroBefore first) brought = brought ≡ Nothing
+StepBrings bits (step.Cell bit) brought = CellBrings bits brought
+StepBrings bits step.Break brought = brought ≡ Break
 
 -- the events of the latest window, which ends at a tick: none before it is full, and then those of its bits, with the
 -- length from its oldest boundary on

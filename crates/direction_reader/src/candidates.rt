@@ -1,12 +1,9 @@
 //! The words that a window of 80 bits may be. Read next: `ltc_word/src/reading.rt`, and then `event`.
-ghost use Rattle.std.specs.Prelude.{◌≡◌, ◌<◌, ◌^◌, IfSome};
+ghost use Rattle.std.specs.Prelude.{◌<◌, ◌^◌};
 ghost use Rattle.ltc_word.specs.Reversal.{EndsInSync, reversed_bits};
-ghost use Rattle.direction_reader.specs.Candidate.{IsEventOf, AreEventsOf, Bears, BearsOnly, candidate_in};
-ghost use Rattle.direction_reader.specs.Events.{listed};
-ghost use Rattle.direction_reader.specs.FirmStep.{AreCandidatesOf, no_candidates, IsPlayedBackward};
+ghost use Rattle.direction_reader.specs.Candidate.{IsEventOf, AreEventsOf, Bears, BearsOnly};
 
 use crate::event::{Event, Events};
-use ltc_word::laws::what_stands_in_bits_is_what_they_spell;
 use ltc_word::{WordFault, begins_in_reversed_sync, decode, ends_in_sync, reversed};
 use tc_address::{Direction, System};
 
@@ -36,7 +33,6 @@ fn backward_candidate(system: System, bits: u128, tick: u64, length: u64) -> Eve
     requires sync { EndsInSync (reversed_bits bits) }
     ensures event { IsEventOf system Direction.Backward (reversed_bits bits) tick length result }
     ensures bears { Bears tick length result }
-    ensures played { IsPlayedBackward result }
 {
     let bits = reversed(bits);
     candidate(Direction::Backward, system, bits, tick, length)
@@ -62,64 +58,5 @@ fn candidate(direction: Direction, system: System, bits: u128, tick: u64, length
             tick,
         },
         Err(WordFault::Sync(_)) => unreachable!(),
-    }
-}
-
-/// The candidates of a window, one in each direction.
-#[derive(Clone, Copy)]
-pub struct Candidates {
-    pub forward: Option<Event>,
-    pub backward: Option<Event>,
-}
-
-impl Candidates {
-    /// None.
-    pub(crate) fn none() -> Candidates
-        ensures { result ≡ no_candidates }
-    {
-        Candidates {
-            forward: None,
-            backward: None,
-        }
-    }
-}
-
-/// The candidates of one window, as `window_events` gives them, each under its direction.
-pub fn window_candidates(system: System, bits: u128, tick: u64, length: u64) -> Candidates
-    requires { bits < 2 ^ 80 }
-    ensures { AreCandidatesOf system bits tick length result }
-{
-    Candidates {
-        forward: forward_candidate(system, bits, tick, length),
-        backward: found_backward(system, bits, tick, length),
-    }
-}
-
-/// The candidate of a window that is read forward, if it is one.
-fn forward_candidate(system: System, bits: u128, tick: u64, length: u64) -> Option<Event>
-    requires { bits < 2 ^ 80 }
-    ensures event { listed result ≡ candidate_in system Direction.Forward bits tick length }
-    ensures bears { IfSome result (Bears tick length) }
-{
-    what_stands_in_bits_is_what_they_spell();
-    if ends_in_sync(bits) {
-        Some(candidate(Direction::Forward, system, bits, tick, length))
-    } else {
-        None
-    }
-}
-
-/// The candidate of a window that is read backward, if it is one.
-fn found_backward(system: System, bits: u128, tick: u64, length: u64) -> Option<Event>
-    requires { bits < 2 ^ 80 }
-    ensures event { listed result ≡ candidate_in system Direction.Backward (reversed_bits bits) tick length }
-    ensures bears { IfSome result (Bears tick length) }
-    ensures played { IfSome result IsPlayedBackward }
-{
-    what_stands_in_bits_is_what_they_spell();
-    if begins_in_reversed_sync(bits) {
-        Some(backward_candidate(system, bits, tick, length))
-    } else {
-        None
     }
 }

@@ -3,12 +3,13 @@
 ghost use Rattle.std.specs.Prelude.{◌≡◌, ℕ, ◌<◌, ◌≤◌, ◌+◌, ◌*◌, List, [], ◌∷◌, ◌++◌, map, None};
 ghost use Rattle.limits.specs.declared.recording.TheConstants.{MAX_INTERVAL, MAX_INTERVALS};
 ghost use Rattle.direction_reader.specs.declared.firm_event.FirmEvent.{FirmEvent};
+ghost use Rattle.direction_reader.specs.Beside.{none_beside};
 ghost use Rattle.direction_reader.specs.Consecutive.{AreConsecutiveEvents};
 ghost use Rattle.direction_reader.specs.ConsecutiveStep.{consecutive_list, consecutive_until};
 ghost use Rattle.direction_reader.specs.ConsecutiveStep.{ConsecutiveBrings, ConsecutiveStandsFor};
 ghost use Rattle.direction_reader.specs.Firm.{told_tick, DoNotFall};
-ghost use Rattle.direction_reader.specs.FirmReader.{FirmTakes};
-ghost use Rattle.direction_reader.specs.FirmStandsFor.{no_firm_cells};
+ghost use Rattle.direction_reader.specs.LatestCells.{no_cells};
+ghost use Rattle.direction_reader.specs.Reader.{Takes};
 ghost use Rattle.direction_reader.specs.Tracker.{profile_of};
 ghost use Rattle.direction_reader.specs.Tracking.{searching};
 
@@ -49,11 +50,15 @@ impl ConsecutiveReader {
     pub fn new(system: System, profile: Profile) -> ConsecutiveReader
         ensures value { result ≡ record {
           reader = record {
-            system = system;
-            intervals = 0;
-            tick = 0;
-            tracker = searching profile;
-            cells = no_firm_cells 0;
+            reader = record {
+              system = system;
+              intervals = 0;
+              tick = 0;
+              tracker = searching profile;
+              cells = no_cells 0;
+            };
+            beside = none_beside;
+            waits = None;
           };
           latest = None;
         } }
@@ -67,7 +72,7 @@ impl ConsecutiveReader {
 
     /// How many intervals were taken.
     pub fn intervals(&self) -> u64
-        ensures value { result ≡ self.now.reader.intervals }
+        ensures value { result ≡ self.now.reader.reader.intervals }
         ensures within { result ≤ MAX_INTERVALS }
     {
         self.reader.intervals()
@@ -75,7 +80,7 @@ impl ConsecutiveReader {
 
     /// The sum of the intervals taken, in ticks.
     pub fn tick(&self) -> u64
-        ensures value { result ≡ self.now.reader.tick }
+        ensures value { result ≡ self.now.reader.reader.tick }
         ensures within { result ≤ MAX_INTERVALS * MAX_INTERVAL }
     {
         self.reader.tick()
@@ -84,7 +89,7 @@ impl ConsecutiveReader {
     /// Up to which tick all events are given: that of the word that is held, and else as `FirmReader` says.
     pub fn told_until(&self) -> u64
         ensures value { result ≡ consecutive_until self.now }
-        ensures within { result ≤ self.now.reader.tick }
+        ensures within { result ≤ self.now.reader.reader.tick }
         ensures most { result ≤ MAX_INTERVALS * MAX_INTERVAL }
     {
         let until = self.reader.told_until();
@@ -99,10 +104,10 @@ impl ConsecutiveReader {
     pub fn feed(&mut self, x: u32) -> ConsecutiveEvents
         requires least { 1 ≤ x }
         requires most { x ≤ MAX_INTERVAL }
-        requires room { self.old.reader.intervals < MAX_INTERVALS }
-        ensures next { FirmTakes self.old.reader x self.new.reader }
-        ensures within { self.new.reader.tick ≤ self.new.reader.intervals * MAX_INTERVAL }
-        ensures brings { ConsecutiveBrings self.new.reader.intervals self.new.reader.tick result }
+        requires room { self.old.reader.reader.intervals < MAX_INTERVALS }
+        ensures next { Takes self.old.reader.reader x self.new.reader.reader }
+        ensures within { self.new.reader.reader.tick ≤ self.new.reader.reader.intervals * MAX_INTERVAL }
+        ensures brings { ConsecutiveBrings self.new.reader.reader.intervals self.new.reader.reader.tick result }
         ensures in_turn { DoNotFall (consecutive_until self.old) (map told_tick (consecutive_list result))
             (consecutive_until self.new) }
         ensures stands { (intervals : List ℕ) (told : List FirmEvent) → ConsecutiveStandsFor self.old intervals told
@@ -118,12 +123,12 @@ impl ConsecutiveReader {
     /// The events at the end of the input, if no interval follows: a word that is held is alone, and one
     /// that waits for its witness is at the edge of its stretch.
     pub fn finish(&self) -> ConsecutiveEvents
-        ensures within { self.now.reader.tick ≤ self.now.reader.intervals * MAX_INTERVAL }
-        ensures brings { ConsecutiveBrings self.now.reader.intervals self.now.reader.tick result }
+        ensures within { self.now.reader.reader.tick ≤ self.now.reader.reader.intervals * MAX_INTERVAL }
+        ensures brings { ConsecutiveBrings self.now.reader.reader.intervals self.now.reader.reader.tick result }
         ensures in_turn { DoNotFall (consecutive_until self.now) (map told_tick (consecutive_list result))
-            self.now.reader.tick }
+            self.now.reader.reader.tick }
         ensures all { (intervals : List ℕ) (told : List FirmEvent) → ConsecutiveStandsFor self.now intervals told
-            → AreConsecutiveEvents self.now.reader.system (profile_of self.now.reader.tracker) intervals
+            → AreConsecutiveEvents self.now.reader.reader.system (profile_of self.now.reader.reader.tracker) intervals
             (told ++ consecutive_list result) }
     {
         ConsecutiveEvents::of(false, &self.latest, &self.reader.finish())

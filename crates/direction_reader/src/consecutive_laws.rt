@@ -90,7 +90,7 @@ pub fn consecutive_events_tell_the_tape()
 pub fn a_reader_has_told_what_its_list_tells()
     ensures { (reader : ConsecutiveState) (intervals : List ℕ) (told : List FirmEvent)
         → ConsecutiveStandsFor reader intervals told
-        → AreConsecutiveTold reader.reader.system (profile_of reader.reader.tracker) intervals told
+        → AreConsecutiveTold reader.reader.reader.system (profile_of reader.reader.reader.tracker) intervals told
         (consecutive_until reader) }
 {
     a_reader_has_told_what_no_further_interval_changes();

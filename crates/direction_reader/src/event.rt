@@ -30,7 +30,7 @@ pub enum Event {
 }
 
 impl Event {
-    ghost use Rattle.direction_reader.specs.Events.{tick_of};
+    ghost use Rattle.direction_reader.specs.Events.{is_played, tick_of};
 
     /// Its tick.
     pub(crate) fn tick(&self) -> u64
@@ -39,6 +39,23 @@ impl Event {
         match *self {
             Event::Word { tick, .. } | Event::Refused { tick, .. } | Event::Lost { tick, .. } =>
                 tick,
+        }
+    }
+
+    /// Whether it is a candidate that is played in this direction.
+    fn is_played(&self, direction: Direction) -> bool
+        ensures { result ≡ is_played direction self.now }
+    {
+        match *self {
+            Event::Word { direction: own, .. } | Event::Refused { direction: own, .. } => match (
+                own, direction,
+            ) {
+                (Direction::Forward, Direction::Forward)
+                | (Direction::Backward, Direction::Backward) => true,
+                (Direction::Forward, Direction::Backward)
+                | (Direction::Backward, Direction::Forward) => false,
+            },
+            Event::Lost { .. } => false,
         }
     }
 }
@@ -51,7 +68,7 @@ pub struct Events {
 }
 
 impl Events {
-    ghost use Rattle.direction_reader.specs.Events.{no_events, one_event};
+    ghost use Rattle.direction_reader.specs.Events.{no_events, one_event, played};
 
     /// No event.
     pub(crate) fn none() -> Events
@@ -70,6 +87,17 @@ impl Events {
         Events {
             first: Some(event),
             second: None,
+        }
+    }
+
+    /// The candidate that is played in this direction.
+    pub(crate) fn played(&self, direction: Direction) -> Option<Event>
+        ensures { result ≡ played direction self.now }
+    {
+        match (self.first, self.second) {
+            (Some(event), _) if event.is_played(direction) => Some(event),
+            (_, Some(event)) if event.is_played(direction) => Some(event),
+            _ => None,
         }
     }
 }

@@ -116,7 +116,7 @@ pub fn firm_events_tell_the_tape()
 pub fn a_reader_has_told_what_no_further_interval_changes()
     ensures { (reader : FirmState) (intervals : List ℕ) (told : List FirmEvent)
         → FirmStandsFor reader intervals told
-        → AreTold reader.system (profile_of reader.tracker) intervals told (told_until reader) }
+        → AreTold reader.reader.system (profile_of reader.reader.tracker) intervals told (told_until reader) }
 {}
 
 /// A list of intervals has one list of events that are given while more may follow, up to one tick: at most

@@ -1,14 +1,13 @@
 //! The cells of the stretch that is open. Read next: `latest_bits`, and with the tick `boundaries`.
 ghost use Rattle.std.specs.Prelude.{◌≡◌};
 ghost use Rattle.direction_reader.specs.Brings.{BringsAt};
-ghost use Rattle.direction_reader.specs.FirmStep.{AreWindowCandidates, FindsAt};
 ghost use Rattle.direction_reader.specs.Invariants.{AreBoundariesTo};
 ghost use Rattle.direction_reader.specs.LatestBits.{after_bit};
 ghost use Rattle.direction_reader.specs.LatestCells.{no_cells, with_boundary, AreWindowEvents, CellBrings};
 
 use crate::boundaries::Boundaries;
 use crate::brought::Brought;
-use crate::candidates::{Candidates, window_candidates, window_events};
+use crate::candidates::window_events;
 use crate::event::Events;
 use crate::latest_bits::LatestBits;
 use crate::window::Filling;
@@ -84,35 +83,6 @@ impl LatestCells {
                 window_events(system, full.window(), tick, length)
             }
             LatestBits::Filling(_) => Events::none(),
-        }
-    }
-
-    /// The candidates of the latest window, which ends at this tick.
-    pub fn candidates(&self, system: System, tick: u64) -> Candidates
-        requires { AreBoundariesTo tick self.now.boundaries }
-        ensures candidates { AreWindowCandidates system self.now.bits self.now.boundaries tick result }
-        ensures found { FindsAt tick result }
-    {
-        match self.bits {
-            LatestBits::Full(full) => {
-                let length = tick - self.boundaries.oldest();
-                window_candidates(system, full.window(), tick, length)
-            }
-            LatestBits::Filling(_) => Candidates::none(),
-        }
-    }
-
-    /// Adds a cell, as `add` does, and gives the candidates of the window that ends with it.
-    pub fn find(&mut self, system: System, tick: u64, bit: bool) -> Candidates
-        requires { AreBoundariesTo tick (with_boundary self.old.boundaries tick) }
-        ensures bits { self.new.bits ≡ after_bit self.old.bits bit }
-        ensures boundaries { self.new.boundaries ≡ with_boundary self.old.boundaries tick }
-        ensures candidates { AreWindowCandidates system self.new.bits self.new.boundaries tick result }
-        ensures found { FindsAt tick result }
-    {
-        match self.add(tick, bit) {
-            Brought::Candidate => self.candidates(system, tick),
-            Brought::Nothing | Brought::Break => Candidates::none(),
         }
     }
 }

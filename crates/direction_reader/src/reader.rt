@@ -1,21 +1,22 @@
 //! From intervals to events, one interval at a time. Read next: `tracker`.
-ghost use Rattle.std.specs.Prelude.{◌≡◌, ℕ, ◌<◌, ◌≤◌, ◌+◌, ◌*◌, List, [], ◌∷◌, ◌++◌, reverse};
+ghost use Rattle.std.specs.Prelude.{◌≡◌, ℕ, ◌<◌, ◌≤◌, ◌+◌, ◌*◌, List, [], ◌∷◌, ◌++◌, reverse, None};
 ghost use Rattle.limits.specs.declared.recording.TheConstants.{MAX_INTERVAL, MAX_INTERVALS};
 ghost use Rattle.direction_reader.specs.Brings.{Brings};
 ghost use Rattle.direction_reader.specs.declared.event.Event.{Event};
 ghost use Rattle.direction_reader.specs.declared.event.Events.{Events};
 ghost use Rattle.direction_reader.specs.Events.{event_list};
 ghost use Rattle.direction_reader.specs.LatestBits.{EndsInCandidate};
-ghost use Rattle.direction_reader.specs.LatestCells.{no_cells};
+ghost use Rattle.direction_reader.specs.KeptStep.{IsStepped};
+ghost use Rattle.direction_reader.specs.LatestCells.{no_cells, StepBrings};
 ghost use Rattle.direction_reader.specs.ListEvents.{AreEvents};
 ghost use Rattle.direction_reader.specs.Mirror.{MirrorsTheTape};
 ghost use Rattle.direction_reader.specs.Reader.{Takes};
-ghost use Rattle.direction_reader.specs.StandsFor.{StandsFor, Tells, MayTell};
+ghost use Rattle.direction_reader.specs.StandsFor.{StandsFor, Tells, TrackerStandsFor, MayTell};
 ghost use Rattle.direction_reader.specs.Tape.{TellsTheTape, FindsTheTape};
 ghost use Rattle.direction_reader.specs.Tracker.{profile_of};
 ghost use Rattle.direction_reader.specs.Tracking.{searching};
 
-use crate::brought::Brought;
+use crate::brought::{Brought, Taken};
 use crate::event::{Event, Events};
 use crate::latest_cells::LatestCells;
 use crate::laws::a_reader_tells_the_tape;
@@ -64,6 +65,7 @@ impl DirectionReader {
           cells = no_cells 0;
         } }
         ensures stands { StandsFor result [] [] }
+        ensures searches { TrackerStandsFor result.tracker [] [] None }
     {
         DirectionReader {
             system,
@@ -119,7 +121,19 @@ impl DirectionReader {
             (events ++ event_list result) mirrored }
     {
         a_reader_tells_the_tape();
-        match self.step(x) {
+        let brought = self.step(x);
+        self.told(brought)
+    }
+
+    /// The events of the latest interval, as `events` gives them: nearly every one brought nothing, which is seen at
+    /// once.
+    #[inline(always)]
+    pub(crate) fn told(&self, brought: Brought) -> Events
+        requires { 1 ≤ self.now.intervals }
+        ensures brings { Brings self.now.intervals self.now.tick result }
+        ensures told { MayTell self.now brought → Tells self.now brought result }
+    {
+        match brought {
             Brought::Nothing => Events::none(),
             brought => self.events(brought),
         }
@@ -141,11 +155,32 @@ impl DirectionReader {
             → StandsFor self.old intervals events → Tells self.new result own
             → StandsFor self.new (intervals ++ x ∷ []) (events ++ event_list own) }
     {
+        self.take(x).brought
+    }
+
+    /// Takes the next interval, as `step` does, and returns what it did to the stretch too.
+    #[inline(always)]
+    pub(crate) fn take(&mut self, x: u32) -> Taken
+        requires least { 1 ≤ x }
+        requires most { x ≤ MAX_INTERVAL }
+        requires room { self.old.intervals < MAX_INTERVALS }
+        ensures next { Takes self.old x self.new }
+        ensures within { self.new.tick ≤ self.new.intervals * MAX_INTERVAL }
+        ensures taken { 1 ≤ self.new.intervals }
+        ensures may { MayTell self.new result.brought }
+        ensures candidate { result.brought ≡ Brought.Candidate → EndsInCandidate self.new.cells.bits }
+        ensures stepped { IsStepped self.old.tracker x self.new.tracker result.step }
+        ensures step { StepBrings self.new.cells.bits result.step result.brought }
+        ensures stands { (intervals : List ℕ) (events : List Event) (own : Events)
+            → StandsFor self.old intervals events → Tells self.new result.brought own
+            → StandsFor self.new (intervals ++ x ∷ []) (events ++ event_list own) }
+    {
         let before = self.tick;
         let now = before + u64::from(x);
         self.tick = now;
         self.intervals += 1;
-        match self.tracker.step(x) {
+        let step = self.tracker.step(x);
+        let brought = match step {
             // The compiler adds a known bit to the window at less cost.
             Step::Cell(false) => self.cells.add(now, false),
             Step::Cell(true) => self.cells.add(now, true),
@@ -161,7 +196,8 @@ impl DirectionReader {
                 Brought::Nothing
             }
             Step::Break => Brought::Break,
-        }
+        };
+        Taken { step, brought }
     }
 
     /// The events of the latest interval, for which `step` returned `brought`.

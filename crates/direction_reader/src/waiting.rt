@@ -1,11 +1,15 @@
 //! A word that waits for its witness. Read next: `firm_event`.
-ghost use Rattle.std.specs.Prelude.{◌≡◌, ◌≤◌, IfSome};
+ghost use Rattle.std.specs.Prelude.{◌≡◌, ◌≤◌, ℕ, IfSome, map};
 ghost use Rattle.std.specs.Option.{option_map};
-ghost use Rattle.direction_reader.specs.Firm.{judged};
-ghost use Rattle.direction_reader.specs.FirmStep.{began, ended, heard, or_else};
+ghost use Rattle.direction_reader.specs.Brings.{Brings};
+ghost use Rattle.direction_reader.specs.Firm.{judged, told_tick, DoNotFall};
+ghost use Rattle.direction_reader.specs.FirmStep.{began, ended, firm_list, heard, heard_events, or_else, until_of};
+ghost use Rattle.direction_reader.specs.FirmStep.{TellsWithin, WaitsWithin};
 
-use crate::event::Event;
+use crate::beside::Beside;
+use crate::event::{Event, Events};
 use crate::firm_event::{FirmEvent, FirmEvents};
+use tc_address::Direction;
 
 /// The number of cells in which a witness lies.
 const WITNESS_CELLS: u32 = 16;
@@ -26,6 +30,23 @@ pub struct Waiting {
 pub struct Heard {
     pub waiting: Option<Waiting>,
     pub told: FirmEvents,
+}
+
+/// What a cell does to a word that waits, if the reader tells these events of it. The bits beside the
+/// window are those up to the cell.
+pub fn hear_events(waiting: Option<Waiting>, beside: &Beside, events: &Events) -> Heard
+    requires { IfSome waiting (λ w. w.age ≤ 15) }
+    ensures value { result ≡ heard_events waiting beside.now events.now }
+    ensures young { IfSome result.waiting (λ w. w.age ≤ 15) }
+    ensures within { (intervals before tick : ℕ) → before ≤ tick → Brings intervals tick events.now
+        → WaitsWithin before waiting → WaitsWithin tick result.waiting × TellsWithin tick result.told }
+    ensures in_turn { (intervals before tick : ℕ) → before ≤ tick → Brings intervals tick events.now
+        → WaitsWithin before waiting → DoNotFall (until_of before waiting)
+        (map told_tick (firm_list result.told)) (until_of tick result.waiting) }
+{
+    let forward = judge_found(beside.is_firm_before(), events.played(Direction::Forward));
+    let sync = beside.is_sync_behind();
+    hear(waiting, sync, forward, events.played(Direction::Backward))
 }
 
 /// What becomes of the event of a candidate.
@@ -52,7 +73,7 @@ fn judge(firm: bool, event: Event) -> FirmEvent
 }
 
 /// What becomes of a candidate that may be there.
-pub fn judge_found(firm: bool, found: Option<Event>) -> Option<FirmEvent>
+fn judge_found(firm: bool, found: Option<Event>) -> Option<FirmEvent>
     ensures { result ≡ option_map (judged firm) found }
 {
     match found {
@@ -63,7 +84,7 @@ pub fn judge_found(firm: bool, found: Option<Event>) -> Option<FirmEvent>
 
 /// What a cell does to a word that waits. `sync` says whether the latest 16 cells are the sync word of
 /// a word that is played backward; the candidates are those of the window that ends with the cell.
-pub fn hear(
+fn hear(
     waiting: Option<Waiting>,
     sync: bool,
     forward: Option<FirmEvent>,
@@ -116,7 +137,10 @@ fn begin(first: Option<FirmEvent>, second: Option<FirmEvent>, backward: Option<E
 
 /// What is given of a word that waits when its stretch ends.
 pub fn end(waiting: Option<Waiting>) -> FirmEvents
-    ensures { result ≡ ended waiting }
+    ensures value { result ≡ ended waiting }
+    ensures within { (tick : ℕ) → WaitsWithin tick waiting → TellsWithin tick result }
+    ensures in_turn { (before tick : ℕ) → before ≤ tick → WaitsWithin before waiting
+        → DoNotFall (until_of before waiting) (map told_tick (firm_list result)) tick }
 {
     match waiting {
         None => FirmEvents::none(),

@@ -8,9 +8,9 @@
 //! - What bytes say is one value (`specs/LineFile.antt`, `reading_of`): the header, the whole fields before
 //!   the first fault and within the limit, whether the bytes are good, refused or past the limit, and
 //!   whether the input may end there. It is defined over the whole text, piece after piece.
-//! - A `LineDecoder` that was given bytes in whatever pieces has answered the fields of these bytes
-//!   (`specs/StandsFor.antt`, `StandsFor`; `specs/Answers.antt`, `AreAnswersOf`), and answers a fault or the
-//!   limit exactly when they have it.
+//! - A `LineDecoder` takes the header and the fields one by one, keeps no byte of them, and has answered the
+//!   fields of the bytes that it took (`specs/StandsFor.antt`, `StandsFor`; `specs/Answers.antt`, `AreAnswersOf`).
+//!   It answers a fault or the limit exactly when the bytes have it, and takes none of a field that is not whole.
 //! - A fault and the limit stay, whatever bytes follow. Bytes have one list of answers, and those of some
 //!   bytes come first, whatever bytes follow (`laws`).
 //! - Each input that is taken whole is the file of a header and fields (`specs/Grammar.antt`, `file_of`),

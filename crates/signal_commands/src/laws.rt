@@ -15,6 +15,8 @@ ghost use Rattle.signal_commands.specs.PcmPath.{along_path};
 ghost use Rattle.signal_commands.specs.VitcRead.{along_fields};
 ghost use Rattle.signal_commands.specs.WavLtc.{along_sound_file};
 ghost use Rattle.signal_commands.specs.WavPath.{along_track_path};
+ghost use Rattle.signal_commands.specs.WorkedByHand.{AreCutInputsRefused, AreEventsCounted, AreFieldsCounted};
+ghost use Rattle.signal_commands.specs.WorkedByHand.{AreFieldsNumbered, AreHeadersSo, IsSoundSlicedSo};
 
 use line_file::laws::{
     answers_of_a_front_come_first, bytes_have_answers, bytes_have_one_list_of_answers,
@@ -48,6 +50,17 @@ pub fn each_signal_makes_a_command()
     bytes_have_one_list_of_answers();
     what_bytes_show_stays();
 }
+
+/// What was worked out by hand: the last lines, the numbers of fields, the headers, how sound is sliced, and where an
+/// input may not end.
+pub fn what_is_worked_by_hand()
+    ensures events { AreEventsCounted }
+    ensures fields { AreFieldsCounted }
+    ensures numbers { AreFieldsNumbered }
+    ensures headers { AreHeadersSo }
+    ensures slicing { IsSoundSlicedSo }
+    ensures ends { AreCutInputsRefused }
+{}
 
 /// `mtc-read` reads a thousand million bytes, and no more.
 pub fn mtc_read_has_this_limit()

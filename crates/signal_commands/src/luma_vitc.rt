@@ -101,7 +101,7 @@ impl ReadPixels {
 
 impl Engine for ReadPixels {
     ghost use Rattle.std.specs.Prelude.{◌-◌, ◌+◌};
-    ghost use Rattle.signal_commands.specs.KeptLuma.{IsGoing, Stands, stands_well};
+    ghost use Rattle.signal_commands.specs.KeptLuma.{IsCutRow, IsGoing, Stands, stands_well};
     ghost use Rattle.signal_commands.specs.LumaVitc.{along_pixels, most_pixels};
 
     type Choice = LumaRun;
@@ -116,7 +116,7 @@ impl Engine for ReadPixels {
 
     ghost budget = { λ s. most_pixels s.run + 1 - s.taken };
 
-    ghost is_short = { λ s bytes. ⊥ };
+    ghost is_short = { λ s bytes. IsCutRow s bytes };
 
     ghost stands_well = { λ s bytes written stands. stands_well s bytes written stands };
 
@@ -126,16 +126,22 @@ impl Engine for ReadPixels {
         if self.taken == most(&self.run) {
             return Err(Halt::Limit);
         }
-        let (count, lines) = self.reader.take(bytes);
-        self.taken += count as u64;
+        let width = self.run.raster().width() as usize;
+        if bytes.len() < width {
+            return Ok(0);
+        }
+        let lines = self.reader.take(&bytes[..width]);
+        self.taken += width as u64;
         if let Some(lines) = lines {
             out.gather(field_of(&lines).as_slice());
         }
-        Ok(count)
+        Ok(width)
     }
 
-    fn cut_off(&self, _bytes: &[u8]) -> Option<InputFault> {
-        None
+    fn cut_off(&self, bytes: &[u8]) -> Option<InputFault> {
+        joined_parts_are_taken_apart();
+        let _most = most(&self.run);
+        Some(InputFault::HalfField(self.taken + bytes.len() as u64))
     }
 
     fn finish<O: Output>(&mut self, _out: &mut O) -> Result<(), InputFault> {

@@ -88,7 +88,8 @@ impl FieldReport {
 }
 
 impl Engine for FieldReport {
-    ghost use Rattle.std.specs.Prelude.{◌-◌, ◌+◌, length};
+    ghost use Rattle.std.specs.Prelude.{◌-◌};
+    ghost use Rattle.line_file.specs.StandsFor.{IsCut};
     ghost use Rattle.signal_commands.specs.KeptFields.{most_bytes, FitsFields, Stands, stands_well};
     ghost use Rattle.signal_commands.specs.VitcRead.{along_fields};
 
@@ -102,16 +103,17 @@ impl Engine for FieldReport {
 
     ghost stands = { λ s bytes written. Stands s bytes written };
 
-    ghost budget = { λ s. most_bytes - (s.decoder.place + length s.decoder.part) };
+    ghost budget = { λ s. most_bytes - s.decoder.place };
 
-    ghost is_short = { λ s bytes. ⊥ };
+    ghost is_short = { λ s bytes. IsCut s.decoder bytes };
 
     ghost stands_well = { λ s bytes written stands. stands_well s bytes written stands };
 
     fn take<O: Output>(&mut self, bytes: &[u8], out: &mut O) -> Result<usize, Halt> {
         a_decoder_tells_the_file();
         match self.decoder.take(bytes) {
-            Taken::Nothing(count) => Ok(count),
+            Taken::Few => Ok(0),
+            Taken::Header(count) => Ok(count),
             Taken::Field { count, answer } => {
                 self.print(&answer, out);
                 Ok(count)
@@ -121,8 +123,8 @@ impl Engine for FieldReport {
         }
     }
 
-    fn cut_off(&self, _bytes: &[u8]) -> Option<InputFault> {
-        None
+    fn cut_off(&self, bytes: &[u8]) -> Option<InputFault> {
+        Some(InputFault::Lines(self.decoder.cut_off(bytes)))
     }
 
     fn finish<O: Output>(&mut self, out: &mut O) -> Result<(), InputFault> {

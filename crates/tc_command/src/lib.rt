@@ -5,8 +5,8 @@
 //! neither the source nor the sink; `work` makes one between both.
 //!
 //! Along it, a command that reads has an `Engine` work: it takes what was pulled, and writes to an `Output` that cannot
-//! fail. `run` pulls the input to its end, keeps the few bytes that a pull cuts off from what they belong to, and pushes
-//! what was written; there alone a pull or a push may fail. A command that reads nothing has a text, or a `Maker` of its
+//! fail. `run` pulls the input to its end, keeps the bytes that a pull cuts off from what they belong to, and pushes what
+//! was written; there alone a pull or a push may fail. A command that reads nothing has a text, or a `Maker` of its
 //! output, which goes out piece by piece. All run in fixed memory.
 //!
 //! What this crate promises, for all sources and sinks:

@@ -9,8 +9,8 @@ use Rattle.direction_reader.proofs.consecutive.ConsecutiveReader.feed.Goals as g
 
 -- the latest event is told by the tick up to which all is told
 pub invariant_of-self : goal.invariant_of-self
-invariant_of-self c = rw c.latest_of-self-inside.ensures (latest_kept c.feed-told.new.self.intervals
-    c.feed-told.new.self.tick (told_until c.self.inside.reader) (told_until c.feed-told.new.self) c.self.inside.latest
+invariant_of-self c = rw c.latest_of-self-inside.ensures (latest_kept c.feed-told.new.self.reader.intervals
+    c.feed-told.new.self.reader.tick (told_until c.self.inside.reader) (told_until c.feed-told.new.self) c.self.inside.latest
     c.feed-told.result c.self.invariant c.feed-told.ensures.brings c.feed-told.ensures.in_turn)
 
 -- what is given lies within the ticks
@@ -19,8 +19,8 @@ returns-clause-brings c =
     let value = c.told_until-within.ensures.value in
     let within = c.told_until-within.ensures.within in
     let tick = c.feed-told.ensures.next.tick in
-    let late : told_until c.self.inside.reader ≤ c.feed-told.new.self.tick = omega (arith, value, within, tick) in
-    rw c.of-events.ensures (given_brings true c.feed-told.new.self.intervals c.feed-told.new.self.tick
+    let late : told_until c.self.inside.reader ≤ c.feed-told.new.self.reader.tick = omega (arith, value, within, tick) in
+    rw c.of-events.ensures (given_brings true c.feed-told.new.self.reader.intervals c.feed-told.new.self.reader.tick
     (told_until c.self.inside.reader) c.self.inside.latest c.feed-told.result late c.self.invariant
     c.feed-told.ensures.brings)
 

@@ -14,15 +14,15 @@ use Rattle.direction_reader.proofs.consecutive.ConsecutiveReader.finish.Goals as
 pub returns-clause-brings : goal.returns-clause-brings
 returns-clause-brings c =
     let r = c.self.inside.reader in
-    let late = ends (told_until r) r.tick (map told_tick (firm_list c.finish.result)) c.finish.ensures.in_turn in
-    rw (← c.self.view_is, c.of.ensures) (given_brings false r.intervals r.tick (told_until r) c.self.inside.latest
+    let late = ends (told_until r) r.reader.tick (map told_tick (firm_list c.finish.result)) c.finish.ensures.in_turn in
+    rw (← c.self.view_is, c.of.ensures) (given_brings false r.reader.intervals r.reader.tick (told_until r) c.self.inside.latest
     c.finish.result late c.self.invariant c.finish.ensures.brings)
 
 -- and comes in turn
 pub returns-clause-in_turn : goal.returns-clause-in_turn
 returns-clause-in_turn c =
     let r = c.self.inside.reader in
-    rw (← c.self.view_is, c.of.ensures) (given_in_turn false (told_until r) r.tick c.self.inside.latest
+    rw (← c.self.view_is, c.of.ensures) (given_in_turn false (told_until r) r.reader.tick c.self.inside.latest
     c.finish.result c.self.invariant c.finish.ensures.in_turn)
 
 -- and is, behind what was given, what becomes of the whole list
@@ -32,7 +32,7 @@ returns-clause-all c = λ intervals told stands.
     let is = subst (λ (r : ConsecutiveState). ConsecutiveStandsFor r intervals told) (sym c.self.view_is) stands in
     let own = c.finish.result in
     let all = given_stands false is.firm told old.latest own is.latest is.all in
-    subst (λ (r : ConsecutiveState). AreConsecutiveEvents r.reader.system (profile_of r.reader.tracker) intervals
+    subst (λ (r : ConsecutiveState). AreConsecutiveEvents r.reader.reader.system (profile_of r.reader.reader.tracker) intervals
     (told ++ consecutive_list c.of.result)) c.self.view_is
     (rw c.of.ensures (
       is.firm ++ firm_list own,
