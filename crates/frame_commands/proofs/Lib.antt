@@ -22,4 +22,3 @@ mod StepsGrow
 mod TapeIsHeard
 mod TicksInOrder
 mod ToldOfFrames
-mod WorkedBy
