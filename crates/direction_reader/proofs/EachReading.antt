@@ -10,9 +10,11 @@ use Rattle.direction_reader.specs.declared.event.Event.{Event}
 use Rattle.direction_reader.specs.declared.firm_event.FirmEvent.{FirmEvent}
 use Rattle.direction_reader.specs.declared.firm_event.FirmEvent.TheVariants.{Told}
 use Rattle.direction_reader.specs.declared.witness.Witness.{Witness}
-use Rattle.direction_reader.specs.declared.witness.Witness.TheVariants.{NotAsked, Asked, Consecutive}
+use Rattle.direction_reader.specs.declared.witness.Witness.TheVariants.{NotAsked, Asked, Consecutive, Counted}
 use Rattle.direction_reader.specs.Consecutive.{AreConsecutiveEvents}
 use Rattle.direction_reader.specs.ConsecutiveTold.{AreConsecutiveTold}
+use Rattle.direction_reader.specs.Counted.{AreCountedEvents}
+use Rattle.direction_reader.specs.CountedTold.{AreCountedTold}
 use Rattle.direction_reader.specs.Events.{tick_of}
 use Rattle.direction_reader.specs.Firm.{told_tick, AreFirmEvents}
 use Rattle.direction_reader.specs.FirmTold.{AreTold, ComesFirst}
@@ -57,27 +59,35 @@ plain_one : Plain → HasOne (AreEventsAsked NotAsked)
 plain_one plain system profile l events others one two =
     one.1 ∙ ap as_told (plain.one system profile l one.0 two.0 one.2 two.2) ∙ sym two.1
 
-pub some_of : Plain → HasSome AreFirmEvents → HasSome AreConsecutiveEvents → (w : Witness) → HasSome (AreEventsAsked w)
-some_of plain firm next NotAsked = plain_some plain
-some_of plain firm next Asked = firm
-some_of plain firm next Consecutive = next
+pub some_of : Plain → HasSome AreFirmEvents → HasSome AreConsecutiveEvents → HasSome AreCountedEvents → (w : Witness)
+    → HasSome (AreEventsAsked w)
+some_of plain firm next count NotAsked = plain_some plain
+some_of plain firm next count Asked = firm
+some_of plain firm next count Consecutive = next
+some_of plain firm next count Counted = count
 
-pub one_of : Plain → HasOne AreFirmEvents → HasOne AreConsecutiveEvents → (w : Witness) → HasOne (AreEventsAsked w)
-one_of plain firm next NotAsked = plain_one plain
-one_of plain firm next Asked = firm
-one_of plain firm next Consecutive = next
+pub one_of : Plain → HasOne AreFirmEvents → HasOne AreConsecutiveEvents → HasOne AreCountedEvents → (w : Witness)
+    → HasOne (AreEventsAsked w)
+one_of plain firm next count NotAsked = plain_one plain
+one_of plain firm next count Asked = firm
+one_of plain firm next count Consecutive = next
+one_of plain firm next count Counted = count
 
-pub some_yet : Plain → HasSomeYet AreTold → HasSomeYet AreConsecutiveTold → (w : Witness) → HasSomeYet (AreToldAsked w)
-some_yet plain firm next NotAsked =
+pub some_yet : Plain → HasSomeYet AreTold → HasSomeYet AreConsecutiveTold → HasSomeYet AreCountedTold → (w : Witness)
+    → HasSomeYet (AreToldAsked w)
+some_yet plain firm next count NotAsked =
     λ system profile l. let found = plain_some plain system profile l in (found.0, sum l, (found.1, refl))
-some_yet plain firm next Asked = firm
-some_yet plain firm next Consecutive = next
+some_yet plain firm next count Asked = firm
+some_yet plain firm next count Consecutive = next
+some_yet plain firm next count Counted = count
 
-pub one_yet : Plain → HasOneYet AreTold → HasOneYet AreConsecutiveTold → (w : Witness) → HasOneYet (AreToldAsked w)
-one_yet plain firm next NotAsked = λ system profile l events others until another one two.
+pub one_yet : Plain → HasOneYet AreTold → HasOneYet AreConsecutiveTold → HasOneYet AreCountedTold → (w : Witness)
+    → HasOneYet (AreToldAsked w)
+one_yet plain firm next count NotAsked = λ system profile l events others until another one two.
     (plain_one plain system profile l events others one.0 two.0, one.1 ∙ sym two.1)
-one_yet plain firm next Asked = firm
-one_yet plain firm next Consecutive = next
+one_yet plain firm next count Asked = firm
+one_yet plain firm next count Consecutive = next
+one_yet plain firm next count Counted = count
 
 -- ---- what comes first
 
@@ -115,15 +125,17 @@ YetComeFirst yet = (system : System) (profile : Profile) (front more : List ℕ)
     → ComesFirst told until later now
 
 pub all_first : PlainFirst → AllComeFirst AreFirmEvents AreTold → AllComeFirst AreConsecutiveEvents AreConsecutiveTold
-    → (w : Witness) → AllComeFirst (AreEventsAsked w) (AreToldAsked w)
-all_first laws firm next NotAsked = λ system profile front more told events until h g.
+    → AllComeFirst AreCountedEvents AreCountedTold → (w : Witness) → AllComeFirst (AreEventsAsked w) (AreToldAsked w)
+all_first laws firm next count NotAsked = λ system profile front more told events until h g.
     rw (h.0.1, g.1, h.1) (plain_first laws system profile front more h.0.0 g.0 h.0.2 g.2)
-all_first laws firm next Asked = firm
-all_first laws firm next Consecutive = next
+all_first laws firm next count Asked = firm
+all_first laws firm next count Consecutive = next
+all_first laws firm next count Counted = count
 
-pub yet_first : PlainFirst → YetComeFirst AreTold → YetComeFirst AreConsecutiveTold
+pub yet_first : PlainFirst → YetComeFirst AreTold → YetComeFirst AreConsecutiveTold → YetComeFirst AreCountedTold
     → (w : Witness) → YetComeFirst (AreToldAsked w)
-yet_first laws firm next NotAsked = λ system profile front more told later until now h g.
+yet_first laws firm next count NotAsked = λ system profile front more told later until now h g.
     rw (h.0.1, g.0.1, h.1, g.1) (plain_first laws system profile front more h.0.0 g.0.0 h.0.2 g.0.2)
-yet_first laws firm next Asked = firm
-yet_first laws firm next Consecutive = next
+yet_first laws firm next count Asked = firm
+yet_first laws firm next count Consecutive = next
+yet_first laws firm next count Counted = count

@@ -22,7 +22,7 @@ use Rattle.direction_reader.specs.ListEvents.{AreEvents, break_events, duration,
 use Rattle.direction_reader.specs.ListEvents.{events_of_stretch, events_of_window}
 use Rattle.direction_reader.proofs.FindsTheTape.{break_behind, end_tick, sum_at, sum_later}
 use Rattle.direction_reader.proofs.FirmTicks.{candidate_ticks, front_lasts, EndsAt}
-use Rattle.direction_reader.proofs.LaterEvents.{lock_behind}
+use Rattle.direction_reader.proofs.LateStretches.{lock_behind}
 use Rattle.direction_reader.proofs.WindowsFromCells.{duration_of, front_within}
 
 pub in_turn_append : (xs ys : List ℕ) (a b c : ℕ) → DoNotFall a xs b → DoNotFall b ys c → DoNotFall a (xs ++ ys) c

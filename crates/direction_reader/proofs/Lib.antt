@@ -1,4 +1,5 @@
 pub mod AsLists
+pub mod BehindFront
 pub mod BetweenNeighbours
 pub mod BitsShift
 pub mod CellsEnd
@@ -17,6 +18,7 @@ pub mod FirmTicks
 pub mod FirmWindows
 pub mod FrontsFirst
 pub mod InOrder
+pub mod LateStretches
 pub mod LaterEvents
 pub mod KnownByReader
 pub mod KnownCells
@@ -24,7 +26,9 @@ pub mod KnownLists
 pub mod KnownOfLists
 pub mod KnownSteps
 pub mod KnownStretches
+pub mod LaterWindows
 pub mod MirroredEvents
+pub mod MirroredLists
 pub mod MirroredWindows
 pub mod NextWordFronts
 pub mod NextWordLists
@@ -34,6 +38,7 @@ pub mod OneListOfEvents
 pub mod OneWaits
 pub mod ReaderSteps
 pub mod SameStretches
+pub mod SyncOverWords
 pub mod TellsTheTape
 pub mod SyncInTime
 pub mod SyncsApart
@@ -41,10 +46,18 @@ pub mod TheEvents
 pub mod TrackerSteps
 pub mod WindowCandidates
 pub mod WindowHolds
+pub mod WindowsFrom
 pub mod WindowsFromCells
 pub mod WindowsGrow
+pub mod WordsByEnd
 pub mod WordsEnd
 pub mod WordsAreRead
 pub mod WrittenOver
+pub mod CountedFronts
+pub mod CountedLists
+pub mod CountedNeighbours
+pub mod CountedSlots
+pub mod CountedTicks
+mod CountedExamples
 mod NextExamples
 mod RoughAlone

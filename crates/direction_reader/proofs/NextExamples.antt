@@ -1,7 +1,7 @@
 -- Which word joins which: forward the one with the label a step on, and backward the one with the label a step back,
 -- where it begins at the very tick at which the one before it ends.
-use Rattle.std.proofs.Common.{◌≡◌, ℕ, ◌+◌, ◌==◌, Bool, true, false, ◌&&◌, Some, None, pos, neg_ℤ, refl, ap₂, subst, sym}
-use Rattle.std.proofs.Common.{ap, ◌∙◌, arith}
+use Rattle.std.proofs.Common.{◌≡◌, ℕ, ◌==◌, true, false, ◌&&◌, Some, None, pos, neg_ℤ, refl, ap₂}
+use Rattle.std.proofs.Common.{arith}
 use Rattle.std.proofs.lemmas.Bool.Decides.{nat_tests}
 use Rattle.flywheel.specs.declared.heard.HeardWord.{HeardWord}
 use Rattle.flywheel.specs.Frames.{is_same_count, is_same_label}
@@ -9,7 +9,7 @@ use Rattle.tc_address.specs.declared.count.Count.{Count}
 use Rattle.tc_address.specs.declared.count.Count.TheVariants.{C24, C25, C30, Drop30}
 use Rattle.tc_address.specs.declared.direction.Direction.{Direction}
 use Rattle.tc_address.specs.declared.direction.Direction.TheVariants.{Forward, Backward}
-use Rattle.tc_address.specs.Label.{address, Address}
+use Rattle.tc_address.specs.Label.{Address}
 use Rattle.tc_address.specs.Numbering.{is_same_time, step}
 use Rattle.direction_reader.specs.Consecutive.{joins}
 
@@ -28,7 +28,7 @@ same_time a =
     (ap₂ (λ x y. x && y) (ap₂ (λ x y. x && y) (same_number a.hours) (same_number a.minutes)) (same_number a.seconds))
     (same_number a.frames)
 
-same_label : (a : Address) → is_same_label a a ≡ true
+pub same_label : (a : Address) → is_same_label a a ≡ true
 same_label a = ap₂ (λ x y. x && y) (same_count a.count) (same_time a)
 
 -- a word with this label that ended at a tick

@@ -1,5 +1,5 @@
--- The three readers in numbers, and what an interval brings to each.
-use Rattle.std.specs.Prelude.{◌≡◌, ℕ, ◌≤◌, List, map, Option, None}
+-- The readers in numbers, and what an interval brings to each.
+use Rattle.std.specs.Prelude.{◌≡◌, ℕ, ◌≤◌, List, length, map, None}
 use Rattle.std.specs.Option.{option_map}
 use Rattle.direction_reader.specs.declared.brought.Brought.{Brought}
 use Rattle.direction_reader.specs.declared.consecutive_event.ConsecutiveEvents.{ConsecutiveEvents}
@@ -10,6 +10,7 @@ use Rattle.direction_reader.specs.declared.firm_event.FirmEvent.TheVariants.{Tol
 use Rattle.direction_reader.specs.declared.firm_event.FirmEvents.{FirmEvents}
 use Rattle.direction_reader.specs.ConsecutiveStep.{consecutive_list, consecutive_until, ConsecutiveBrings}
 use Rattle.direction_reader.specs.ConsecutiveStep.{ConsecutiveStandsFor, ConsecutiveState}
+use Rattle.direction_reader.specs.CountedStep.{counted_until, CountedStandsFor, CountedState}
 use Rattle.direction_reader.specs.Events.{event_list}
 use Rattle.direction_reader.specs.Firm.{told_tick, DoNotFall}
 use Rattle.direction_reader.specs.FirmReader.{FirmBrings, FirmStandsFor, FirmState, told_until}
@@ -83,3 +84,20 @@ reading_of_consecutive r = record {
 pub record MayTellConsecutiveFrom (r : ConsecutiveState) (told : ConsecutiveEvents) (from : ℕ) : Type 0 where
   pub brings : ConsecutiveBrings r.reader.reader.intervals r.reader.reader.tick told
   pub in_turn : DoNotFall from (map told_tick (consecutive_list told)) (consecutive_until r)
+
+-- a reader of words that count
+abbrev pub reading_of_counted : CountedState → ReadingState
+reading_of_counted r = record {
+  system = r.reader.system;
+  profile = profile_of r.reader.tracker;
+  count = r.reader.intervals;
+  tick = r.reader.tick;
+  until = counted_until r;
+  stands = λ intervals told. CountedStandsFor r intervals told;
+}
+
+-- this may be told, in turn from a tick on
+pub record MayTellCountedFrom (r : CountedState) (told : ConsecutiveEvents) (from : ℕ) : Type 0 where
+  pub brings : ConsecutiveBrings r.reader.intervals r.reader.tick told
+  pub few : length (consecutive_list told) ≤ 3
+  pub in_turn : DoNotFall from (map told_tick (consecutive_list told)) (counted_until r)

@@ -8,6 +8,10 @@ pub mod Consecutive
 pub mod ConsecutiveStep
 pub mod ConsecutiveTape
 pub mod ConsecutiveTold
+pub mod Counted
+pub mod CountedStep
+pub mod CountedTape
+pub mod CountedTold
 pub mod Events
 pub mod Firm
 pub mod FirmKnown

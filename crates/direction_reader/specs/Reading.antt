@@ -7,9 +7,11 @@ use Rattle.direction_reader.specs.declared.event.Event.{Event}
 use Rattle.direction_reader.specs.declared.firm_event.FirmEvent.{FirmEvent}
 use Rattle.direction_reader.specs.declared.firm_event.FirmEvent.TheVariants.{Told}
 use Rattle.direction_reader.specs.declared.witness.Witness.{Witness}
-use Rattle.direction_reader.specs.declared.witness.Witness.TheVariants.{NotAsked, Asked, Consecutive}
+use Rattle.direction_reader.specs.declared.witness.Witness.TheVariants.{NotAsked, Asked, Consecutive, Counted}
 use Rattle.direction_reader.specs.Consecutive.{AreConsecutiveEvents}
 use Rattle.direction_reader.specs.ConsecutiveTold.{AreConsecutiveTold}
+use Rattle.direction_reader.specs.Counted.{AreCountedEvents}
+use Rattle.direction_reader.specs.CountedTold.{AreCountedTold}
 use Rattle.direction_reader.specs.Firm.{AreFirmEvents}
 use Rattle.direction_reader.specs.FirmTold.{AreTold}
 use Rattle.direction_reader.specs.ListEvents.{AreEvents}
@@ -25,6 +27,7 @@ AreEventsAsked NotAsked system profile intervals told =
     (events : List Event) × (told ≡ as_told events) × AreEvents system profile intervals events
 AreEventsAsked Asked system profile intervals told = AreFirmEvents system profile intervals told
 AreEventsAsked Consecutive system profile intervals told = AreConsecutiveEvents system profile intervals told
+AreEventsAsked Counted system profile intervals told = AreCountedEvents system profile intervals told
 
 -- what is told of a list of intervals while more may follow, and up to which tick, by what each word is asked for:
 -- where it is nothing, all events, up to the sum of the intervals
@@ -33,12 +36,14 @@ AreToldAsked NotAsked system profile intervals told until =
     AreEventsAsked NotAsked system profile intervals told × (until ≡ sum intervals)
 AreToldAsked Asked system profile intervals told until = AreTold system profile intervals told until
 AreToldAsked Consecutive system profile intervals told until = AreConsecutiveTold system profile intervals told until
+AreToldAsked Counted system profile intervals told until = AreCountedTold system profile intervals told until
 
 -- how many events are told at once, at most
 abbrev pub most_told : Witness → ℕ
 most_told NotAsked = 2
 most_told Asked = 3
 most_told Consecutive = 4
+most_told Counted = 3
 
 -- a reader: its system and tolerance, how many intervals it was given and their sum, up to which tick all is told, and
 -- which intervals it was given, with what it has told of them

@@ -32,7 +32,13 @@
 //!   `AreConsecutiveTold`), and `finish` gives what is held (clause `all`). At most one word is held, and at
 //!   most two words are told with an interval. `consecutive_laws` says what the next word changes and what
 //!   not.
-//! - `Reading` is what the three readers have in common (`specs/Reading.antt`): whatever words are asked for, each
+//! - `CountedReader` tells a word only if another one counts on with it: the word before it, whatever came
+//!   between, or what comes next (`specs/Counted.antt`, `AreCountedEvents`). A word counts on that is a frame
+//!   or two behind, in label and place. It stands for the events of a `DirectionReader` and for what it has
+//!   given of them (`specs/CountedStep.antt`, and of the list alone `specs/CountedTold.antt`,
+//!   `AreCountedTold`), and `finish` gives what is held. At most one word is held, and at most two are told
+//!   with an interval. `counted_laws` says what it changes and what not.
+//! - `Reading` is what the four readers have in common (`specs/Reading.antt`): whatever words are asked for, each
 //!   tells the events of its intervals, in turn, and up to which tick all is told. A list has one reading, and
 //!   what is told comes first (`reading_laws`). The commands and the library read by this trait alone.
 //! - A window holds the latest of the bits that it was given (`specs/HoldsBits.antt`).
@@ -43,7 +49,8 @@
 //! Read `reader`, `tracker`, `state`, `latest_cells`, `latest_bits`, `window`, `boundaries`, `brought`,
 //! `candidates` and `event`, in this order: the way of an interval. Then `firm_reader`, `beside`,
 //! `waiting` and `firm_event`, a judge of what that reader tells, and `consecutive`, `consecutive_event`
-//! and `neighbours`, a judge of what this one tells; and `reading`, `witness` and `reading_laws`, what all
+//! and `neighbours`, a judge of what this one tells; `counted` and `counting`, a judge of what the reader
+//! of all words tells that needs another word; and `reading`, `witness` and `reading_laws`, what all
 //! of them are.
 //! `specs/Invariants.antt` is what the code keeps. `report_text` prints the events. Nothing
 //! here allocates.
@@ -56,6 +63,9 @@ mod candidates;
 mod consecutive;
 mod consecutive_event;
 pub mod consecutive_laws;
+mod counted;
+pub mod counted_laws;
+mod counting;
 mod event;
 mod firm_event;
 pub mod firm_laws;
@@ -77,6 +87,7 @@ pub use brought::Brought;
 pub use candidates::window_events;
 pub use consecutive::ConsecutiveReader;
 pub use consecutive_event::ConsecutiveEvents;
+pub use counted::CountedReader;
 pub use event::{Event, Events};
 pub use firm_event::{FirmEvent, FirmEvents};
 pub use firm_reader::FirmReader;

@@ -37,7 +37,7 @@ fn word_of(event: &FirmEvent) -> Option<HeardWord>
 }
 
 /// A word with its label, its direction, the tick at its end and its length.
-fn heard_as(direction: Direction, word: &LtcWord, tick: u64, length: u64) -> HeardWord
+pub(crate) fn heard_as(direction: Direction, word: &LtcWord, tick: u64, length: u64) -> HeardWord
     ensures { result ≡ heard_as direction word.now tick length }
 {
     HeardWord {

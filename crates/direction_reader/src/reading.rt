@@ -12,6 +12,8 @@ use crate::brought::Brought;
 use crate::consecutive::ConsecutiveReader;
 use crate::consecutive_event::ConsecutiveEvents;
 use crate::consecutive_laws::a_reader_has_told_what_its_list_tells;
+use crate::counted::CountedReader;
+use crate::counted_laws::a_reader_has_told_what_counts_in_its_list;
 use crate::firm_event::FirmEvents;
 use crate::firm_laws::a_reader_has_told_what_no_further_interval_changes;
 use crate::firm_reader::FirmReader;
@@ -290,5 +292,66 @@ impl Reading for ConsecutiveReader {
 
     fn what_it_has_told() {
         a_reader_has_told_what_its_list_tells();
+    }
+}
+
+impl Reading for CountedReader {
+    ghost use Rattle.std.specs.Prelude.{◌≡◌, []};
+    ghost use Rattle.direction_reader.specs.declared.witness.Witness.TheVariants.{Counted};
+    ghost use Rattle.direction_reader.specs.ConsecutiveStep.{consecutive_list};
+    ghost use Rattle.direction_reader.specs.KeptReading.{reading_of_counted, MayTellCountedFrom};
+
+    type Brought = ConsecutiveEvents;
+
+    ghost witness = { Counted };
+
+    ghost reading = { λ r. reading_of_counted r };
+
+    ghost tells = { λ _ brought own. own ≡ consecutive_list brought };
+
+    ghost may = { λ r brought from. MayTellCountedFrom r brought from };
+
+    ghost nothing = { λ told. consecutive_list told ≡ [] };
+
+    fn start(system: System, profile: Profile) -> CountedReader {
+        CountedReader::new(system, profile)
+    }
+
+    fn step(&mut self, x: u32) -> ConsecutiveEvents {
+        let told = self.feed(x);
+        let _within = self.told_until();
+        told
+    }
+
+    fn is_nothing(brought: &ConsecutiveEvents) -> bool {
+        let events = &brought.events;
+        match (brought.held, events.first, events.second, events.third) {
+            (None, None, None, None) => true,
+            _ => false,
+        }
+    }
+
+    fn told(&self, brought: ConsecutiveEvents) -> ConsecutiveEvents {
+        brought
+    }
+
+    fn last(&self) -> ConsecutiveEvents {
+        self.finish()
+    }
+
+    fn until(&self) -> u64 {
+        self.told_until()
+    }
+
+    fn intervals(&self) -> u64 {
+        self.intervals()
+    }
+
+    fn ticks(&self) -> u64 {
+        self.tick()
+    }
+
+    fn what_it_has_told() {
+        a_reader_has_told_what_counts_in_its_list();
     }
 }

@@ -11,6 +11,10 @@ use crate::consecutive_laws::{
     a_list_has_one_list_of_consecutive_events, a_list_has_one_list_of_consecutive_told,
     consecutive_told_come_first,
 };
+use crate::counted_laws::{
+    a_list_has_one_list_of_counted_events, a_list_has_one_list_of_counted_told,
+    counted_told_come_first,
+};
 use crate::firm_laws::{
     a_list_has_one_list_of_firm_events, a_list_has_one_list_of_told_events, told_events_come_first,
 };
@@ -30,6 +34,7 @@ pub fn a_list_has_one_reading()
     a_list_has_one_list_of_events();
     a_list_has_one_list_of_firm_events();
     a_list_has_one_list_of_consecutive_events();
+    a_list_has_one_list_of_counted_events();
 }
 
 /// And one list of those that are told while more may follow, up to one tick.
@@ -45,6 +50,7 @@ pub fn a_list_has_one_reading_yet()
     a_list_has_one_list_of_events();
     a_list_has_one_list_of_told_events();
     a_list_has_one_list_of_consecutive_told();
+    a_list_has_one_list_of_counted_told();
 }
 
 /// If more intervals follow, what was told comes first, and all else ends at the tick up to which it was told, or
@@ -61,4 +67,5 @@ pub fn what_is_told_comes_first()
     events_of_a_front_come_first();
     told_events_come_first();
     consecutive_told_come_first();
+    counted_told_come_first();
 }

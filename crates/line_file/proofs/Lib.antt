@@ -1,11 +1,9 @@
 pub mod AnswersExist
 pub mod AnswersStay
 pub mod DecoderMore
-pub mod DecoderTakes
 pub mod FaultsStay
 pub mod FieldByField
 pub mod FileReadBack
-pub mod FrontStays
 pub mod HeaderBytes
 pub mod OwnBytes
 pub mod PieceByPiece

@@ -1,10 +1,7 @@
 -- What the code finds at the front of bytes, as the definitions say it. No promise speaks of it.
-use Rattle.std.specs.Prelude.{◌≡◌, ℕ, ◌*◌, ◌<◌, List, take, drop, slice_index, Option, Some, None}
+use Rattle.std.specs.Prelude.{◌≡◌, ℕ, ◌*◌, List, take, drop, slice_index}
 use Rattle.vitc_reader.specs.Field.{IsAnswer}
 use Rattle.vitc_reader.specs.Runs.{runs_of_bytes}
-use Rattle.line_file.specs.declared.decoder.Piece.{Piece}
-use Rattle.line_file.specs.declared.decoder.Piece.TheVariants as pieces
-use Rattle.line_file.specs.declared.decoder.TheConstants.{MAX_FIELDS}
 use Rattle.line_file.specs.declared.field.FoundField.{FoundField}
 use Rattle.line_file.specs.declared.field.FoundField.TheVariants as fields
 use Rattle.line_file.specs.declared.found.Found.{Found}
@@ -12,7 +9,7 @@ use Rattle.line_file.specs.declared.found.Found.TheVariants as things
 use Rattle.line_file.specs.declared.header.FoundHeader.{FoundHeader}
 use Rattle.line_file.specs.declared.header.FoundHeader.TheVariants as headers
 use Rattle.line_file.specs.declared.header.LineHeader.{LineHeader}
-use Rattle.line_file.specs.LineFile.{Front, whole, short, bad, field_at, header_at}
+use Rattle.line_file.specs.LineFile.{Front, whole, short, bad, field_at}
 use Rattle.line_file.specs.KeptPieces.{field_width}
 
 -- a thing that was found, with what it says
@@ -42,16 +39,3 @@ IsFoundField header place bytes (fields.Whole answer width) =
     × IsAnswer header.system header.length lines answer
 IsFoundField header place bytes fields.Short = field_at place bytes ≡ short
 IsFoundField header place bytes (fields.Fault f) = field_at place bytes ≡ bad f
-
--- what stands at the front of bytes for a decoder: a header first, and then fields up to the limit
-abbrev pub IsPiece : Option LineHeader → ℕ → ℕ → List ℕ → Piece → Type 0
-IsPiece None place count bytes (pieces.Header header) = header_at bytes ≡ whole header
-IsPiece None place count bytes pieces.Short = header_at bytes ≡ short
-IsPiece None place count bytes (pieces.Fault f) = header_at bytes ≡ bad f
-IsPiece None place count bytes _ = ⊥
-IsPiece (Some header) place count bytes (pieces.Header _) = ⊥
-IsPiece (Some header) place count bytes (pieces.Field answer width) =
-    (count < MAX_FIELDS) × IsFoundField header place bytes (fields.Whole answer width)
-IsPiece (Some header) place count bytes pieces.Short = (count < MAX_FIELDS) × (field_at place bytes ≡ short)
-IsPiece (Some header) place count bytes (pieces.Fault f) = (count < MAX_FIELDS) × (field_at place bytes ≡ bad f)
-IsPiece (Some header) place count bytes pieces.Limit = count ≡ MAX_FIELDS

@@ -8,9 +8,9 @@
 //! - What bytes say is one value (`specs/LineFile.antt`, `reading_of`): the header, the whole fields before
 //!   the first fault and within the limit, whether the bytes are good, refused or past the limit, and
 //!   whether the input may end there. It is defined over the whole text, piece after piece.
-//! - A `LineDecoder` that was given bytes in whatever pieces has answered the fields of these bytes
-//!   (`specs/StandsFor.antt`, `StandsFor`; `specs/Answers.antt`, `AreAnswersOf`), and answers a fault or the
-//!   limit exactly when they have it.
+//! - A `LineDecoder` takes the header and the fields one by one, keeps no byte of them, and has answered the
+//!   fields of the bytes that it took (`specs/StandsFor.antt`, `StandsFor`; `specs/Answers.antt`, `AreAnswersOf`).
+//!   It answers a fault or the limit exactly when the bytes have it, and takes none of a field that is not whole.
 //! - A fault and the limit stay, whatever bytes follow. Bytes have one list of answers, and those of some
 //!   bytes come first, whatever bytes follow (`laws`).
 //! - Each input that is taken whole is the file of a header and fields (`specs/Grammar.antt`, `file_of`),
@@ -18,21 +18,18 @@
 //! - `line_header` writes the twelve bytes of a header, and they are read back.
 //! - `field_text` and `field_end_text` give the lines of a report byte for byte (`specs/Texts.antt`).
 //!
-//! Read `fault`, `header`, `field`, `decoder` and `texts`, in this order, and `specs/LineFile.antt` beside
+//! Read `header`, `field`, `decoder` and `texts`, in this order, and `specs/LineFile.antt` beside
 //! them. Nothing here allocates.
 #![tactic(auto)]
 
 mod decoder;
-mod fault;
 mod field;
 mod found;
 mod header;
 pub mod laws;
-pub mod names;
 mod texts;
 
 pub use decoder::{FIELD_ROOM, LineDecoder, MAX_FIELDS, Taken};
-pub use fault::LineFileFault;
 pub use field::{MAX_LINES, MAX_RUNS};
 pub use header::{HEAD_LENGTH, HEADER_LENGTH, LineHeader, MAGIC, VERSION, line_header};
 pub use texts::{field_end_text, field_text};

@@ -8,9 +8,9 @@
 //!   each of them says, and then what two of them say as one that are at most 4 rows and 4 grains apart, a grain a
 //!   720th of the row, and contradict each other in no bit: the first 20 lines of all (`specs/Field.antt`,
 //!   `lines_of`).
-//! - `PixelReader::take` takes the bytes of fields, a byte a pixel and row behind row, in whatever pieces they come.
-//!   With the last byte of a field it gives the lines that the field says, and with no byte before
-//!   (`specs/Rows.antt`, `SaysLines`; `part`, `whole`). It keeps one row, and no field whole.
+//! - `PixelReader::take` takes the rows of fields, one behind another, a byte a pixel. With the last row of a field it
+//!   gives the lines that the field says, and with none before (`specs/Rows.antt`, `SaysLines`; `part`, `whole`). It
+//!   keeps no row.
 //! - Any bytes of a field say one list of lines, of 20 at most (`laws::a_field_says_its_lines`).
 //!
 //! Read `found`, `lines` and `field`, with `specs/Field.antt` beside them, and then `raster` and `reader`, with

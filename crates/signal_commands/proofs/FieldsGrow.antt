@@ -8,8 +8,10 @@ use Rattle.std.proofs.lemmas.List.Sums.{sum_by-append, sum_by-cons}
 use Rattle.vitc_reader.specs.declared.field.FieldAnswer.{FieldAnswer}
 use Rattle.vitc_reader.specs.declared.field.FieldAnswer.TheVariants.{NoLine, Agreed, Conflict, Nothing}
 use Rattle.std.specs.Option.{option_map}
-use Rattle.line_file.specs.declared.fault.LineFileFault.{LineFileFault}
+use Rattle.file_faults.specs.declared.lines.LineFileFault.{LineFileFault}
 use Rattle.tc_io.specs.Verdict.{good}
+use Rattle.tc_io.specs.VerdictLemmas.{good_too}
+use Rattle.tc_command.specs.TooFew.{AreTooFew}
 use Rattle.tc_command.specs.declared.input_fault.InputFault.TheVariants.{Lines}
 use Rattle.line_file.specs.declared.decoder.TheConstants.{MAX_FIELDS}
 use Rattle.line_file.specs.LineFile.{reading_of}
@@ -18,7 +20,7 @@ use Rattle.line_file.specs.StandsFor.{Decoding, IsTold}
 use Rattle.line_file.specs.Texts.{field_line, field_end_line}
 use Rattle.signal_commands.specs.declared.vitc_read.FieldReport.{FieldReport}
 use Rattle.signal_commands.specs.KeptFields.{FitsFields, Stands, counted, most_bytes}
-use Rattle.signal_commands.specs.VitcRead.{answer_lines, is_agreed, is_conflict, is_nothing}
+use Rattle.signal_commands.specs.VitcRead.{along_fields, answer_lines, is_agreed, is_conflict, is_nothing}
 use Rattle.signal_commands.specs.VitcRead.{last_field_line}
 
 -- what the law of the decoder says
@@ -219,13 +221,23 @@ fits_more r next d answer fits one within is =
 
 -- there is less to come
 pub less_to_come : (r next : FieldReport) (d : Decoding) (answer : FieldAnswer) (count : ℕ) → 1 ≤ count
-    → d.place + length d.part ≡ r.decoder.place + length r.decoder.part + count → reads.FitsFields d
-    → next ≡ counted answer (record r { decoder = d })
-    → most_bytes - (next.decoder.place + length next.decoder.part)
-    < most_bytes - (r.decoder.place + length r.decoder.part)
+    → d.place ≡ r.decoder.place + count → reads.FitsFields d → next ≡ counted answer (record r { decoder = d })
+    → most_bytes - next.decoder.place < most_bytes - r.decoder.place
 less_to_come r next d answer count some taken fits is =
-    let less : most_bytes - (d.place + length d.part) < most_bytes - (r.decoder.place + length r.decoder.part) =
-    omega (arith, some, taken, fits.0, fits.1) in
-    subst
-    (λ (x : Decoding). most_bytes - (x.place + length x.part) < most_bytes - (r.decoder.place + length r.decoder.part))
+    let less : most_bytes - d.place < most_bytes - r.decoder.place = omega (arith, some, taken, fits.0, fits.1) in
+    subst (λ (x : Decoding). most_bytes - x.place < most_bytes - r.decoder.place)
     (sym (same_decoder (record r { decoder = d }) next answer is)) less
+
+-- ---- a field that is not whole
+
+-- it says nothing more
+pub waits_for : (r : FieldReport) (bytes : List ℕ) → reads.IsCut r.decoder bytes
+    → ((front : List ℕ) (answers : List FieldAnswer) → reads.StandsFor r.decoder front answers
+    → IsTold (reading_of (front ++ bytes)) good answers)
+    → AreTooFew along_fields (Stands r) bytes
+waits_for r bytes cut told = record {
+  few = omega (arith, cut.few);
+  good = λ front written s.
+      let is = told front s.answers s.decoder in
+      (record { is = good_too Lines _ is.0; unspent = λ spent. spent }, (s.answers, is.1, s.are));
+}

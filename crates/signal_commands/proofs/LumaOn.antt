@@ -1,7 +1,7 @@
 -- With some bytes more a row is longer, or a field is whole and its lines are written.
 use Rattle.std.proofs.Common.{◌≡◌, ◌≢◌, ℕ, ◌+◌, ◌*◌, ◌%◌, ◌==◌, ◌<◌, ◌≤◌, ◌⊎◌, inl, inr, Bool, cond, Some, None, List}
 use Rattle.std.proofs.Common.{[], ◌∷◌}
-use Rattle.std.proofs.Common.{◌++◌, length, map, take, sym, ◌∙◌, ap, ap₂, subst, append_assoc, append-nil}
+use Rattle.std.proofs.Common.{◌++◌, length, map, take, refl, sym, ◌∙◌, ap, ap₂, subst, append_assoc, append-nil}
 use Rattle.std.proofs.Common.{length-append, arith}
 use Rattle.std.specs.Prelude.{IfNone, IfSome}
 use Rattle.std.specs.declared.option.Option.{Option}
@@ -9,6 +9,7 @@ use Rattle.std.specs.List.{concat, All, AllZip}
 use Rattle.std.proofs.Math.Nat.{mul-le-mul_right}
 use Rattle.std.proofs.lemmas.Bool.{ne_eqb}
 use Rattle.std.proofs.lemmas.List.{take-append-le}
+use Rattle.std.proofs.lemmas.Nat.{mod-mul-add}
 use Rattle.std.proofs.lemmas.List.Elements.{All-push}
 use Rattle.std.proofs.lemmas.List.Folds.{concat-append}
 use Rattle.line_file.specs.declared.decoder.TheConstants.{MAX_FIELDS}
@@ -20,9 +21,11 @@ use Rattle.luma_field.specs.Rows.{SaysLines}
 use Rattle.tc_command.specs.declared.input_fault.InputFault.TheVariants.{HalfField}
 use Rattle.tc_command.specs.declared.halt.Halt.TheVariants as halts
 use Rattle.tc_command.specs.Halt.{IsHalt}
+use Rattle.tc_command.specs.Meaning.{Shows}
+use Rattle.tc_io.specs.Verdict.{good}
 use Rattle.tc_job.specs.LumaRun.{LumaReading}
 use Rattle.signal_commands.specs.declared.luma_vitc.ReadPixels.{ReadPixels}
-use Rattle.signal_commands.specs.KeptLuma.{Stands, stands_well}
+use Rattle.signal_commands.specs.KeptLuma.{IsCutRow, Stands, shows_fields, stands_well}
 use Rattle.signal_commands.specs.LumaVitc.{along_pixels, cut_field, luma_header, most_pixels, written_lines, IsLumaFile}
 use Rattle.signal_commands.proofs.LumaIsCommand.{longer_file}
 use Rattle.signal_commands.proofs.MidiLimit.{is_past}
@@ -211,3 +214,49 @@ cut_end luma bytes taken size long is some =
     ap (λ (n : ℕ). cond (n == 0) None (Some (HalfField (length bytes)))) (rest_of luma bytes taken size long is)
     ∙ ap (λ (b : Bool). cond b None (Some (HalfField (length bytes)))) (ne_eqb (taken % size) 0 some)
     ∙ ap (λ (n : ℕ). Some (HalfField n)) long
+
+-- ---- a cut row
+
+-- bytes that are less than a row say nothing more
+pub row_cut : TakenApart → AreAsLong → (s : ReadPixels) (bytes written few : List ℕ) → IsCutRow s few
+    → (stands : Stands s bytes written)
+    → (length stands.part + length few < size_of s.run.raster) × Shows (along_pixels s.run) good (bytes ++ few)
+    × IsLumaFile s.run (whole_parts (size_of s.run.raster) (take (most_pixels s.run) (bytes ++ few))) written
+row_cut apart long s bytes written few cut stands =
+    let size = size_of s.run.raster in
+    let part = stands.part ++ few in
+    let room = subst (λ (r : RasterSize). length stands.part + r.width ≤ size_of r) stands.has.raster
+    stands.has.begun.room in
+    let both = length-append stands.part few in
+    let less : length part < size = omega (arith, both, room, cut.few) in
+    let are : bytes ++ few ≡ concat stands.fields ++ part =
+    ap (λ (l : List ℕ). l ++ few) stands.are ∙ append_assoc (concat stands.fields) stands.part few in
+    let all = ap length are in
+    let now = length-append (concat stands.fields) part in
+    let before = length-append (concat stands.fields) stands.part in
+    let fields = long size stands.fields stands.has.sizes in
+    let fits = room_for_one (length stands.fields) MAX_FIELDS size (length stands.part)
+    (omega (arith, fields, before, stands.has.taken, cut.room)) in
+    let shows = shows_fields s.run (bytes ++ few) written stands.fields stands.lines
+    (omega (arith, all, now, fields, less, fits))
+    (ap (whole_parts size) are ∙ apart size stands.fields part stands.has.sizes less) stands.say stands.file in
+    (omega (arith, less, both), shows.0, shows.1)
+
+-- an input that ends with them ends inside a field
+pub row_cut_end : TakenApart → AreAsLong → (s : ReadPixels) (bytes written few : List ℕ) → IsCutRow s few
+    → (stands : Stands s bytes written)
+    → cut_field s.run (bytes ++ few) ≡ Some (HalfField (s.taken + length few))
+row_cut_end apart long s bytes written few cut stands =
+    let size = size_of s.run.raster in
+    let count = length stands.fields in
+    let rest = length stands.part + length few in
+    let less = (row_cut apart long s bytes written few cut stands).0 in
+    let fields = long size stands.fields stands.has.sizes in
+    let before = length-append (concat stands.fields) stands.part in
+    let taken = length-taken s bytes written stands in
+    let both = length-append bytes few in
+    let all : length (bytes ++ few) ≡ s.taken + length few = omega (arith, both, taken) in
+    let sum : s.taken + length few ≡ count * size + rest = omega (arith, stands.has.taken, before, fields) in
+    let over : (s.taken + length few) % size ≡ rest = ap (λ (n : ℕ). n % size) sum ∙ mod-mul-add count size rest less in
+    cut_end s.run (bytes ++ few) (s.taken + length few) size all refl
+    (λ none. omega (arith, sym over ∙ none, cut.some))

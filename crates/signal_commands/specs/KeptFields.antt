@@ -21,9 +21,9 @@ counted (Conflict word other) r = record r { fields = r.fields + 1; conflict = r
 counted NoLine r = record r { fields = r.fields + 1; nothing = r.nothing + 1 }
 counted (Nothing fault) r = record r { fields = r.fields + 1; nothing = r.nothing + 1 }
 
--- the most bytes that are taken: a header, the fields within the limit, and a part of one more
+-- the most bytes that are taken: a header, and the fields within the limit
 abbrev pub most_bytes : ℕ
-most_bytes = HEADER_LENGTH + FIELD_ROOM * MAX_FIELDS + FIELD_ROOM
+most_bytes = HEADER_LENGTH + FIELD_ROOM * MAX_FIELDS
 
 -- each field was counted once, and none past the limit
 pub record FitsFields (r : FieldReport) : Type 0 where

@@ -9,8 +9,8 @@ use tc_io::{Failed, Source};
 /// The most bytes of one pull.
 pub const PULLED: usize = 4096;
 
-/// An engine leaves fewer bytes than this.
-pub const KEPT: usize = 256;
+/// An engine leaves fewer bytes than this, the longest row of `luma-vitc`.
+pub const KEPT: usize = 4096;
 
 /// The bytes that were pulled and not yet worked on, in order.
 #[derive(Drop)]
@@ -26,7 +26,7 @@ impl Model for Inlet {
 
     ghost view = { λ s. take s.count s.room };
 
-    ghost invariant = { λ s. s.count ≤ 4352 };
+    ghost invariant = { λ s. s.count ≤ 8192 };
 }
 
 impl Inlet {

@@ -5,7 +5,6 @@ ghost use Rattle.tc_io.specs.Verdict.{good};
 ghost use Rattle.wave_file.specs.declared.chunk.Extent.{Extent};
 ghost use Rattle.wave_file.specs.declared.format.WaveFormat.{WaveFormat};
 ghost use Rattle.wave_file.specs.declared.stage.Stage.TheVariants as stages;
-ghost use Rattle.wave_file.specs.declared.stage.TheConstants.{MAX_PIECE};
 ghost use Rattle.wave_file.specs.Format.{samples_at, IsAsked, IsTakenFor};
 ghost use Rattle.wave_file.specs.Stage.{data_among, format_at_stage, up_to_end, width_of, HasBytes, IsWaiting};
 ghost use Rattle.wave_file.specs.StandsFor.{format_in_decoding, may_end_before, no_decoding, wanted};
@@ -13,12 +12,12 @@ ghost use Rattle.wave_file.specs.StandsFor.{AddsTaken, IsCut, IsTold, StandsFor,
 ghost use Rattle.wave_file.specs.Wave.{end_fault_of, reading_of};
 
 use crate::chunk::{Extent, Notes};
-use crate::fault::WaveFault;
 use crate::format::{Asked, WaveFormat};
 use crate::sample::sample_in;
 use crate::stage::{
     Ahead, MAX_BYTES, Stage, Step, behind, data_stage, next_in, step_over, width_of,
 };
+use file_faults::WaveFault;
 use std::marker::Model;
 
 /// What bytes bring.
@@ -179,7 +178,6 @@ impl WaveDecoder {
 
     /// The fault of an input that ends with these bytes, if the next piece begins with them and is not whole.
     pub fn cut_off(&self, bytes: &[u8]) -> WaveFault
-        requires few { length bytes.now < MAX_PIECE }
         ensures { IsCut self.now bytes.now → (front : List ℕ) (samples : List ℤ) → StandsFor self.now front samples
             → end_fault_of self.now.asked (front ++ bytes.now) ≡ Some result }
     {

@@ -9,6 +9,7 @@ returns-clause-some c =
     } in
     some_of plain c.a_list_has_one_list_of_firm_events.ensures.some
     c.a_list_has_one_list_of_consecutive_events.ensures.some
+    c.a_list_has_one_list_of_counted_events.ensures.some
 
 pub returns-clause-one : goal.returns-clause-one
 returns-clause-one c =
@@ -17,4 +18,4 @@ returns-clause-one c =
       one = c.a_list_has_one_list_of_events.ensures;
     } in
     one_of plain c.a_list_has_one_list_of_firm_events.ensures.one
-    c.a_list_has_one_list_of_consecutive_events.ensures.one
+    c.a_list_has_one_list_of_consecutive_events.ensures.one c.a_list_has_one_list_of_counted_events.ensures.one

@@ -8,7 +8,7 @@ returns-clause-some c =
       one = c.a_list_has_one_list_of_events.ensures;
     } in
     some_yet plain c.a_list_has_one_list_of_told_events.ensures.some
-    c.a_list_has_one_list_of_consecutive_told.ensures.some
+    c.a_list_has_one_list_of_consecutive_told.ensures.some c.a_list_has_one_list_of_counted_told.ensures.some
 
 pub returns-clause-one : goal.returns-clause-one
 returns-clause-one c =
@@ -17,4 +17,4 @@ returns-clause-one c =
       one = c.a_list_has_one_list_of_events.ensures;
     } in
     one_yet plain c.a_list_has_one_list_of_told_events.ensures.one
-    c.a_list_has_one_list_of_consecutive_told.ensures.one
+    c.a_list_has_one_list_of_consecutive_told.ensures.one c.a_list_has_one_list_of_counted_told.ensures.one

@@ -8,6 +8,7 @@ returns-clause-all c =
       later = c.events_of_a_front_come_first.ensures.later;
     } in
     all_first plain c.told_events_come_first.ensures.all c.consecutive_told_come_first.ensures.all
+    c.counted_told_come_first.ensures.all
 
 pub returns-clause-more : goal.returns-clause-more
 returns-clause-more c =
@@ -16,3 +17,4 @@ returns-clause-more c =
       later = c.events_of_a_front_come_first.ensures.later;
     } in
     yet_first plain c.told_events_come_first.ensures.more c.consecutive_told_come_first.ensures.more
+    c.counted_told_come_first.ensures.more

@@ -1,6 +1,7 @@
 use Rattle.std.proofs.Common.{◌≡◌, ◌⊎◌, ◌*◌, ◌+◌, ◌-◌, List, [], ◌++◌, length, ℕ}
 use Rattle.std.specs.Io.KnownBytes.{Consumes}
 use Rattle.tc_io.specs.Bytes.{AreBytes}
+use Rattle.tc_command.specs.declared.inlet.TheConstants.{KEPT}
 use Rattle.tc_command.specs.Outlet.{IsGiven}
 use Rattle.tc_command.specs.TooFew.{AreTooFew}
 use Rattle.tc_command.proofs.running.pull_all.Given as goal
@@ -25,4 +26,4 @@ invariant-pulls g l = record {
 
 -- with each turn something is worked on, or more is kept
 abbrev pub decreases-pulls : goal.decreases-pulls
-decreases-pulls g l = 256 * g.E.Engine.budget l.engine + 255 - length l.inlet
+decreases-pulls g l = KEPT * g.E.Engine.budget l.engine + KEPT - length l.inlet

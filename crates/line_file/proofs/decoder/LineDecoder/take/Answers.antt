@@ -1,148 +1,81 @@
-use Rattle.std.proofs.Common.{◌≡◌, ◌+◌, ◌∙◌, length, take, refl, sym, ap, subst, arith, inr}
-use Rattle.std.proofs.lemmas.List.{length-append, length-take-le}
+use Rattle.std.proofs.Common.{◌<◌, refl, sym, subst, arith}
+use Rattle.line_file.specs.declared.decoder.TheConstants.{MAX_FIELDS}
 use Rattle.line_file.specs.StandsFor.{Decoding, StandsFor}
-use Rattle.line_file.proofs.DecoderTakes.{at_header, header_there, at_field, at_short, at_fault, waits_less, waits_none}
-use Rattle.line_file.proofs.DecoderTakes.{header_added, field_added}
-use Rattle.line_file.proofs.DecoderTakes.{fault_there, limit_there}
+use Rattle.line_file.proofs.DecoderMore.{cut_less, cut_told, field_added, field_fault}
+use Rattle.line_file.proofs.DecoderMore.{limit_told}
+use Rattle.line_file.proofs.OwnBytes.{own_field}
 use Rattle.line_file.proofs.decoder.LineDecoder.take.Goals as goal
-use Rattle.line_file.proofs.decoder.LineDecoder.take.Goals.{then-bytes-room, else-bytes-room}
 
--- the header begins with what was kept
-pub overflow_sub-result : goal.overflow_sub-result
-overflow_sub-result c =
+-- one field too many
+pub returns-then-self-eq-MAX_FIELDS-clause-stops : goal.returns-then-self-eq-MAX_FIELDS-clause-stops
+returns-then-self-eq-MAX_FIELDS-clause-stops c = λ front answers stands.
     let d = c.self.inside in
-    let s = at_header d.header d.place d.fields d.part.items _ c.in-Header.header c.self.invariant.waits
-    c.in-Header.ensures.piece in
-    let kept = s.kept in
-    let before = c.len-before.ensures.value in
-    omega (arith, kept, before)
+    let s = subst (λ (x : Decoding). StandsFor x front answers) (sym c.self.view_is) stands in
+    limit_told c.in-Some.header d.place d.fields front c.args.bytes.now answers c.if-self-eq-MAX_FIELDS.true
+    (omega (arith, c.requires)) (rw c.in-Some.is at s)
 
-pub invariant_of-self : goal.invariant_of-self
-invariant_of-self c =
-    let d = c.self.inside in
-    let s = at_header d.header d.place d.fields d.part.items _ c.in-Header.header c.self.invariant.waits
-    c.in-Header.ensures.piece in
-    let begin = s.begin in
-    rw c.clear.ensures (record {
-      header = header_there d.header d.place d.part.items _ c.in-Header.header s;
-      waits = tt;
-      part = omega arith;
-      within = c.self.invariant.within;
-      bytes = omega (arith, begin);
-    })
+-- a field
+pub overflow_add-self-in-Whole-field_in : goal.overflow_add-self-in-Whole-field_in
+overflow_add-self-in-Whole-field_in c =
+    let e = c.in-Whole-field_in.ensures in
+    let most = (own_field c.self.inside.place c.args.bytes.now e.0 e.1).most in
+    omega (arith, most, e.2, c.self.invariant.bytes, c.self.invariant.within)
 
-pub overflow_add-self-in-Field-2 : goal.overflow_add-self-in-Field-2
-overflow_add-self-in-Field-2 c =
-    let d = c.self.inside in
-    let is = c.in-Field.ensures.piece in
-    let s = at_field d.header d.place d.fields d.part.items _ c.in-Field.answer c.in-Field.width c.self.invariant.waits
-    is in
-    let most = s.most in
-    let place = c.self.invariant.bytes in
-    let few = c.self.invariant.within in
-    omega (arith, most, place, few)
-
-pub overflow_sub-result-in-Field : goal.overflow_sub-result-in-Field
-overflow_sub-result-in-Field c =
-    let d = c.self.inside in
-    let is = c.in-Field.ensures.piece in
-    let s = at_field d.header d.place d.fields d.part.items _ c.in-Field.answer c.in-Field.width c.self.invariant.waits
-    is in
-    let kept = s.kept in
-    let before = c.len-before.ensures.value in
-    omega (arith, kept, before)
-
-pub invariant_of-self-in-Field : goal.invariant_of-self-in-Field
-invariant_of-self-in-Field c =
-    let d = c.self.inside in
-    let is = c.in-Field.ensures.piece in
-    let s = at_field d.header d.place d.fields d.part.items _ c.in-Field.answer c.in-Field.width c.self.invariant.waits
-    is in
-    let most = s.most in
-    let room = s.room in
-    let place = c.self.invariant.bytes in
-    rw c.clear-in-Field.ensures (record {
-      header = c.self.invariant.header;
-      waits = waits_none d.header d.place d.fields _ _ s.header s.some;
-      part = omega arith;
-      within = omega (arith, room);
-      bytes = omega (arith, place, most);
-    })
-
-pub invariant_of-self-in-Short : goal.invariant_of-self-in-Short
-invariant_of-self-in-Short c =
-    let d = c.self.inside in
-    let kept = c.in-Short.ensures.kept refl in
-    let is = rw (← kept) at c.in-Short.ensures.piece in
-    let waits = at_short d.header d.place d.fields d.part.items c.take_piece.new.part.items c.self.invariant.waits is in
+pub invariant_of-self-in-Whole-field_in : goal.invariant_of-self-in-Whole-field_in
+invariant_of-self-in-Whole-field_in c =
+    let e = c.in-Whole-field_in.ensures in
+    let most = (own_field c.self.inside.place c.args.bytes.now e.0 e.1).most in
     record {
       header = c.self.invariant.header;
-      waits = waits;
-      part = waits_less d.header d.place d.fields c.take_piece.new.part.items waits;
-      within = c.self.invariant.within;
-      bytes = c.self.invariant.bytes;
+      begin = rw c.in-Some.is tt;
+      within = omega (arith, c.self.invariant.within, c.if-self-eq-MAX_FIELDS.false);
+      bytes = omega (arith, most, e.2, c.self.invariant.bytes);
     }
 
-pub returns-in-Header-clause-takes : goal.returns-in-Header-clause-takes
-returns-in-Header-clause-takes c =
+pub returns-in-Whole-field_in-clause-takes : goal.returns-in-Whole-field_in-clause-takes
+returns-in-Whole-field_in-clause-takes c =
     let d = c.self.inside in
-    let is = c.in-Header.ensures.piece in
-    let s = at_header d.header d.place d.fields d.part.items _ c.in-Header.header c.self.invariant.waits is in
-    rw (← c.self.view_is, c.clear.ensures, c.len-before.ensures.value)
-    (header_added d.header d.place d.fields d.part.items c.args.bytes.now _
-    c.in-Header.header s)
+    let e = c.in-Whole-field_in.ensures in
+    let room : d.fields < MAX_FIELDS = omega (arith, c.self.invariant.within, c.if-self-eq-MAX_FIELDS.false) in
+    rw (← c.self.view_is, c.in-Some.is, e.2)
+    (field_added c.in-Some.header d.place d.fields c.args.bytes.now e.0 c.in-Whole-field_in.answer room e.1 e.3)
 
-pub returns-in-Field-clause-takes : goal.returns-in-Field-clause-takes
-returns-in-Field-clause-takes c =
+pub returns-in-Whole-field_in-clause-bounds : goal.returns-in-Whole-field_in-clause-bounds
+returns-in-Whole-field_in-clause-bounds c =
+    let e = c.in-Whole-field_in.ensures in
+    let most = (own_field c.self.inside.place c.args.bytes.now e.0 e.1).most in (
+      omega (arith, c.self.invariant.within, c.if-self-eq-MAX_FIELDS.false),
+      omega (arith, most, e.2, c.self.invariant.bytes),
+    )
+
+-- a field that is not whole
+pub returns-in-Short-field_in-clause-takes : goal.returns-in-Short-field_in-clause-takes
+returns-in-Short-field_in-clause-takes c =
     let d = c.self.inside in
-    let is = c.in-Field.ensures.piece in
-    let s = at_field d.header d.place d.fields d.part.items _ c.in-Field.answer c.in-Field.width c.self.invariant.waits
-    is in
-    rw (← c.self.view_is, c.clear-in-Field.ensures, c.len-before.ensures.value)
-    (field_added d.header d.place d.fields d.part.items c.args.bytes.now _ c.in-Field.answer c.in-Field.width s)
+    let short = c.in-Short-field_in.ensures in
+    let room : d.fields < MAX_FIELDS = omega (arith, c.self.invariant.within, c.if-self-eq-MAX_FIELDS.false) in
+    rw (← c.self.view_is) (
+      refl,
+      record {
+        some = omega (arith, c.requires);
+        few = cut_less d.header d.place d.fields c.args.bytes.now (rw c.in-Some.is (room, short));
+        short = rw c.in-Some.is (room, short);
+      },
+    )
 
-pub returns-in-Field-clause-bounds : goal.returns-in-Field-clause-bounds
-returns-in-Field-clause-bounds c =
-    let d = c.self.inside in
-    let is = c.in-Field.ensures.piece in
-    let s = at_field d.header d.place d.fields d.part.items _ c.in-Field.answer c.in-Field.width c.self.invariant.waits
-    is in
-    let most = s.most in
-    let room = s.room in
-    let place = c.self.invariant.bytes in
-    rw c.clear-in-Field.ensures (omega (arith, room), omega (arith, place, most))
-
-pub returns-in-Fault-clause-stops : goal.returns-in-Fault-clause-stops
-returns-in-Fault-clause-stops c = λ front answers stands.
+pub returns-in-Short-field_in-clause-stops : goal.returns-in-Short-field_in-clause-stops
+returns-in-Short-field_in-clause-stops c = λ front answers stands.
     let d = c.self.inside in
     let s = subst (λ (x : Decoding). StandsFor x front answers) (sym c.self.view_is) stands in
-    let is = c.in-Fault.ensures.piece in
-    fault_there d.header d.place d.fields d.part.items front c.args.bytes.now _ answers c.in-Fault.fault s
-    (at_fault d.header d.place d.fields _ c.in-Fault.fault is)
+    let room : d.fields < MAX_FIELDS = omega (arith, c.self.invariant.within, c.if-self-eq-MAX_FIELDS.false) in
+    cut_told d.header d.place d.fields front c.args.bytes.now answers (omega (arith, c.requires))
+    (rw c.in-Some.is (room, c.in-Short-field_in.ensures)) s
 
-pub returns-in-Limit-clause-stops : goal.returns-in-Limit-clause-stops
-returns-in-Limit-clause-stops c = λ front answers stands.
+-- a fault in it
+pub returns-in-Fault-field_in-clause-stops : goal.returns-in-Fault-field_in-clause-stops
+returns-in-Fault-field_in-clause-stops c = λ front answers stands.
     let d = c.self.inside in
     let s = subst (λ (x : Decoding). StandsFor x front answers) (sym c.self.view_is) stands in
-    limit_there d.header d.place d.fields d.part.items front c.args.bytes.now _ answers s c.in-Limit.ensures.piece
-    c.requires
-
--- a piece that is not whole is less than the room for one, so the room cut nothing off
-pub returns-in-Short-clause-all : goal.returns-in-Short-clause-all
-returns-in-Short-clause-all c =
-    let d = c.self.inside in
-    let kept = c.in-Short.ensures.kept refl in
-    let is = rw (← kept) at c.in-Short.ensures.piece in
-    let waits = at_short d.header d.place d.fields d.part.items c.take_piece.new.part.items c.self.invariant.waits is in
-    let less = waits_less d.header d.place d.fields c.take_piece.new.part.items waits in
-    let count = c.if-bytes-room.count in
-    let bytes = c.args.bytes.now in
-    let long : length c.take_piece.new.part.items ≡ length d.part.items + length (take count bytes) =
-    ap length kept ∙ length-append d.part.items (take count bytes) in
-    let before = c.len-before.ensures.value in
-    elim c.if-bytes-room.branch [
-      | then-bytes-room w ↦ inr w.count-is
-      | else-bytes-room w ↦
-          let all = length-take-le count bytes (omega (arith, w.count-is, w.if-bytes-room.false)) in
-          absurd (omega (arith, less, long, all, before, w.count-is))
-    ]
+    field_fault c.in-Some.header d.place d.fields front c.args.bytes.now answers c.in-Fault-field_in.fault
+    (omega (arith, c.self.invariant.within, c.if-self-eq-MAX_FIELDS.false)) (omega (arith, c.requires))
+    (rw c.in-Some.is at s) c.in-Fault-field_in.ensures

@@ -1,6 +1,4 @@
-use Rattle.std.proofs.Common.{◌≡◌, ◌∷◌, ◌++◌, [], ℕ, List, Some, None, take, ap, subst, ◌∙◌, arith}
-use Rattle.luma_row.specs.declared.row.CodeRow.{CodeRow}
-use Rattle.luma_row.specs.Row.{IsCode}
+use Rattle.std.proofs.Common.{◌≡◌, ◌∷◌, [], ◌++◌, Some, None, take, ap, ◌∙◌, arith}
 use Rattle.luma_field.specs.KeptReader.{FieldReading}
 use Rattle.luma_field.specs.Rows.{found_from}
 use Rattle.luma_field.proofs.FirstTwenty.{few, found_stays}
@@ -25,20 +23,18 @@ returns-then-self-first-clause-looked c = λ looked.
 
 pub returns-in-Some-clause-same : goal.returns-in-Some-clause-same
 returns-in-Some-clause-same c =
-    ap (λ (s : FieldReading). record { raster = s.raster; line = s.line; number = s.number; found = c.keep.new.self })
+    ap (λ (s : FieldReading). record { raster = s.raster; number = s.number; found = c.keep.new.self })
     c.self.view_is
 
 pub returns-in-Some-clause-looked : goal.returns-in-Some-clause-looked
 unfolding found_from
-returns-in-Some-clause-looked c = λ looked.
-    let line : c.as_slice.result.now ≡ c.args.self.now.line =
-    c.as_slice.ensures.value ∙ ap (λ (s : FieldReading). s.line) c.self.view_is in (
-      Some c.in-Some.code,
-      subst (λ (row : List ℕ). IsCode row c.in-Some.code) line c.in-Some.ensures.code,
-      c.keep.ensures ∙ ap (λ (s : FieldReading). take 20 (s.found ++ record { number = s.number; row = c.in-Some.code }
-          ∷ []))
-          c.self.view_is,
-    )
+returns-in-Some-clause-looked c = λ looked. (
+  Some c.in-Some.code,
+  c.in-Some.ensures.code,
+  c.keep.ensures ∙ ap (λ (s : FieldReading). take 20 (s.found ++ record { number = s.number; row = c.in-Some.code }
+      ∷ []))
+      c.self.view_is,
+)
 
 pub returns-in-Some-clause-passed : goal.returns-in-Some-clause-passed
 returns-in-Some-clause-passed c = λ passed.
@@ -54,17 +50,11 @@ returns-in-Some-clause-passed c = λ passed.
 pub returns-in_default-clause-looked : goal.returns-in_default-clause-looked
 unfolding found_from
 returns-in_default-clause-looked c = λ looked.
-    let line : c.as_slice.result.now ≡ c.args.self.now.line =
-    c.as_slice.ensures.value ∙ ap (λ (s : FieldReading). s.line) c.self.view_is in
-    let found : c.self.inside.found ≡ c.args.self.now.found = ap (λ (s : FieldReading). s.found) c.self.view_is in (
-      None,
-      subst (λ (row : List ℕ). (code : CodeRow) → ¬ IsCode row code) line c.in_default.ensures.none,
-      found_stays c.self.inside.found c.args.self.now.found found c.self.invariant.few,
-    )
+    let found : c.self.inside.found ≡ c.args.self.now.found = ap (λ (s : FieldReading). s.found) c.self.view_is in
+    (None, c.in_default.ensures.none, found_stays c.self.inside.found c.args.self.now.found found c.self.invariant.few)
 
 pub invariant_of-self : goal.invariant_of-self
 invariant_of-self c = record {
-  line = c.self.invariant.line;
   number = c.self.invariant.number;
   few = few c.keep.new.self _ c.keep.ensures;
 }

@@ -1,10 +1,11 @@
-use Rattle.std.proofs.Common.{◌+◌, ◌++◌, [], ℕ, List, take, append-nil, refl, sym, subst}
-use Rattle.std.proofs.Common.{◌∙◌}
-use Rattle.std.proofs.Common.{arith, length-take}
+use Rattle.std.proofs.Common.{◌+◌, ◌++◌, [], ℕ, List, take, append-nil, inr, refl, sym, subst, ap, ◌∙◌}
+use Rattle.std.proofs.Common.{arith}
+use Rattle.std.proofs.lemmas.List.{length-take-le}
 use Rattle.line_file.specs.Grammar.{field_bytes}
+use Rattle.luma_field.specs.Raster.{RasterSize}
 use Rattle.signal_commands.specs.LumaVitc.{written_lines}
-use Rattle.signal_commands.specs.KeptLuma.{Stands}
-use Rattle.signal_commands.proofs.LumaOn.{at_limit, at_none, at_some, field_whole, row_longer}
+use Rattle.signal_commands.specs.KeptLuma.{IsCutRow, Stands}
+use Rattle.signal_commands.proofs.LumaOn.{at_limit, at_none, at_some, field_whole, row_cut, row_longer}
 use Rattle.signal_commands.proofs.luma_vitc.ReadPixelsEngine.take.Goals as goal
 
 -- so many fields were taken, and here is another byte
@@ -16,12 +17,50 @@ returns-then-self-most-clause-halts g c = λ front written stands. (
       c.requires.some,
 )
 
+-- a row that is not whole
+pub returns-then-bytes-width-clause-waits : goal.returns-then-bytes-width-clause-waits
+returns-then-bytes-width-clause-waits g c =
+    let s = c.args.self.now in
+    let bytes = c.args.bytes.now in
+    let laws = c.joined_parts_are_taken_apart.ensures in
+    let within = c.requires.going.2.has.within in
+    let valid = c.width-width.ensures.valid in
+    let width = ap (λ (r : RasterSize). r.width) c.raster.ensures in
+    let cut : IsCutRow s bytes = record {
+      some = c.requires.some;
+      few = omega (arith, c.if-bytes-width.true, c.width-width.ensures.value, width);
+      room = omega (arith, c.if-self-most.false, c.most.ensures.value, within);
+    } in
+    inr (
+      omega arith,
+      cut,
+      record {
+        few = omega (arith, cut.few, width, valid.not_too_wide);
+        good = λ front written stands.
+            let is = row_cut laws.apart laws.long s front written bytes cut stands in (is.1, is.2);
+      },
+    )
+
+pub returns-then-bytes-width-clause-works : goal.returns-then-bytes-width-clause-works
+returns-then-bytes-width-clause-works g c = λ front written stands. (
+  [],
+  g.O.Output.given_none c.args.out.now,
+  rw (append-nil front, append-nil written) stands,
+)
+
+-- the row is that of the reader
+pub take-lines-requires : goal.take-lines-requires
+take-lines-requires g c =
+    let there = c.if-bytes-width.false in
+    let raster = ap (λ (r : RasterSize). r.width) (c.requires.going.2.has.raster ∙ sym c.raster.ensures) in
+    length-take-le c.width-width.result c.args.bytes.now (omega (arith, there))
+    ∙ omega (arith, c.width-width.ensures.value, raster)
+
 -- the lines of a field
 pub field_of-requires-clause-bits : goal.field_of-requires-clause-bits
 field_of-requires-clause-bits g c =
-    let was = c.requires.going in
-    let stands = was.2 in
-    let whole = at_some _ c.take-count.result.1 c.in-Some.lines c.in-Some.is c.take-count.ensures.whole stands.part
+    let stands = c.requires.going.2 in
+    let whole = at_some _ c.take-lines.result c.in-Some.lines c.in-Some.is c.take-lines.ensures.whole stands.part
     stands.has.begun in
     c.a_field_says_its_lines.ensures.bits _ _ _ whole.1
 
@@ -29,42 +68,42 @@ field_of-requires-clause-bits g c =
 pub returns-in_default-clause-works : goal.returns-in_default-clause-works
 returns-in_default-clause-works g c = λ front written stands.
     let s = c.args.self.now in
-    let count = c.take-count.result.0 in
-    let reader = c.take-count.new.self in
-    let bytes = take count c.args.bytes.now in
-    let cut = length-take count c.args.bytes.now in
+    let width = c.width-width.result in
+    let reader = c.take-lines.new.self in
+    let bytes = take width c.args.bytes.now in
+    let size = length-take-le width c.args.bytes.now (omega (arith, c.if-bytes-width.false)) in
     let laws = c.joined_parts_are_taken_apart.ensures in
-    let next = record s { reader = reader; taken = s.taken + count } in (
+    let next = record s { reader = reader; taken = s.taken + width } in (
       [],
       g.O.Output.given_none c.args.out.now,
       subst (λ (w : List ℕ). Stands next (front ++ bytes) w) (sym (append-nil written))
-          (row_longer laws.apart laws.long s reader (s.taken + count) front written bytes stands
-          c.take-count.ensures.raster (omega (arith, cut, c.take-count.ensures.most))
+          (row_longer laws.apart laws.long s reader (s.taken + width) front written bytes stands
+          c.take-lines.ensures.raster (omega (arith, size))
           (omega (arith, c.if-self-most.false, c.most.ensures.value, stands.has.within))
-          (at_none _ c.take-count.result.1 c.in_default.is c.take-count.ensures.part stands.part stands.has.begun)),
+          (at_none _ c.take-lines.result c.in_default.is c.take-lines.ensures.part stands.part stands.has.begun)),
     )
 
 pub returns-in_default-clause-going : goal.returns-in_default-clause-going
 returns-in_default-clause-going g c =
     let was = c.requires.going in
     let works = returns-in_default-clause-works g c was.0 was.1 was.2 in
-    (was.0 ++ take c.take-count.result.0 c.args.bytes.now, was.1 ++ works.0, works.2)
+    (was.0 ++ take c.width-width.result c.args.bytes.now, was.1 ++ works.0, works.2)
 
 -- the field is whole
 pub returns-in-Some-clause-works : goal.returns-in-Some-clause-works
 returns-in-Some-clause-works g c = λ front written stands.
     let s = c.args.self.now in
-    let count = c.take-count.result.0 in
-    let bytes = take count c.args.bytes.now in
-    let cut = length-take count c.args.bytes.now in
+    let width = c.width-width.result in
+    let bytes = take width c.args.bytes.now in
+    let size = length-take-le width c.args.bytes.now (omega (arith, c.if-bytes-width.false)) in
     let laws = c.joined_parts_are_taken_apart.ensures in
-    let whole = at_some _ c.take-count.result.1 c.in-Some.lines c.in-Some.is c.take-count.ensures.whole stands.part
+    let whole = at_some _ c.take-lines.result c.in-Some.lines c.in-Some.is c.take-lines.ensures.whole stands.part
     stands.has.begun in
-    let next = record s { reader = c.take-count.new.self; taken = s.taken + count } in (
+    let next = record s { reader = c.take-lines.new.self; taken = s.taken + width } in (
       field_bytes (written_lines c.in-Some.lines.items),
       rw (c.as_slice.ensures.value ∙ c.field_of.ensures) at c.gather.ensures,
       field_whole laws.apart laws.long s next front written bytes c.in-Some.lines.items stands refl
-          c.take-count.ensures.raster (omega (arith, cut, c.take-count.ensures.most))
+          c.take-lines.ensures.raster (omega (arith, size))
           (omega (arith, c.if-self-most.false, c.most.ensures.value, stands.has.within)) whole.0 whole.1 whole.2,
     )
 
@@ -72,4 +111,4 @@ pub returns-in-Some-clause-going : goal.returns-in-Some-clause-going
 returns-in-Some-clause-going g c =
     let was = c.requires.going in
     let works = returns-in-Some-clause-works g c was.0 was.1 was.2 in
-    (was.0 ++ take c.take-count.result.0 c.args.bytes.now, was.1 ++ works.0, works.2)
+    (was.0 ++ take c.width-width.result c.args.bytes.now, was.1 ++ works.0, works.2)

@@ -10,7 +10,7 @@ returns-in-Few c =
     let t = c.in-Few.ensures.takes in (
       ap (λ decoder. record c.args.self.now { decoder = decoder }) t.0,
       record {
-        few = t.2;
+        few = omega (arith, t.2);
         short = t.1;
         none = λ front holds.
             file_waits c.args.self.now front c.args.bytes.now holds

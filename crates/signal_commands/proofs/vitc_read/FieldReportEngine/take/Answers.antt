@@ -1,18 +1,32 @@
-use Rattle.std.proofs.Common.{inl, ◌∙◌, [], take, ap, refl, append-nil}
+use Rattle.std.proofs.Common.{inl, inr, ◌∙◌, [], take, ap, arith, refl, append-nil}
 use Rattle.line_file.specs.Texts.{field_line}
 use Rattle.signal_commands.specs.declared.vitc_read.FieldReport.{FieldReport}
-use Rattle.signal_commands.proofs.FieldsGrow.{fits_more, less_to_come, none_more, printed}
+use Rattle.signal_commands.proofs.FieldsGrow.{fits_more, less_to_come, none_more, printed, waits_for}
 use Rattle.signal_commands.proofs.vitc_read.FieldReportEngine.take.Goals as goal
 use Rattle.tc_io.specs.Verdict.{verdict_as}
 use Rattle.tc_command.specs.declared.input_fault.InputFault.TheVariants.{Lines}
 
--- no field is complete
-pub returns-in-Nothing-clause-works : goal.returns-in-Nothing-clause-works
-returns-in-Nothing-clause-works g c = λ front written stands.
+-- the bytes are too few
+pub returns-in-Few-clause-waits : goal.returns-in-Few-clause-waits
+returns-in-Few-clause-waits g c =
+    let few = c.in-Few.ensures in
+    let s = c.args.self.now in
+    rw few.takes.0 (inr (omega arith, few.takes.1, waits_for s c.args.bytes.now few.takes.1 few.stops))
+
+pub returns-in-Few-clause-works : goal.returns-in-Few-clause-works
+returns-in-Few-clause-works g c = λ front written stands. (
+  [],
+  g.O.Output.given_none c.args.out.now,
+  rw (c.in-Few.ensures.takes.0, append-nil front, append-nil written) stands,
+)
+
+-- the header
+pub returns-in-Header-clause-works : goal.returns-in-Header-clause-works
+returns-in-Header-clause-works g c = λ front written stands.
     let r = c.args.self.now in
     let mid : FieldReport = record r { decoder = c.take.new.self } in
-    let taken = take c.in-Nothing.count c.args.bytes.now in
-    let reads_on = c.in-Nothing.ensures.takes.stands front stands.answers stands.decoder in
+    let taken = take c.in-Header.count c.args.bytes.now in
+    let reads_on = c.in-Header.ensures.takes.stands front stands.answers stands.decoder in
     ([], g.O.Output.given_none c.args.out.now, none_more c.a_decoder_tells_the_file.ensures r mid front written taken stands reads_on refl)
 
 -- a field is complete, and its line was written
