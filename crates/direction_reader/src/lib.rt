@@ -49,8 +49,8 @@
 //! Read `reader`, `tracker`, `state`, `latest_cells`, `latest_bits`, `window`, `boundaries`, `brought`,
 //! `candidates` and `event`, in this order: the way of an interval. Then `firm_reader`, `beside`,
 //! `waiting` and `firm_event`, a judge of what that reader tells, and `consecutive`, `consecutive_event`
-//! and `neighbours`, a judge of what this one tells; `counted` and `counting`, a judge of what the reader
-//! of all words tells that needs another word; and `reading`, `witness` and `reading_laws`, what all
+//! and `neighbours`, a judge of what this one tells; `counted` and `counting`, a judge of all words by the
+//! words beside them; and `reading`, `witness` and `reading_laws`, what all
 //! of them are.
 //! `specs/Invariants.antt` is what the code keeps. `report_text` prints the events. Nothing
 //! here allocates.
