@@ -15,7 +15,7 @@ use crate::laws::{
     each_sink_of_frames_adds_in_order, what_is_heard_is_in_order, what_is_jammed_is_read,
     what_is_made_of_frames_is_in_order,
 };
-use direction_reader::{ConsecutiveReader, DirectionReader, FirmReader};
+use direction_reader::{ConsecutiveReader, CountedReader, DirectionReader, FirmReader};
 use flywheel::Frame;
 use interval_engine::work_along;
 use interval_file::laws::recordings_grow;
@@ -40,6 +40,9 @@ pub fn jam_sync<S: Source, K: Sink>(jam: Jam, source: &mut S, out: &mut K) -> Re
             jam, source, out,
         ),
         Witness::Consecutive => work_along::<FlightTo<ConsecutiveReader, CleanRecording>, S, K>(
+            jam, source, out,
+        ),
+        Witness::Counted => work_along::<FlightTo<CountedReader, CleanRecording>, S, K>(
             jam, source, out,
         ),
     }

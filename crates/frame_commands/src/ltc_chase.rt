@@ -18,7 +18,7 @@ use crate::laws::{
 use chase_script::{step_end_text, step_text};
 use code_chase::CodeChase;
 use code_chase::laws::a_frame_adds_a_line;
-use direction_reader::{ConsecutiveReader, DirectionReader, FirmReader};
+use direction_reader::{ConsecutiveReader, CountedReader, DirectionReader, FirmReader};
 use flywheel::Frame;
 use interval_engine::work_along;
 use interval_file::IntervalHeader;
@@ -49,6 +49,9 @@ pub fn chase_code<S: Source, K: Sink>(
         ),
         Witness::Asked => work_along::<FlightTo<FirmReader, StepLines>, S, K>(run, source, out),
         Witness::Consecutive => work_along::<FlightTo<ConsecutiveReader, StepLines>, S, K>(
+            run, source, out,
+        ),
+        Witness::Counted => work_along::<FlightTo<CountedReader, StepLines>, S, K>(
             run, source, out,
         ),
     }

@@ -10,7 +10,7 @@ use crate::laws::{
     each_sink_of_frames_adds_in_order, what_is_heard_is_in_order, what_is_heard_tells_the_tape,
     what_is_made_of_frames_is_in_order,
 };
-use direction_reader::{ConsecutiveReader, DirectionReader, FirmReader};
+use direction_reader::{ConsecutiveReader, CountedReader, DirectionReader, FirmReader};
 use flywheel::Frame;
 use flywheel::laws::invention_is_bounded_and_marked;
 use interval_engine::work_along;
@@ -37,6 +37,9 @@ pub fn fly_along<S: Source, K: Sink>(
         ),
         Witness::Asked => work_along::<FlightTo<FirmReader, FrameLines>, S, K>(flight, source, out),
         Witness::Consecutive => work_along::<FlightTo<ConsecutiveReader, FrameLines>, S, K>(
+            flight, source, out,
+        ),
+        Witness::Counted => work_along::<FlightTo<CountedReader, FrameLines>, S, K>(
             flight, source, out,
         ),
     }

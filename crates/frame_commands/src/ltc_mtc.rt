@@ -10,7 +10,7 @@ use crate::laws::{
     each_sink_of_frames_adds_in_order, what_is_heard_is_in_order, what_is_heard_tells_the_tape,
     what_is_made_of_frames_is_in_order,
 };
-use direction_reader::{ConsecutiveReader, DirectionReader, FirmReader};
+use direction_reader::{ConsecutiveReader, CountedReader, DirectionReader, FirmReader};
 use flywheel::Frame;
 use flywheel::laws::invention_is_bounded_and_marked;
 use interval_engine::work_along;
@@ -39,6 +39,9 @@ pub fn send_time_code<S: Source, K: Sink>(
             flight, source, out,
         ),
         Witness::Consecutive => work_along::<FlightTo<ConsecutiveReader, FrameMessages>, S, K>(
+            flight, source, out,
+        ),
+        Witness::Counted => work_along::<FlightTo<CountedReader, FrameMessages>, S, K>(
             flight, source, out,
         ),
     }

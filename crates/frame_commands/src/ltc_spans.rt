@@ -15,7 +15,7 @@ use crate::laws::{
     what_is_made_of_frames_is_in_order,
 };
 use direction_reader::laws::events_come_in_order;
-use direction_reader::{ConsecutiveReader, DirectionReader, FirmReader};
+use direction_reader::{ConsecutiveReader, CountedReader, DirectionReader, FirmReader};
 use flywheel::Frame;
 use flywheel::laws::{a_frame_that_goes_on_is_the_next, invention_is_bounded_and_marked};
 use interval_engine::work_along;
@@ -48,6 +48,9 @@ pub fn tell_spans<S: Source, K: Sink>(
         ),
         Witness::Asked => work_along::<FlightTo<FirmReader, SpanLines>, S, K>(flight, source, out),
         Witness::Consecutive => work_along::<FlightTo<ConsecutiveReader, SpanLines>, S, K>(
+            flight, source, out,
+        ),
+        Witness::Counted => work_along::<FlightTo<CountedReader, SpanLines>, S, K>(
             flight, source, out,
         ),
     }

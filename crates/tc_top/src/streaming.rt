@@ -21,7 +21,8 @@ use frame_commands::{
 };
 use interval_commands::{
     conversions_are_lawful, convert_recording, firm_reports_are_lawful, made_sound_is_lawful,
-    read_consecutively, read_firmly, read_recording, reports_are_lawful, sound_recording,
+    read_consecutively, read_counting, read_firmly, read_recording, reports_are_lawful,
+    sound_recording,
 };
 use label_command::{add_labels, answer_labels, labels_are_lawful, sums_are_lawful};
 use made_commands::{
@@ -133,6 +134,9 @@ fn work_on<S: Source, K: Sink>(job: &Job, source: &mut S, out: &mut K) -> Result
         Job::LtcRough {
             witness: Witness::Consecutive,
         } => read_consecutively(Profile::Rough, source, out),
+        Job::LtcRough {
+            witness: Witness::Counted,
+        } => read_counting(Profile::Rough, source, out),
         Job::LtcFly { flight } => fly_along(*flight, source, out),
         Job::LtcSpans { flight } => tell_spans(*flight, source, out),
         Job::LtcMtc { flight } => send_time_code(*flight, source, out),

@@ -39,3 +39,15 @@ returns-in-Consecutive g c =
           c.work_along-in-Consecutive.result
           c.args.run.flight (lines_of_steps c.args.run) witness.Consecutive is c.work_along-in-Consecutive.ensures;
     }
+
+pub returns-in-Counted : goal.returns-in-Counted
+returns-in-Counted g c =
+    let is : c.args.run.flight.witness ≡ witness.Counted =
+    ap (λ (f : Flight). f.witness) (sym c.flight.ensures) ∙ c.in-Counted.is in
+    record {
+      told = c.a_trace_is_told.ensures;
+      worked = worked_by g.S.Source.left g.S.Source.ends g.S.Source.faults g.K.Sink.written g.K.Sink.faults
+          c.args.source.now c.work_along-in-Counted.new.source c.args.out.now c.work_along-in-Counted.new.out
+          c.work_along-in-Counted.result
+          c.args.run.flight (lines_of_steps c.args.run) witness.Counted is c.work_along-in-Counted.ensures;
+    }

@@ -31,3 +31,13 @@ returns-in-Consecutive g c =
           c.work_along-in-Consecutive.result
           c.args.flight lines_of_frames witness.Consecutive c.in-Consecutive.is c.work_along-in-Consecutive.ensures;
     }
+
+pub returns-in-Counted : goal.returns-in-Counted
+returns-in-Counted g c =
+    record {
+      told = c.flown_frames_are_told.ensures c.args.flight;
+      worked = worked_by g.S.Source.left g.S.Source.ends g.S.Source.faults g.K.Sink.written g.K.Sink.faults
+          c.args.source.now c.work_along-in-Counted.new.source c.args.out.now c.work_along-in-Counted.new.out
+          c.work_along-in-Counted.result
+          c.args.flight lines_of_frames witness.Counted c.in-Counted.is c.work_along-in-Counted.ensures;
+    }

@@ -1,7 +1,7 @@
 use Rattle.biphase.specs.declared.profile.Profile.TheVariants.{Normal, Worn, Rough}
 use Rattle.tc_job.specs.declared.job.Job.{Job}
 use Rattle.tc_job.specs.declared.job.Job.TheVariants as jobs
-use Rattle.tc_job.specs.declared.witness.Witness.TheVariants.{NotAsked, Asked, Consecutive}
+use Rattle.tc_job.specs.declared.witness.Witness.TheVariants.{NotAsked, Asked, Consecutive, Counted}
 use Rattle.tc_command.specs.ToldLemmas.{meaning_is_lawful, text_is_lawful}
 use Rattle.tc_command.specs.Told.{IsLawful}
 use Rattle.tc_top.specs.Commands.{told_of}
@@ -17,6 +17,7 @@ returns c = lawful
     lawful (jobs.LtcRough NotAsked) = c.reports_are_lawful.ensures Rough
     lawful (jobs.LtcRough Asked) = c.firm_reports_are_lawful.ensures.firm Rough
     lawful (jobs.LtcRough Consecutive) = c.firm_reports_are_lawful.ensures.consecutive Rough
+    lawful (jobs.LtcRough Counted) = c.firm_reports_are_lawful.ensures.counted Rough
     lawful (jobs.LtcFly flight) = c.flown_frames_are_lawful.ensures flight
     lawful (jobs.LtcSpans flight) = c.spans_are_lawful.ensures flight
     lawful (jobs.LtcMtc flight) = c.messages_are_lawful.ensures flight
