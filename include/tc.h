@@ -100,7 +100,7 @@ static inline bool tc_reader_start(tc_reader *reader, const tc_settings *setting
 }
 
 /* Makes a reader, before its first sample, and tells whether the settings are taken. If they are not, it may not be
- * used. It is false too if the library is of another version than this header. */
+ * used. It is false too if the library has another interface than this header. */
 static inline bool tc_reader_init(tc_reader *reader, const tc_settings *settings) {
     tc_handle handle;
     if (tc_abi() != TC_ABI || tc_reader_bytes() > TC_READER_BYTES || tc_reader_boundary() > TC_READER_BOUNDARY) {
@@ -184,7 +184,8 @@ static inline bool tc_tape_init(tc_tape *tape, const tc_tape_settings *settings)
  * long as there is room for three more, or for four where `firm` is 2: with less room it takes nothing, writes nothing,
  * and leaves the reader as it was. Behind the events that are made no element changes. If it leaves less room than
  * that, intervals may be left: call again with those. In whatever pieces the intervals come, the events are the same.
- * If words need a witness, one that is read backward is told 16 cells after its end. Where `firm` is 2, one that is
+ * If words need a witness, one that is read backward is told 16 cells after its end, or where its
+ * stretch or the tape ends. Where `firm` is 2, one that is
  * read forward and has no witness is told with the next event; where it is 3, one that does not count on from the word
  * before it. */
 static inline tc_tape_taken tc_tape_write(tc_tape *tape, const uint32_t *ticks, size_t count, tc_event *events,

@@ -37,7 +37,7 @@ def parser() -> argparse.ArgumentParser:
         "--threshold", type=number_from(1, 32_767), default=THRESHOLD, help=f"the least height of code ({THRESHOLD})"
     )
     words.add_argument("--smooth", type=number_from(1, 16), default=1, help="sums of this many samples, for hiss (1)")
-    words.add_argument("--deep", action="store_true", help="a lower threshold, for dull tapes and hum")
+    words.add_argument("--deep", action="store_true", help="a lower threshold, for dull tapes")
     words.add_argument("--pace", type=pace, default=1.0, help="plays a file this many times as fast (1)")
     words.add_argument("--midi", metavar="DEVICE", help="sends MIDI Time Code to a raw MIDI device or a FIFO")
     words.add_argument("--page", metavar="PORT", type=number_from(1, 65_535), help="serves the display to browsers")

@@ -10,8 +10,8 @@ LOW_THRESHOLD, LOWEST_THRESHOLD = 50, 20
 # A sum has a sample for each 16,000 of the rate: at 48,000 three.
 RATE_OF_A_SUM = 16_000
 MOST_SUMS = 16
-# Hum and its harmonics lie below, code above.
-HIGH_PASS_HERTZ = 300
+# Hum and its harmonics lie below, code above; of code at half of play speed the second leaves more.
+HIGH_PASS_HERTZ = (400, 300)
 # The ticks of a sample, with every front end.
 FINENESS = 16
 # The least samples a second for the best path, for any system. With fewer than ENOUGH it hears more when the sound is
@@ -75,7 +75,7 @@ def others(rate: int) -> list[FrontEnd]:
         FrontEnd("deep", is_deep=True),
         FrontEnd(f"deep, sums of {sums}", sums=sums, is_deep=True),
         FrontEnd(f"threshold {LOW_THRESHOLD}", threshold=LOW_THRESHOLD),
-        FrontEnd(f"high-pass at {HIGH_PASS_HERTZ} Hz", high_pass=HIGH_PASS_HERTZ),
-        FrontEnd(f"high-pass at {HIGH_PASS_HERTZ} Hz, sums of {sums}", sums=sums, high_pass=HIGH_PASS_HERTZ),
+        *(FrontEnd(f"high-pass at {hertz} Hz", high_pass=hertz) for hertz in HIGH_PASS_HERTZ),
+        *(FrontEnd(f"high-pass at {hertz} Hz, sums of {sums}", sums=sums, high_pass=hertz) for hertz in HIGH_PASS_HERTZ),
     ]
     return [front for front in table if front.can_run]

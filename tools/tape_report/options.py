@@ -52,7 +52,7 @@ def add_reading(words: argparse.ArgumentParser) -> None:
     words.add_argument("--all-words", action="store_true", help="words without a witness too")
     words.add_argument("--threshold", type=number_from(1, 32_767), help="the least height of code (250)")
     words.add_argument("--smooth", type=number_from(1, 16), help="sums of this many samples, for hiss (1)")
-    words.add_argument("--deep", action="store_true", help="a lower threshold, for dull tapes and hum")
+    words.add_argument("--deep", action="store_true", help="a lower threshold, for dull tapes")
     words.add_argument("--path", action="store_true", help="the best path through the sound, which is slow")
     words.add_argument("--vitc", action="store_true", help="the code in the upper rows of the picture too")
     words.add_argument("--margin", action="store_true", help="how much louder the noise could be, which takes a second")

@@ -23,7 +23,8 @@ use Rattle.cell_path.specs.Four.{at_step, low, AreNear}
 use Rattle.cell_path.specs.Scores.{AreSteps}
 use Rattle.cell_path.specs.StandsFor.{end_at, steps_at, AreEnds, IsBestAt}
 use Rattle.cell_path.proofs.BestEnd.{bit_at, has_bit_at}
-use Rattle.cell_path.proofs.NearScores.{near_ends, steps_before}
+use Rattle.cell_path.proofs.NearScores.{near_ends}
+use Rattle.cell_path.proofs.LowScores.{steps_before}
 use Rattle.cell_path.proofs.Order.{wins-along, wins_by-rank}
 
 pub sign_is_low : (sign : Sign) → rank_of_sign sign < 2

@@ -23,7 +23,8 @@ use Rattle.cell_path.specs.Scores.{AreSteps}
 use Rattle.cell_path.specs.StandsFor.{steps_at, HasBeginning, IsEndAt, RowsStandFor}
 use Rattle.cell_path.proofs.BestEnd.{one_ends, zero_ends}
 use Rattle.cell_path.proofs.LengthsOfCells.{length_bounds}
-use Rattle.cell_path.proofs.NearScores.{near_beginnings, sound-within, steps_before}
+use Rattle.cell_path.proofs.NearScores.{near_beginnings}
+use Rattle.cell_path.proofs.LowScores.{sound-within, steps_before}
 use Rattle.cell_path.proofs.SoundOfBits.{drop-drop, signed-within}
 
 drop-step : (step : Step) (steps : List Step) (ago : ℕ) → drop (ago + 1) (step ∷ steps) ≡ drop ago steps

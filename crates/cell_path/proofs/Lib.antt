@@ -14,6 +14,7 @@ pub mod GivesNext
 pub mod GoesBack
 pub mod LeastLack
 pub mod LengthsOfCells
+pub mod LowScores
 pub mod Lowest
 pub mod MarkedSteps
 pub mod MarksOfFour
@@ -28,3 +29,4 @@ pub mod Rings
 pub mod SoundOfBits
 pub mod SpacedEnds
 pub mod StartOfCells
+pub mod UnfinishedExists

@@ -12,7 +12,8 @@ use Rattle.cell_path.specs.Four.{AreNear}
 use Rattle.cell_path.specs.Path.{score, IsPath}
 use Rattle.cell_path.specs.Scores.{AreSteps, IsStep}
 use Rattle.cell_path.specs.Unfinished.{lack, sum_of_sizes}
-use Rattle.cell_path.proofs.NearScores.{cut, led_on, not_less, steps_before}
+use Rattle.cell_path.proofs.LowScores.{cut, steps_before}
+use Rattle.cell_path.proofs.NearScores.{led_on, not_less}
 use Rattle.cell_path.proofs.SoundOfBits.{drop-drop}
 
 -- ---- the scores

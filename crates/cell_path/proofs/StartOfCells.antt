@@ -23,7 +23,8 @@ use Rattle.cell_path.specs.Trying.{IsBestOfWay}
 use Rattle.cell_path.proofs.BestBeginning.{all_tried, same_best, way_comes, way_stays}
 use Rattle.cell_path.proofs.BestEnd.{bit_at, has_bit_at}
 use Rattle.cell_path.proofs.Lowest.{low_small}
-use Rattle.cell_path.proofs.NearScores.{level-within, near_ends, steps_before}
+use Rattle.cell_path.proofs.LowScores.{level-within, steps_before}
+use Rattle.cell_path.proofs.NearScores.{near_ends}
 
 below_or_above : (a b : ℤ) → (b ≤ℤ a) ⊎ (a <ℤ b)
 below_or_above a b = grind (arith, ints)

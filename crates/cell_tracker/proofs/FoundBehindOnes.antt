@@ -22,11 +22,15 @@ use Rattle.cell_tracker.specs.FoundAgain.{BreaksBy, AreFrom}
 use Rattle.cell_tracker.specs.Lock.{IsLock, IsUnequalAt}
 use Rattle.cell_tracker.specs.Stretch.{Stretch, end_of, IsStretch, AreStretchesFrom, AreStretches}
 use Rattle.cell_tracker.proofs.CellsOfAPiece.{front_of_front}
-use Rattle.cell_tracker.proofs.FoundAgain.{breaks_by, later_zero, lock_near, one_before, shift_back, shift_on}
+use Rattle.cell_tracker.proofs.FoundAgain.{breaks_by, one_before}
+use Rattle.cell_tracker.proofs.SharesAZero.{later_zero}
+use Rattle.cell_tracker.proofs.WhichShare.{lock_near}
+use Rattle.cell_tracker.proofs.ShiftedPlaces.{shift_back, shift_on}
 use Rattle.cell_tracker.proofs.KeptStretch.{lock_is_zero, pair_has_zero, stretch_at_zero}
 use Rattle.cell_tracker.proofs.OneStretch.{stretch_is_one}
 use Rattle.cell_tracker.proofs.StretchGrows.{end_within}
-use Rattle.cell_tracker.proofs.OverTheRun.{breaks_soon, HasFrom, BreaksOrHas, over_the_run, over_it}
+use Rattle.cell_tracker.proofs.OverTheRun.{breaks_soon, HasFrom, BreaksOrHas, over_the_run}
+use Rattle.cell_tracker.proofs.BeforeTheRun.{over_it}
 use Rattle.cell_tracker.proofs.RunOfOnes.{none_among, zero_before, first_zero, last_zero, own_stretch}
 
 -- ---- the stretches

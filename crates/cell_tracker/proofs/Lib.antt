@@ -1,3 +1,4 @@
+pub mod BeforeTheRun
 pub mod BeginsAtTheLock
 pub mod CellsOfAPiece
 pub mod Chains
@@ -8,12 +9,19 @@ pub mod FoundAgain
 pub mod FoundBehindOnes
 pub mod GainsOrBreaks
 pub mod KeptStretch
+pub mod LastHalf
 pub mod LocalStretch
 pub mod LockStays
 pub mod MirroredCells
 pub mod OneStretch
 pub mod OverTheRun
+pub mod PeeledCells
 pub mod PieceEnds
+pub mod RunCells
 pub mod RunOfOnes
+pub mod SharesAZero
+pub mod ShiftedPlaces
 pub mod StretchGrows
 pub mod StretchesGoOn
+pub mod TurnedPlaces
+pub mod WhichShare

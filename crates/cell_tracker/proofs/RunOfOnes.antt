@@ -16,7 +16,7 @@ use Rattle.cell_tracker.specs.ChainPiece.{IsPiece, cells_between, cells_from}
 use Rattle.cell_tracker.specs.EvenRun.{AreEvenOnes, IsEvenRun}
 use Rattle.cell_tracker.specs.Stretch.{Stretch, end_of, IsBreak, IsStretch}
 use Rattle.cell_tracker.proofs.CellsOfAPiece.{all_between, from_any_low, from_low}
-use Rattle.cell_tracker.proofs.EvenOnes.{kept_ones, AreEvenHalves}
+use Rattle.cell_tracker.proofs.RunCells.{kept_ones, AreEvenHalves}
 use Rattle.cell_tracker.proofs.KeptStretch.{cells_at_zero, stretch_at_zero}
 use Rattle.cell_tracker.proofs.LocalStretch.{locally, NoneFits}
 

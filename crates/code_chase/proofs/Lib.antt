@@ -1,4 +1,6 @@
+pub mod KindsOfALoss
 mod LinesOfFrames
 mod RowsOfFrames
 mod CausesOfALoss
 mod Examples
+pub mod WithoutAGap

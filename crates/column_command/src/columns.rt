@@ -2,49 +2,41 @@
 ghost use Rattle.std.specs.Prelude.{◌≡◌, ◌<◌, ◌≤◌, ◌+◌, ◌∷◌, ◌++◌, ℕ, List, [], length, take, get_or, false};
 ghost use Rattle.std.specs.List.{position_or_len};
 ghost use Rattle.arrayvec.specs.ArrayVec.{array_vec_len};
-ghost use Rattle.column_command.specs.AnsweredText.{answered, told_columns};
+ghost use Rattle.column_command.specs.AnsweredText.{answered};
 ghost use Rattle.column_command.specs.KeptLine.{Keeps, Stands, passed};
 ghost use Rattle.label_columns.specs.Columns.{is_newline};
 ghost use Rattle.label_columns.specs.Parts.{part_of};
 ghost use Rattle.label_columns.specs.declared.columns.TheConstants.{MAX_COLUMN_LINE};
 ghost use Rattle.label_command.specs.TextLines.{IsLine};
-ghost use Rattle.tc_command.specs.Told.{IsLawful, IsTold, WorksAsTold};
-ghost use Rattle.tc_job.specs.declared.column_run.ColumnRun.{ColumnRun};
 
 use crate::lengths::put_line;
 use arrayvec::ArrayVec;
 use label_columns::MAX_COLUMN_LINE;
-use tc_command::{Engine, Halt, InputFault, Output, Stop, run as run_along};
-use tc_io::{Sink, Source};
+use tc_command::{Command, Engine, Halt, InputFault, Output, Stop, Way};
 use tc_job::ColumnRun;
 
 /// The most bytes of a text whose columns are answered.
 pub const MAX_TEXT: u64 = 1_000_000_000_000;
 
-/// Works `labels` with columns.
-pub fn answer_columns<S: Source, K: Sink>(
-    run: &ColumnRun,
-    source: &mut S,
-    out: &mut K,
-) -> Result<(), Stop>
-    ensures { WorksAsTold (told_columns run.now) S.left S.ends S.faults K.written K.faults source.old source.new
-        out.old out.new result }
-{
-    columns_are_told();
-    run_along(&mut ColumnAnswers::new(run), source, out)
+/// `labels` with columns.
+#[derive(Clone, Copy)]
+pub struct Columns {
+    pub run: ColumnRun,
 }
 
-/// What is claimed of them holds.
-fn columns_are_told()
-    ensures { (run : ColumnRun) → IsTold (told_columns run) }
-{
-    columns_are_lawful();
-}
+impl Command for Columns {
+    ghost use Rattle.column_command.specs.AnsweredText.{told_columns};
 
-/// What is claimed of `labels` with columns is lawful.
-pub fn columns_are_lawful()
-    ensures { (run : ColumnRun) → IsLawful (told_columns run) }
-{}
+    ghost told = { λ command. told_columns command.run };
+
+    fn work<W: Way>(&self, way: &mut W) -> Result<(), Stop> {
+        way.read(&[], &mut ColumnAnswers::new(&self.run))
+    }
+
+    fn keeps_its_promise(&self) {}
+
+    fn is_lawful() {}
+}
 
 /// What is kept of a text: the line that no newline has ended yet, as long as it is not too long to be answered.
 #[derive(Drop)]

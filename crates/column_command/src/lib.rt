@@ -2,7 +2,7 @@
 //! of its lines.
 //!
 //! What this crate promises, for all sources and sinks:
-//! - `answer_columns` writes each line of its input with what is answered in the columns that are meant, and all other
+//! - `Columns` writes each line of its input with what is answered in the columns that are meant, and all other
 //!   bytes as they are. Nothing is refused (`specs/AnsweredText.antt`, `answered_text`, over `label_columns`).
 //! - Where a length is asked, the length from the label in the first of the columns stands in the place of that in the
 //!   last (`specs/Written.antt`, `with_length`).
@@ -17,4 +17,4 @@ mod columns;
 pub mod laws;
 mod lengths;
 
-pub use columns::{MAX_TEXT, answer_columns, columns_are_lawful};
+pub use columns::{Columns, MAX_TEXT};

@@ -37,8 +37,9 @@ use Rattle.ltc_word.specs.SyncLemmas.{in_sync_or_not}
 use Rattle.direction_reader.proofs.SyncsApart.{next_clear, fourteenth_clear, fifteenth_clear}
 use Rattle.direction_reader.proofs.SyncInTime.{WordLaws, Plays, Twelve, at, window_bits, plays}
 use Rattle.direction_reader.specs.PlayedLemmas.{length-low_bits, length-bits_of_words}
-use Rattle.direction_reader.proofs.SyncInTime.{quiet_forward, quiet_backward, led}
-use Rattle.direction_reader.proofs.SyncInTime.{lead_forward, lead_backward, no_other_way, no_way_forward, backward_ones}
+use Rattle.direction_reader.proofs.SyncOverWords.{quiet_forward, quiet_backward, led}
+use Rattle.direction_reader.proofs.SyncOverWords.{lead_forward, lead_backward, no_other_way, no_way_forward}
+use Rattle.direction_reader.proofs.SyncInTime.{backward_ones}
 use Rattle.direction_reader.proofs.SyncInTime.{backward_set}
 use Rattle.direction_reader.proofs.WordsAreRead.{starts_words, window_is, windows_are_read}
 

@@ -23,7 +23,7 @@ use Rattle.direction_reader.specs.ListEvents.{events_of_stretch, events_of_windo
 use Rattle.direction_reader.proofs.FindsTheTape.{break_behind, end_tick, sum_at, sum_later}
 use Rattle.direction_reader.proofs.FirmAdds.{in_turn_append}
 use Rattle.direction_reader.proofs.FirmTicks.{candidate_ticks, front_lasts, EndsAt}
-use Rattle.direction_reader.proofs.LaterEvents.{lock_behind}
+use Rattle.direction_reader.proofs.LateStretches.{lock_behind}
 use Rattle.direction_reader.proofs.WindowsFromCells.{duration_of, front_within}
 
 -- one list of events behind another

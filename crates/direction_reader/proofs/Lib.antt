@@ -1,4 +1,5 @@
 pub mod AsLists
+pub mod BehindFront
 pub mod BetweenNeighbours
 pub mod BitsShift
 pub mod CellsEnd
@@ -19,6 +20,7 @@ pub mod FirmWindows
 pub mod FrontsFirst
 pub mod InOrder
 pub mod InSync
+pub mod LateStretches
 pub mod LaterEvents
 pub mod KnownByReader
 pub mod KnownCells
@@ -26,7 +28,9 @@ pub mod KnownLists
 pub mod KnownOfLists
 pub mod KnownSteps
 pub mod KnownStretches
+pub mod LaterWindows
 pub mod MirroredEvents
+pub mod MirroredLists
 pub mod MirroredWindows
 pub mod NextWordFronts
 pub mod NextWordLists
@@ -35,6 +39,7 @@ pub mod OneList
 pub mod OneListOfEvents
 pub mod OneWaits
 pub mod ReaderSteps
+pub mod SyncOverWords
 pub mod TellsTheTape
 pub mod SyncInTime
 pub mod SyncsApart
@@ -42,8 +47,10 @@ pub mod TheEvents
 pub mod TrackerSteps
 pub mod WindowCandidates
 pub mod WindowHolds
+pub mod WindowsFrom
 pub mod WindowsFromCells
 pub mod WindowsGrow
+pub mod WordsByEnd
 pub mod WordsEnd
 pub mod WordsAreRead
 pub mod WrittenOver

@@ -10,7 +10,8 @@ use Rattle.ltc_word.specs.Reversal.{reversed_bits, EndsInSync}
 use Rattle.direction_reader.proofs.SyncInTime.{WordLaws, at, window_bits, sync_bit, clear_64, set_79}
 use Rattle.direction_reader.proofs.SyncInTime.{bit_of_window}
 use Rattle.direction_reader.proofs.SyncInTime.{true_of_one, false_of_zero, forward_ones, forward_clear, backward_ones}
-use Rattle.direction_reader.proofs.SyncInTime.{backward_set, true_false}
+use Rattle.direction_reader.proofs.SyncInTime.{backward_set}
+use Rattle.direction_reader.proofs.SyncOverWords.{true_false}
 
 clear_65 : (n : ℕ) → EndsInSync n → bit_at n 65 ≡ 0
 clear_65 n sync = let e = sync_bit n 1 in let m = n / 2 ^ 64 in let h : m % 2 ^ 16 ≡ 49148 = sync in omega (arith, e)

@@ -27,10 +27,13 @@ use Rattle.direction_reader.specs.ListEvents.{duration}
 use Rattle.direction_reader.specs.Played.{Played, AreSpelled, bits_of_words, events_of_words, in_time, low_bits}
 use Rattle.direction_reader.specs.Played.{played_bits}
 use Rattle.direction_reader.proofs.ChainIsAStretch.{AreAsSaid, whole, whole_from, whole_is}
-use Rattle.direction_reader.proofs.SyncInTime.{WordLaws, Starts, led, lead_backward, lead_forward, no_other_way}
+use Rattle.direction_reader.proofs.SyncInTime.{WordLaws, Starts}
+use Rattle.direction_reader.proofs.SyncOverWords.{led, lead_backward, lead_forward, no_other_way}
 use Rattle.direction_reader.specs.PlayedLemmas.{length-low_bits, length-bits_of_words}
-use Rattle.direction_reader.proofs.SyncInTime.{no_way_forward, number-low_bits, plays, quiet_backward, quiet_forward}
-use Rattle.direction_reader.proofs.SyncInTime.{starts_with, window_bits}
+use Rattle.direction_reader.proofs.SyncOverWords.{no_way_forward, quiet_backward, quiet_forward}
+use Rattle.direction_reader.proofs.SyncInTime.{number-low_bits, plays}
+use Rattle.direction_reader.proofs.SyncOverWords.{starts_with}
+use Rattle.direction_reader.proofs.SyncInTime.{window_bits}
 use Rattle.direction_reader.specs.PlayedLemmas.{duration-append}
 
 -- ---- one window

@@ -1,3 +1,4 @@
+pub mod BothWays
 pub mod BoundedInvention
 pub mod DueInOrder
 mod FrameAfterFrame

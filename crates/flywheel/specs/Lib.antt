@@ -2,6 +2,7 @@ pub use Rattle.tc_address.specs.Label
 pub use Rattle.tc_address.specs.Numbering
 pub mod Frames
 pub mod GoOn
+pub mod LeadsTo
 pub mod Marked
 pub mod StandsFor
 pub mod Wheel

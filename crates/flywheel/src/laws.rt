@@ -8,9 +8,11 @@ ghost use Rattle.flywheel.specs.declared.frame.Frame.{Frame};
 ghost use Rattle.flywheel.specs.StandsFor.{StandsFor};
 ghost use Rattle.flywheel.specs.Wheel.{Wheel};
 ghost use Rattle.flywheel.specs.GoOn.{GoOn};
+ghost use Rattle.flywheel.specs.LeadsTo.{LeadBothWays};
+ghost use Rattle.tc_address.specs.KnownLabels.{labels_apart};
 ghost use Rattle.flywheel.specs.Marked.{AreMarked, words_in, word_of};
 
-use tc_address::laws::steps_add_up;
+use tc_address::laws::{labels_follow_each_other_so, steps_add_up};
 
 /// Between two heard frames, and after the last, there are at most `limit` invented ones, with the steps
 /// 1, 2 and so on, and the heard frames are exactly the words.
@@ -41,6 +43,14 @@ pub fn the_next_word_fits()
     ensures { (before word : HeardWord) (k : ℕ) → (is_next before k word ≡ true)
         ↔ ((word.direction ≡ before.direction) × (word.label ≡ label_after before k)) }
 {}
+
+/// Forward a word leads to the labels after its own, and backward to those before it: over midnight, and over labels
+/// that drop-frame counting drops. The labels are worked out by hand.
+pub fn a_word_leads_to_these_labels()
+    ensures { LeadBothWays labels_apart }
+{
+    labels_follow_each_other_so();
+}
 
 /// What a flywheel has given so far comes first among the frames of the words, and a later word adds
 /// frames behind them.

@@ -2,4 +2,5 @@ pub mod FromTheLeft
 pub mod InSlots
 pub mod JobsInRange
 pub mod Numbers
+mod NumberedLabels
 pub mod SoundInRange

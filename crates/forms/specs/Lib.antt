@@ -7,5 +7,6 @@ pub mod Made
 pub mod Named
 pub mod Needs
 pub mod Number
+pub mod NumberedLines
 pub mod Reading
 pub mod Slot

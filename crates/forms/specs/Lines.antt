@@ -36,7 +36,7 @@ use Rattle.tc_job.specs.declared.job.Job.TheVariants as jobs
 use Rattle.tc_job.specs.declared.job.Task.{Task}
 use Rattle.tc_job.specs.declared.job.Task.TheVariants.{Stream, Chase}
 use Rattle.tc_job.specs.declared.witness.Witness.TheVariants.{NotAsked, Asked, Consecutive, Counted}
-use Rattle.forms.specs.Made.{column_run_of, first_two, length_run_of}
+use Rattle.forms.specs.Made.{column_run_of, length_run_of}
 use Rattle.forms.specs.Named.{task_of}
 use Rattle.forms.specs.Number.{Word}
 
@@ -176,7 +176,7 @@ named_lines =
     )
     ∷ (
       codes "labels 24 ntsc length",
-      Stream (jobs.Columns (length_run_of (label_run_of bases.PulledDown24 ways.Number) first_two)),
+      Stream (jobs.Columns (length_run_of (label_run_of bases.PulledDown24 ways.Number) (columns_of Blanks 1 2))),
     )
     ∷ (codes "labels 25 sum", Stream (jobs.Sum bases.F25))
     ∷ (codes "labels 30d sum", Stream (jobs.Sum bases.Drop30))

@@ -4,9 +4,12 @@ ghost use Rattle.forms.specs.Form.{SlotRow};
 ghost use Rattle.forms.specs.Help.{are_listed_so, are_typed_so};
 ghost use Rattle.forms.specs.Lines.{AreNamed, AreRefused, AreTaken, named_lines, refused_lines, taken_lines};
 ghost use Rattle.forms.specs.Number.{Word};
+ghost use Rattle.forms.specs.NumberedLines.{NameNoLabel, NameTheirLabels, lines_past, numbered_lines};
 ghost use Rattle.forms.specs.Reading.{AreValues, read, value_at};
 ghost use Rattle.forms.specs.declared.value.Value.{Value};
 ghost use Rattle.forms.specs.declared.reading.TheConstants.{MAX_VALUES};
+
+use tc_address::laws::{a_label_has_its_number_by_its_digits, number_and_label_are_inverse};
 
 /// Each command and each word of a choice names its job, each range ends where the lines say, and each fault is the
 /// first one.
@@ -16,8 +19,17 @@ pub fn each_line_is_read_so()
     ensures refused { AreRefused refused_lines }
 {}
 
-/// Words are read from the left: each value is what its word is in its slot after the values before it, and the fault is
-/// the first word that has none.
+/// `label` names the label that has the number in its day, up to the last one.
+pub fn a_number_names_its_label()
+    ensures named { NameTheirLabels numbered_lines }
+    ensures past { NameNoLabel lines_past }
+{
+    number_and_label_are_inverse();
+    a_label_has_its_number_by_its_digits();
+}
+
+/// Words are read from the left: each value is what its word is in its slot after the values before it, and the fault
+/// is the first word that has none.
 pub fn words_are_read_from_the_left()
     ensures values { (slots : List SlotRow) (words : List Word) (values : List Value) → read slots words ≡ Ok values
         → (length values ≡ length words) × AreValues slots words values }

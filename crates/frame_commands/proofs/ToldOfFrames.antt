@@ -1,4 +1,4 @@
--- What is claimed of the commands along frames holds.
+-- What is claimed of the commands along frames is lawful, and their promises are kept.
 use Rattle.std.proofs.Common.{ℕ, List}
 use Rattle.flywheel.specs.declared.frame.Frame.{Frame}
 use Rattle.interval_file.specs.Recording.{recording_of}
@@ -7,14 +7,14 @@ use Rattle.tc_job.specs.Jam.{Jamming}
 use Rattle.tc_job.specs.declared.flight.Flight.{Flight}
 use Rattle.tc_command.specs.Command.{IsCommand}
 use Rattle.tc_command.specs.Meaning.{Meaning}
-use Rattle.tc_command.specs.Told.{IsLawful, IsTold}
+use Rattle.tc_command.specs.Told.{IsLawful, KeepsPromise}
 use Rattle.interval_engine.specs.Along.{along_intervals}
 use Rattle.interval_file.specs.Growing.{RecordingsGrow}
 use Rattle.interval_engine.specs.KeptCommand.{PrintsInOrder, along_is_command, never_spent}
 use Rattle.frame_commands.specs.KeptFrames.{AddsInOrder}
-use Rattle.frame_commands.specs.LtcChase.{ChasesTheInput, lines_of_steps, told_ltc_chase}
+use Rattle.frame_commands.specs.LtcChase.{lines_of_steps, told_ltc_chase}
 use Rattle.frame_commands.specs.LtcFly.{lines_of_frames, told_ltc_fly}
-use Rattle.frame_commands.specs.LtcJam.{CleansTheInput, file_of_frames, told_ltc_jam}
+use Rattle.frame_commands.specs.LtcJam.{file_of_frames, told_ltc_jam}
 use Rattle.frame_commands.specs.LtcMtc.{messages_of_frames, told_ltc_mtc}
 use Rattle.frame_commands.specs.LtcSpans.{lines_of_spans, told_ltc_spans}
 use Rattle.frame_commands.specs.OfFrames.{AreTooMany, FrameText, IsFlightSpent, along_frames}
@@ -48,11 +48,8 @@ fly_is_lawful laws adds flight = record {
   unlimited = λ none. unlimited flight lines_of_frames (λ frames many. many);
 }
 
-pub fly_is_told : FramesLaws → (flight : Flight) → IsLawful (told_ltc_fly flight) → IsTold (told_ltc_fly flight)
-fly_is_told marked flight lawful = record {
-  lawful = lawful;
-  kept = λ pulled written are input output. shows_the_frames marked flight pulled written output;
-}
+pub fly_is_kept : FramesLaws → (flight : Flight) → KeepsPromise (told_ltc_fly flight)
+fly_is_kept marked flight = λ pulled written are input output. shows_the_frames marked flight pulled written output
 
 pub spans_are_lawful : AlongLaws → AddsInOrder lines_of_spans → (flight : Flight) → IsLawful (told_ltc_spans flight)
 spans_are_lawful laws adds flight = record {
@@ -61,12 +58,8 @@ spans_are_lawful laws adds flight = record {
   unlimited = λ none. unlimited flight lines_of_spans (λ frames many. many);
 }
 
-pub spans_are_told : SpansLaws → (flight : Flight) → IsLawful (told_ltc_spans flight)
-    → IsTold (told_ltc_spans flight)
-spans_are_told shared flight lawful = record {
-  lawful = lawful;
-  kept = λ pulled written are input output. shows_the_spans shared flight pulled written output;
-}
+pub spans_are_kept : SpansLaws → (flight : Flight) → KeepsPromise (told_ltc_spans flight)
+spans_are_kept shared flight = λ pulled written are input output. shows_the_spans shared flight pulled written output
 
 pub messages_are_lawful : AlongLaws → AddsInOrder messages_of_frames → (flight : Flight)
     → IsLawful (told_ltc_mtc flight)
@@ -76,12 +69,8 @@ messages_are_lawful laws adds flight = record {
   unlimited = λ none. unlimited flight messages_of_frames (λ frames many. many);
 }
 
-pub messages_are_told : FramesLaws → (flight : Flight) → IsLawful (told_ltc_mtc flight)
-    → IsTold (told_ltc_mtc flight)
-messages_are_told marked flight lawful = record {
-  lawful = lawful;
-  kept = λ pulled written are input output. sends_the_words marked flight pulled written output;
-}
+pub messages_are_kept : FramesLaws → (flight : Flight) → KeepsPromise (told_ltc_mtc flight)
+messages_are_kept marked flight = λ pulled written are input output. sends_the_words marked flight pulled written output
 
 pub copy_is_lawful : AlongLaws → (j : Jamming) → AddsInOrder (file_of_frames j) → IsLawful (told_ltc_jam j)
 copy_is_lawful laws j adds = record {
@@ -90,17 +79,9 @@ copy_is_lawful laws j adds = record {
   unlimited = λ none. unlimited j.flight (file_of_frames j) (λ frames many. many);
 }
 
-pub copy_is_told : (j : Jamming) → IsLawful (told_ltc_jam j) → CleansTheInput j → IsTold (told_ltc_jam j)
-copy_is_told j lawful cleans =
-    record { lawful = lawful; kept = λ pulled written are input output. cleans pulled written output }
-
 pub trace_is_lawful : AlongLaws → (c : Chasing) → AddsInOrder (lines_of_steps c) → IsLawful (told_ltc_chase c)
 trace_is_lawful laws c adds = record {
   command = command laws c.flight (lines_of_steps c) adds;
   pinned = λ pulled. one_trace laws.one_list c (recording_of pulled);
   unlimited = λ none. absurd cc;
 }
-
-pub trace_is_told : (c : Chasing) → IsLawful (told_ltc_chase c) → ChasesTheInput c → IsTold (told_ltc_chase c)
-trace_is_told c lawful follows =
-    record { lawful = lawful; kept = λ pulled written are input output. follows pulled written output }

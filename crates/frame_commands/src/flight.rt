@@ -18,14 +18,30 @@ ghost use Rattle.frame_commands.specs.KeptFlight.{
   Sends,
   TakesTurns,
 };
+ghost use Rattle.frame_commands.specs.OfFrames.{along_frames};
+ghost use Rattle.interval_engine.specs.Along.{along_intervals};
 
 use crate::frame_sink::FrameSink;
 use crate::frames::Frames;
 use crate::hearing::{Hearing, step_aside};
 use crate::laws::what_is_heard_is_in_order;
-use interval_engine::Behind;
+use direction_reader::{ConsecutiveReader, CountedReader, DirectionReader, FirmReader};
+use interval_engine::{Behind, work_along};
 use interval_file::IntervalHeader;
-use tc_command::Output;
+use tc_command::{Output, Stop, Way};
+use tc_job::Witness;
+
+/// Works a command along the frames of a recording, which are those of the words that its witness lets through.
+pub(crate) fn work_frames<T: FrameSink, W: Way>(choice: T::Choice, way: &mut W) -> Result<(), Stop>
+    ensures { W.worked (along_intervals (along_frames (T.flight choice) (T.made choice))) way.old way.new result }
+{
+    match T::flight(choice).witness {
+        Witness::NotAsked => work_along::<FlightTo<DirectionReader, T>, W>(choice, way),
+        Witness::Asked => work_along::<FlightTo<FirmReader, T>, W>(choice, way),
+        Witness::Consecutive => work_along::<FlightTo<ConsecutiveReader, T>, W>(choice, way),
+        Witness::Counted => work_along::<FlightTo<CountedReader, T>, W>(choice, way),
+    }
+}
 
 /// What a command makes of the frames of a recording, along its intervals.
 #[derive(Drop)]

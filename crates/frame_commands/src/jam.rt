@@ -4,67 +4,50 @@ ghost use Rattle.std.specs.Prelude.{◌≡◌, ◌≤◌, ◌+◌, ◌*◌, ◌+
 ghost use Rattle.arrayvec.specs.ArrayVec.{array_vec_len};
 ghost use Rattle.interval_file.specs.declared.header.FileVersion.TheVariants.{One};
 ghost use Rattle.interval_file.specs.Grammar.{intervals_bytes};
-ghost use Rattle.tc_job.specs.Jam.{Jamming};
-ghost use Rattle.tc_command.specs.Told.{IsLawful, IsTold, WorksAsTold};
-ghost use Rattle.frame_commands.specs.LtcJam.{told_ltc_jam};
 
-use crate::flight::FlightTo;
+use crate::flight::work_frames;
 use crate::frame_sink::FrameSink;
 use crate::frames::Frames;
 use crate::laws::{
     each_sink_of_frames_adds_in_order, what_is_heard_is_in_order, what_is_jammed_is_read,
     what_is_made_of_frames_is_in_order,
 };
-use direction_reader::{ConsecutiveReader, CountedReader, DirectionReader, FirmReader};
 use flywheel::Frame;
-use interval_engine::work_along;
 use interval_file::laws::recordings_grow;
 use interval_file::{FileVersion, IntervalHeader, interval_header};
 use ltc_jam::laws::a_clean_recording_is_written_frame_by_frame;
 use ltc_jam::{frame_cells, lead};
-use tc_command::{Output, PIECE, Piece, Stop, put_interval};
-use tc_io::{Sink, Source, put_bytes};
-use tc_job::{Flight, Jam, Witness};
+use tc_command::{Command, Output, PIECE, Piece, Stop, Way, put_interval};
+use tc_io::put_bytes;
+use tc_job::{Flight, Jam};
 
-/// Works `ltc-jam`: a clean recording of the frames of a recording.
-pub fn jam_sync<S: Source, K: Sink>(jam: Jam, source: &mut S, out: &mut K) -> Result<(), Stop>
-    ensures { WorksAsTold (told_ltc_jam jam) S.left S.ends S.faults K.written K.faults source.old source.new
-        out.old out.new result }
-{
-    a_copy_is_told(jam);
-    match jam.flight().witness {
-        Witness::NotAsked => work_along::<FlightTo<DirectionReader, CleanRecording>, S, K>(
-            jam, source, out,
-        ),
-        Witness::Asked => work_along::<FlightTo<FirmReader, CleanRecording>, S, K>(
-            jam, source, out,
-        ),
-        Witness::Consecutive => work_along::<FlightTo<ConsecutiveReader, CleanRecording>, S, K>(
-            jam, source, out,
-        ),
-        Witness::Counted => work_along::<FlightTo<CountedReader, CleanRecording>, S, K>(
-            jam, source, out,
-        ),
+/// `ltc-jam`: a clean recording of the frames of a recording.
+#[derive(Clone, Copy)]
+pub struct LtcJam {
+    pub jam: Jam,
+}
+
+impl Command for LtcJam {
+    ghost use Rattle.frame_commands.specs.LtcJam.{told_ltc_jam};
+
+    ghost told = { λ command. told_ltc_jam command.jam };
+
+    fn work<W: Way>(&self, way: &mut W) -> Result<(), Stop> {
+        work_frames::<CleanRecording, W>(self.jam, way)
     }
-}
 
-/// What is claimed of `ltc-jam` holds: what is written is a clean recording.
-fn a_copy_is_told(jam: Jam)
-    ensures { IsTold (told_ltc_jam jam) }
-{
-    copies_are_lawful();
-    what_is_jammed_is_read();
-    let _cell = jam.cell();
-}
+    /// What is written is a clean recording.
+    fn keeps_its_promise(&self) {
+        what_is_jammed_is_read();
+        let _cell = self.jam.cell();
+    }
 
-/// What is claimed of `ltc-jam` is lawful.
-pub fn copies_are_lawful()
-    ensures { (jam : Jamming) → IsLawful (told_ltc_jam jam) }
-{
-    recordings_grow();
-    what_is_made_of_frames_is_in_order();
-    each_sink_of_frames_adds_in_order();
-    what_is_heard_is_in_order();
+    fn is_lawful() {
+        recordings_grow();
+        what_is_made_of_frames_is_in_order();
+        each_sink_of_frames_adds_in_order();
+        what_is_heard_is_in_order();
+    }
 }
 
 /// A clean recording of frames, in the cells that were given.

@@ -25,8 +25,8 @@ mod ltc_mtc;
 mod ltc_spans;
 mod words;
 
-pub use jam::{copies_are_lawful, jam_sync};
-pub use ltc_chase::{MAX_FRAMES, chase_code, traces_are_lawful};
-pub use ltc_fly::{flown_frames_are_lawful, fly_along};
-pub use ltc_mtc::{messages_are_lawful, send_time_code};
-pub use ltc_spans::{spans_are_lawful, tell_spans};
+pub use jam::LtcJam;
+pub use ltc_chase::{LtcChase, MAX_FRAMES};
+pub use ltc_fly::LtcFly;
+pub use ltc_mtc::LtcMtc;
+pub use ltc_spans::LtcSpans;

@@ -4,11 +4,8 @@ ghost use Rattle.std.specs.Prelude.{◌≡◌, ◌<◌, ◌+◌};
 ghost use Rattle.chase_script.specs.TraceText.{step_line};
 ghost use Rattle.code_chase.specs.CodeTrace.{next_line};
 ghost use Rattle.frame_commands.specs.KeptSteps.{stepped};
-ghost use Rattle.tc_job.specs.ChaseRun.{Chasing};
-ghost use Rattle.tc_command.specs.Told.{IsLawful, IsTold, WorksAsTold};
-ghost use Rattle.frame_commands.specs.LtcChase.{told_ltc_chase};
 
-use crate::flight::FlightTo;
+use crate::flight::work_frames;
 use crate::frame_sink::FrameSink;
 use crate::frames::Frames;
 use crate::laws::{
@@ -18,62 +15,45 @@ use crate::laws::{
 use chase_script::{step_end_text, step_text};
 use code_chase::CodeChase;
 use code_chase::laws::a_frame_adds_a_line;
-use direction_reader::{ConsecutiveReader, CountedReader, DirectionReader, FirmReader};
 use flywheel::Frame;
-use interval_engine::work_along;
 use interval_file::IntervalHeader;
 use interval_file::laws::recordings_grow;
 use line_text::Text;
 use std::marker::Model;
 use tc_address::Count;
-use tc_command::{Output, Stop};
-use tc_io::{Sink, Source};
-use tc_job::{ChaseRun, Flight, Witness};
+use tc_command::{Command, Output, Stop, Way};
+use tc_job::{ChaseRun, Flight};
 
 /// How many frames one run follows at most. A further one ends it.
 pub const MAX_FRAMES: u64 = 100_000_000;
 
-/// Works `ltc-chase`: the steps of a chase over the frames of a recording.
-pub fn chase_code<S: Source, K: Sink>(
-    run: ChaseRun,
-    source: &mut S,
-    out: &mut K,
-) -> Result<(), Stop>
-    ensures { WorksAsTold (told_ltc_chase run) S.left S.ends S.faults K.written K.faults source.old source.new
-        out.old out.new result }
-{
-    a_trace_is_told(run);
-    match run.flight().witness {
-        Witness::NotAsked => work_along::<FlightTo<DirectionReader, StepLines>, S, K>(
-            run, source, out,
-        ),
-        Witness::Asked => work_along::<FlightTo<FirmReader, StepLines>, S, K>(run, source, out),
-        Witness::Consecutive => work_along::<FlightTo<ConsecutiveReader, StepLines>, S, K>(
-            run, source, out,
-        ),
-        Witness::Counted => work_along::<FlightTo<CountedReader, StepLines>, S, K>(
-            run, source, out,
-        ),
+/// `ltc-chase`: the steps of a chase over the frames of a recording.
+#[derive(Clone, Copy)]
+pub struct LtcChase {
+    pub run: ChaseRun,
+}
+
+impl Command for LtcChase {
+    ghost use Rattle.frame_commands.specs.LtcChase.{told_ltc_chase};
+
+    ghost told = { λ command. told_ltc_chase command.run };
+
+    fn work<W: Way>(&self, way: &mut W) -> Result<(), Stop> {
+        work_frames::<StepLines, W>(self.run, way)
     }
-}
 
-/// What is claimed of `ltc-chase` holds: what is written is the trace of a chase that follows the frames.
-fn a_trace_is_told(run: ChaseRun)
-    ensures { IsTold (told_ltc_chase run) }
-{
-    traces_are_lawful();
-    what_is_chased_follows_the_code();
-    let _label = run.label();
-}
+    /// What is written is the trace of a chase that follows the frames.
+    fn keeps_its_promise(&self) {
+        what_is_chased_follows_the_code();
+        let _label = self.run.label();
+    }
 
-/// What is claimed of `ltc-chase` is lawful.
-pub fn traces_are_lawful()
-    ensures { (run : Chasing) → IsLawful (told_ltc_chase run) }
-{
-    recordings_grow();
-    what_is_made_of_frames_is_in_order();
-    each_sink_of_frames_adds_in_order();
-    what_is_heard_is_in_order();
+    fn is_lawful() {
+        recordings_grow();
+        what_is_made_of_frames_is_in_order();
+        each_sink_of_frames_adds_in_order();
+        what_is_heard_is_in_order();
+    }
 }
 
 /// The lines of the steps of a chase.

@@ -1,68 +1,46 @@
 //! What `ltc-fly` makes of frames: a line of each. Read next: `report_text/src/frame.rt`.
-ghost use Rattle.tc_command.specs.Told.{IsLawful, IsTold, WorksAsTold};
-ghost use Rattle.frame_commands.specs.LtcFly.{told_ltc_fly};
-ghost use Rattle.tc_job.specs.declared.flight.Flight.{Flight};
-
-use crate::flight::FlightTo;
+use crate::flight::work_frames;
 use crate::frame_sink::FrameSink;
 use crate::frames::Frames;
 use crate::laws::{
     each_sink_of_frames_adds_in_order, what_is_heard_is_in_order, what_is_heard_tells_the_tape,
     what_is_made_of_frames_is_in_order,
 };
-use direction_reader::{ConsecutiveReader, CountedReader, DirectionReader, FirmReader};
 use flywheel::Frame;
 use flywheel::laws::invention_is_bounded_and_marked;
-use interval_engine::work_along;
 use interval_file::IntervalHeader;
 use interval_file::laws::recordings_grow;
 use report_text::frame_text;
-use tc_command::{Output, Stop};
-use tc_io::{Sink, Source};
-use tc_job::{Flight, Witness};
+use tc_command::{Command, Output, Stop, Way};
+use tc_job::Flight;
 
-/// Works `ltc-fly`: a line for each frame of a recording, as `flight` finds its frames.
-pub fn fly_along<S: Source, K: Sink>(
-    flight: Flight,
-    source: &mut S,
-    out: &mut K,
-) -> Result<(), Stop>
-    ensures { WorksAsTold (told_ltc_fly flight) S.left S.ends S.faults K.written K.faults source.old source.new
-        out.old out.new result }
-{
-    flown_frames_are_told();
-    match flight.witness {
-        Witness::NotAsked => work_along::<FlightTo<DirectionReader, FrameLines>, S, K>(
-            flight, source, out,
-        ),
-        Witness::Asked => work_along::<FlightTo<FirmReader, FrameLines>, S, K>(flight, source, out),
-        Witness::Consecutive => work_along::<FlightTo<ConsecutiveReader, FrameLines>, S, K>(
-            flight, source, out,
-        ),
-        Witness::Counted => work_along::<FlightTo<CountedReader, FrameLines>, S, K>(
-            flight, source, out,
-        ),
+/// `ltc-fly`: a line for each frame of a recording, as `flight` finds its frames.
+#[derive(Clone, Copy)]
+pub struct LtcFly {
+    pub flight: Flight,
+}
+
+impl Command for LtcFly {
+    ghost use Rattle.frame_commands.specs.LtcFly.{told_ltc_fly};
+
+    ghost told = { λ command. told_ltc_fly command.flight };
+
+    fn work<W: Way>(&self, way: &mut W) -> Result<(), Stop> {
+        work_frames::<FrameLines, W>(self.flight, way)
     }
-}
 
-/// What is claimed of `ltc-fly` holds: the frames are the words of the file, and invented ones that are marked and
-/// bounded.
-fn flown_frames_are_told()
-    ensures { (flight : Flight) → IsTold (told_ltc_fly flight) }
-{
-    flown_frames_are_lawful();
-    invention_is_bounded_and_marked();
-    what_is_heard_tells_the_tape();
-}
+    /// The frames are the words of the file, and invented ones that are marked and bounded.
+    fn keeps_its_promise(&self) {
+        invention_is_bounded_and_marked();
+        what_is_heard_tells_the_tape();
+    }
 
-/// What is claimed of `ltc-fly` is lawful.
-pub fn flown_frames_are_lawful()
-    ensures { (flight : Flight) → IsLawful (told_ltc_fly flight) }
-{
-    recordings_grow();
-    what_is_made_of_frames_is_in_order();
-    each_sink_of_frames_adds_in_order();
-    what_is_heard_is_in_order();
+    fn is_lawful() {
+        recordings_grow();
+        what_is_made_of_frames_is_in_order();
+        each_sink_of_frames_adds_in_order();
+        what_is_heard_is_in_order();
+    }
 }
 
 /// The lines of frames. The choice is how the frames are found.

@@ -1,69 +1,46 @@
 //! What `ltc-mtc` makes of frames: MIDI Time Code. Read next: `quarter_frame/src/writer.rt`.
-ghost use Rattle.tc_command.specs.Told.{IsLawful, IsTold, WorksAsTold};
-ghost use Rattle.frame_commands.specs.LtcMtc.{told_ltc_mtc};
-ghost use Rattle.tc_job.specs.declared.flight.Flight.{Flight};
-
-use crate::flight::FlightTo;
+use crate::flight::work_frames;
 use crate::frame_sink::FrameSink;
 use crate::frames::Frames;
 use crate::laws::{
     each_sink_of_frames_adds_in_order, what_is_heard_is_in_order, what_is_heard_tells_the_tape,
     what_is_made_of_frames_is_in_order,
 };
-use direction_reader::{ConsecutiveReader, CountedReader, DirectionReader, FirmReader};
 use flywheel::Frame;
 use flywheel::laws::invention_is_bounded_and_marked;
-use interval_engine::work_along;
 use interval_file::IntervalHeader;
 use interval_file::laws::recordings_grow;
 use quarter_frame::QuarterWriter;
-use tc_command::{Output, Stop};
-use tc_io::{Sink, Source};
-use tc_job::{Flight, Witness};
+use tc_command::{Command, Output, Stop, Way};
+use tc_job::Flight;
 
-/// Works `ltc-mtc`: the frames of a recording, as `flight` finds them, as MIDI Time Code.
-pub fn send_time_code<S: Source, K: Sink>(
-    flight: Flight,
-    source: &mut S,
-    out: &mut K,
-) -> Result<(), Stop>
-    ensures { WorksAsTold (told_ltc_mtc flight) S.left S.ends S.faults K.written K.faults source.old source.new
-        out.old out.new result }
-{
-    messages_are_told();
-    match flight.witness {
-        Witness::NotAsked => work_along::<FlightTo<DirectionReader, FrameMessages>, S, K>(
-            flight, source, out,
-        ),
-        Witness::Asked => work_along::<FlightTo<FirmReader, FrameMessages>, S, K>(
-            flight, source, out,
-        ),
-        Witness::Consecutive => work_along::<FlightTo<ConsecutiveReader, FrameMessages>, S, K>(
-            flight, source, out,
-        ),
-        Witness::Counted => work_along::<FlightTo<CountedReader, FrameMessages>, S, K>(
-            flight, source, out,
-        ),
+/// `ltc-mtc`: the frames of a recording, as `flight` finds them, as MIDI Time Code.
+#[derive(Clone, Copy)]
+pub struct LtcMtc {
+    pub flight: Flight,
+}
+
+impl Command for LtcMtc {
+    ghost use Rattle.frame_commands.specs.LtcMtc.{told_ltc_mtc};
+
+    ghost told = { λ command. told_ltc_mtc command.flight };
+
+    fn work<W: Way>(&self, way: &mut W) -> Result<(), Stop> {
+        work_frames::<FrameMessages, W>(self.flight, way)
     }
-}
 
-/// What is claimed of `ltc-mtc` holds: what is sent are the words of the file, and bounded invented frames.
-fn messages_are_told()
-    ensures { (flight : Flight) → IsTold (told_ltc_mtc flight) }
-{
-    messages_are_lawful();
-    invention_is_bounded_and_marked();
-    what_is_heard_tells_the_tape();
-}
+    /// What is sent are the words of the file, and bounded invented frames.
+    fn keeps_its_promise(&self) {
+        invention_is_bounded_and_marked();
+        what_is_heard_tells_the_tape();
+    }
 
-/// What is claimed of `ltc-mtc` is lawful.
-pub fn messages_are_lawful()
-    ensures { (flight : Flight) → IsLawful (told_ltc_mtc flight) }
-{
-    recordings_grow();
-    what_is_made_of_frames_is_in_order();
-    each_sink_of_frames_adds_in_order();
-    what_is_heard_is_in_order();
+    fn is_lawful() {
+        recordings_grow();
+        what_is_made_of_frames_is_in_order();
+        each_sink_of_frames_adds_in_order();
+        what_is_heard_is_in_order();
+    }
 }
 
 /// The messages of frames. The choice is how the frames are found.

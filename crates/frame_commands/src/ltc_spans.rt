@@ -3,11 +3,8 @@
 ghost use Rattle.std.specs.Prelude.{◌<◌, ◌^◌, IfSome};
 ghost use Rattle.tape_spans.specs.StandsFor.{cut_lines, ended_lines, gap_lines};
 ghost use Rattle.tape_spans.specs.Tape.{FitsCut, FitsSpan};
-ghost use Rattle.tc_command.specs.Told.{IsLawful, IsTold, WorksAsTold};
-ghost use Rattle.frame_commands.specs.LtcSpans.{told_ltc_spans};
-ghost use Rattle.tc_job.specs.declared.flight.Flight.{Flight};
 
-use crate::flight::FlightTo;
+use crate::flight::work_frames;
 use crate::frame_sink::FrameSink;
 use crate::frames::Frames;
 use crate::laws::{
@@ -15,10 +12,8 @@ use crate::laws::{
     what_is_made_of_frames_is_in_order,
 };
 use direction_reader::laws::events_come_in_order;
-use direction_reader::{ConsecutiveReader, CountedReader, DirectionReader, FirmReader};
 use flywheel::Frame;
 use flywheel::laws::{a_frame_that_goes_on_is_the_next, invention_is_bounded_and_marked};
-use interval_engine::work_along;
 use interval_file::IntervalHeader;
 use interval_file::laws::recordings_grow;
 use tape_spans::laws::{
@@ -27,58 +22,43 @@ use tape_spans::laws::{
 };
 use tape_spans::{Cut, Gap, Span, TapeSpans, gap_text, span_text};
 use tc_address::System;
-use tc_command::{Output, Stop};
-use tc_io::{Sink, Source};
-use tc_job::{Flight, Witness};
+use tc_command::{Command, Output, Stop, Way};
+use tc_job::Flight;
 
-/// Works `ltc-spans`: a line for each span of a recording, as `flight` finds its frames, and between two
+/// `ltc-spans`: a line for each span of a recording, as `flight` finds its frames, and between two
 /// of them one for the gap.
-pub fn tell_spans<S: Source, K: Sink>(
-    flight: Flight,
-    source: &mut S,
-    out: &mut K,
-) -> Result<(), Stop>
-    ensures { WorksAsTold (told_ltc_spans flight) S.left S.ends S.faults K.written K.faults source.old source.new
-        out.old out.new result }
-{
-    spans_are_told();
-    match flight.witness {
-        Witness::NotAsked => work_along::<FlightTo<DirectionReader, SpanLines>, S, K>(
-            flight, source, out,
-        ),
-        Witness::Asked => work_along::<FlightTo<FirmReader, SpanLines>, S, K>(flight, source, out),
-        Witness::Consecutive => work_along::<FlightTo<ConsecutiveReader, SpanLines>, S, K>(
-            flight, source, out,
-        ),
-        Witness::Counted => work_along::<FlightTo<CountedReader, SpanLines>, S, K>(
-            flight, source, out,
-        ),
+#[derive(Clone, Copy)]
+pub struct LtcSpans {
+    pub flight: Flight,
+}
+
+impl Command for LtcSpans {
+    ghost use Rattle.frame_commands.specs.LtcSpans.{told_ltc_spans};
+
+    ghost told = { λ command. told_ltc_spans command.flight };
+
+    fn work<W: Way>(&self, way: &mut W) -> Result<(), Stop> {
+        work_frames::<SpanLines, W>(self.flight, way)
     }
-}
 
-/// What is claimed of `ltc-spans` holds: the spans share out the frames of the file.
-fn spans_are_told()
-    ensures { (flight : Flight) → IsTold (told_ltc_spans flight) }
-{
-    spans_are_lawful();
-    invention_is_bounded_and_marked();
-    a_frame_that_goes_on_is_the_next();
-    spans_share_the_frames_out();
-    the_open_span_has_the_last_line();
-    a_span_ends_stepped();
-    what_is_heard_tells_the_tape();
-    events_come_in_order();
-    spans_come_in_order();
-}
+    /// The spans share out the frames of the file.
+    fn keeps_its_promise(&self) {
+        invention_is_bounded_and_marked();
+        a_frame_that_goes_on_is_the_next();
+        spans_share_the_frames_out();
+        the_open_span_has_the_last_line();
+        a_span_ends_stepped();
+        what_is_heard_tells_the_tape();
+        events_come_in_order();
+        spans_come_in_order();
+    }
 
-/// What is claimed of `ltc-spans` is lawful.
-pub fn spans_are_lawful()
-    ensures { (flight : Flight) → IsLawful (told_ltc_spans flight) }
-{
-    recordings_grow();
-    what_is_made_of_frames_is_in_order();
-    each_sink_of_frames_adds_in_order();
-    what_is_heard_is_in_order();
+    fn is_lawful() {
+        recordings_grow();
+        what_is_made_of_frames_is_in_order();
+        each_sink_of_frames_adds_in_order();
+        what_is_heard_is_in_order();
+    }
 }
 
 /// The lines of spans, which say the speed at the header's tick rate and system.

@@ -12,9 +12,6 @@ ghost use Rattle.interval_file.specs.IntervalHeader.{IsTickRate};
 ghost use Rattle.report_text.specs.Texts.{event_line, read_end_line, FitsLine};
 ghost use Rattle.interval_commands.specs.LtcRead.{lines, report};
 ghost use Rattle.interval_commands.specs.KeptReport.{counted, all_counted, Counts, Feeds, FitLines, FitsReport, Stands};
-ghost use Rattle.tc_command.specs.Told.{IsLawful, IsTold, WorksAsTold};
-ghost use Rattle.interval_commands.specs.Tape.{told_ltc_read};
-ghost use Rattle.biphase.specs.declared.profile.Profile.{Profile};
 
 use crate::laws::what_is_printed_is_in_order;
 use biphase::Profile;
@@ -30,41 +27,35 @@ use interval_file::laws::recordings_grow;
 use limits::{MAX_INTERVAL, MAX_INTERVALS};
 use line_text::Text;
 use report_text::{event_text, read_end_text};
-use tc_command::{Output, Stop};
-use tc_io::{Sink, Source};
+use tc_command::{Command, Output, Stop, Way};
 
-/// Works `ltc-read`, and under the other tolerances its like: a line for each event of a recording, and the
-/// last line.
-pub fn read_recording<S: Source, K: Sink>(
-    profile: Profile,
-    source: &mut S,
-    out: &mut K,
-) -> Result<(), Stop>
-    ensures { WorksAsTold (told_ltc_read profile) S.left S.ends S.faults K.written K.faults source.old source.new
-        out.old out.new result }
-{
-    a_report_is_told();
-    work_along::<Report, S, K>(profile, source, out)
+/// `ltc-read`, and under the other tolerances its like: a line for each event of a recording, and the last line.
+#[derive(Clone, Copy)]
+pub struct LtcRead {
+    pub profile: Profile,
 }
 
-/// What is claimed of the reports holds: they hold the lines of the events of their file, and these tell the tape.
-fn a_report_is_told()
-    ensures { (profile : Profile) → IsTold (told_ltc_read profile) }
-{
-    reports_are_lawful();
-    events_tell_the_tape();
-    events_find_the_tape_again();
-    events_find_the_tape_behind_even_ones();
-    events_mirror_the_tape();
-}
+impl Command for LtcRead {
+    ghost use Rattle.interval_commands.specs.Tape.{told_ltc_read};
 
-/// What is claimed of the reports is lawful.
-pub fn reports_are_lawful()
-    ensures { (profile : Profile) → IsLawful (told_ltc_read profile) }
-{
-    recordings_grow();
-    what_is_printed_is_in_order();
-    a_list_has_one_list_of_events();
+    ghost told = { λ command. told_ltc_read command.profile };
+
+    fn work<W: Way>(&self, way: &mut W) -> Result<(), Stop> {
+        work_along::<Report, W>(self.profile, way)
+    }
+
+    fn keeps_its_promise(&self) {
+        events_tell_the_tape();
+        events_find_the_tape_again();
+        events_find_the_tape_behind_even_ones();
+        events_mirror_the_tape();
+    }
+
+    fn is_lawful() {
+        recordings_grow();
+        what_is_printed_is_in_order();
+        a_list_has_one_list_of_events();
+    }
 }
 
 /// The report of a recording: its header, its reader, and how many events of each kind were printed.

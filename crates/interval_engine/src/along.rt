@@ -11,7 +11,6 @@ ghost use Rattle.interval_file.specs.Piece.{most_width};
 ghost use Rattle.tc_command.specs.declared.input_fault.InputFault.TheVariants.{Intervals};
 ghost use Rattle.tc_command.specs.Halt.{IsHalt as IsHaltOf};
 ghost use Rattle.tc_command.specs.KeptBrings.{Brings};
-ghost use Rattle.tc_command.specs.Worked.{IsWorked};
 ghost use Rattle.interval_engine.specs.Along.{Printing, along_intervals};
 ghost use Rattle.interval_engine.specs.KeptAlong.{
   Advances,
@@ -28,8 +27,7 @@ use interval_file::{
     next_interval,
 };
 use limits::{MAX_INTERVAL, MAX_INTERVALS};
-use tc_command::{Engine, Halt, InputFault, Output, Stop, run};
-use tc_io::{Sink, Source};
+use tc_command::{Engine, Halt, InputFault, Output, Stop, Way};
 
 /// The work of one command behind the header of an interval file.
 pub trait Behind: Drop {
@@ -84,15 +82,10 @@ pub trait Behind: Drop {
 }
 
 /// Works a command along an interval file, as what its choice prints.
-pub fn work_along<B: Behind, S: Source, K: Sink>(
-    choice: B::Choice,
-    source: &mut S,
-    out: &mut K,
-) -> Result<(), Stop>
-    ensures { IsWorked (along_intervals (B.printing choice)) S.left S.ends S.faults K.written K.faults
-        source.old source.new out.old out.new result }
+pub fn work_along<B: Behind, W: Way>(choice: B::Choice, way: &mut W) -> Result<(), Stop>
+    ensures { W.worked (along_intervals (B.printing choice)) way.old way.new result }
 {
-    run(&mut Along::<B>::new(choice), source, out)
+    way.read(&[], &mut Along::<B>::new(choice))
 }
 
 /// A command along an interval file.

@@ -12,7 +12,7 @@ use Rattle.tc_io.specs.Bytes.{AreBytes}
 use Rattle.interval_file.specs.Grammar.{InRange, IsFile}
 use Rattle.interval_file.specs.Next.{BringNext, next_of, next_with}
 use Rattle.interval_file.specs.Piece.{ticks_in, piece_width}
-use Rattle.interval_file.proofs.FrontOfBytes.{in_range_or_not, is_spelled}
+use Rattle.interval_file.proofs.BytesOfIntervals.{in_range_or_not, is_spelled}
 use Rattle.interval_file.proofs.FileMore.{file_more}
 use Rattle.interval_file.proofs.FrontInterval.{in_range_is, least, wrong_interval}
 

@@ -16,7 +16,7 @@ use Rattle.interval_file.specs.Grammar.{Contents, InRange, IsFile, Says, faulty,
 use Rattle.interval_file.specs.Piece.{interval_in, ticks_in, piece_width}
 use Rattle.interval_file.proofs.FileMore.{file_more}
 use Rattle.interval_file.proofs.FrontInterval.{in_range_is, least, widths, wrong_interval}
-use Rattle.interval_file.proofs.FrontOfBytes.{in_range_or_not, is_spelled}
+use Rattle.interval_file.proofs.BytesOfIntervals.{in_range_or_not, is_spelled}
 use Rattle.tc_io.specs.ByteLemmas.{bytes_behind}
 
 -- ---- the steps

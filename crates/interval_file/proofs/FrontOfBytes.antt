@@ -1,18 +1,16 @@
 -- What is read from the front of bytes: the fault of their first eight or of the tick rate, or a header, and what
 -- comes behind it. And the bytes of an interval in range are those that a recorder writes for it.
-use Rattle.std.proofs.Common.{◌≡◌, ◌⊎◌, inl, inr, ℕ, suc, ◌+◌, ◌/◌, ◌%◌, ◌<◌, ◌≤◌, List, [], ◌∷◌, ◌++◌, length}
+use Rattle.std.proofs.Common.{◌≡◌, ◌⊎◌, inl, inr, ℕ, ◌+◌, ◌/◌, ◌%◌, ◌<◌, ◌≤◌, List, [], ◌∷◌, ◌++◌, length}
 use Rattle.std.proofs.Common.{take, drop, slice_index, Some, None, refl}
 use Rattle.std.proofs.Common.{sym, ◌∙◌, ap, ap₂, subst, arith, Bool, true, false}
-use Rattle.std.specs.Prelude.{◌==◌, ◌&&◌, is_some, nat_le, if◌then◌else◌}
+use Rattle.std.specs.Prelude.{◌==◌, ◌&&◌, is_some, nat_le}
 use Rattle.std.specs.declared.option.Option.{Option}
-use Rattle.std.specs.Option.{is_none, option_or}
-use Rattle.std.proofs.lemmas.Bool.{cases_Bool, cases_eq, cases_lt, eqb-true, false≢true, le-leb, le-ltb, lt-leb, lt-ltb}
+use Rattle.std.specs.Option.{is_none}
+use Rattle.std.proofs.lemmas.Bool.{cases_eq, cases_lt, eqb-true, false≢true, le-leb, le-ltb, lt-leb, lt-ltb}
 use Rattle.std.proofs.lemmas.Bool.{ne_eqb}
-use Rattle.std.proofs.lemmas.List.{drop-drop, get_or-take, length-drop, length-take, length-take-le, take-append-drop}
-use Rattle.std.proofs.lemmas.List.{take-take}
+use Rattle.std.proofs.lemmas.List.{drop-drop, get_or-take, length-drop, length-take-le, take-append-drop}
 use Rattle.tc_io.specs.ByteLemmas.{bytes_behind}
 use Rattle.byteorder.specs.Endian.{big_bytes, big_number}
-use Rattle.limits.specs.declared.recording.TheConstants.{MAX_INTERVAL}
 use Rattle.tc_address.specs.declared.system.System.{System}
 use Rattle.tc_address.specs.declared.system.System.TheVariants.{F24, F25, F30}
 use Rattle.tc_address.specs.Count.{rate_of}
@@ -25,115 +23,15 @@ use Rattle.interval_file.specs.declared.header.TheConstants.{MAGIC}
 use Rattle.limits.specs.declared.recording.TheConstants.{MAX_TICK_RATE}
 use Rattle.interval_file.specs.Contents.{contents_behind, contents_of, first_wrong, header_of, header_with}
 use Rattle.tc_io.specs.Bytes.{AreBytes}
-use Rattle.interval_file.specs.Grammar.{Contents, InRange, IsFirstWrong, IsHeaderFault, MayStand}
-use Rattle.interval_file.specs.Grammar.{fault_unless, may_stand, no_header}
+use Rattle.interval_file.specs.Grammar.{Contents, IsHeaderFault, MayStand}
+use Rattle.interval_file.specs.Grammar.{fault_unless, no_header}
 use Rattle.interval_file.specs.IntervalHeader.{IsTickRate, header_bytes, system_at, version_at, version_byte}
-use Rattle.interval_file.specs.Recording.{shown}
-use Rattle.tc_io.specs.Verdict.{refused}
-use Rattle.interval_file.specs.Piece.{least_in, ticks_in, piece_width, spelling}
-use Rattle.interval_file.proofs.PlaceFault.{fault_is, place_fault}
-
--- ---- the first eight bytes
-
--- all may come, or one is the first that may not, and its fault is read
-abbrev StandOrNot : ℕ → List ℕ → Type 0
-StandOrNot place list =
-    (MayStand place list × (first_wrong place list ≡ None))
-    ⊎ ((k : ℕ) × (k < length list) × (may_stand (place + k) (slice_index list k) ≡ false) × MayStand place (take k list)
-    × (first_wrong place list ≡ Some (place_fault (place + k))))
-
-stand_or_not : (list : List ℕ) (place : ℕ) → StandOrNot place list
-stand_or_not [] place = inl (tt, refl)
-stand_or_not (byte ∷ more) place = by_test (cases_Bool (may_stand place byte)) (stand_or_not more (place + 1))
-  where
-    answer_of : Bool → Option IntervalFileFault
-    answer_of may = option_or (if may then None else Some (place_fault place)) (first_wrong (place + 1) more)
-
-    answered : {may : Bool} → may_stand place byte ≡ may → first_wrong place (byte ∷ more) ≡ answer_of may
-    answered e = ap (λ (o : Option IntervalFileFault). option_or o (first_wrong (place + 1) more)) (fault_is place byte)
-        ∙ ap answer_of e
-
-    read_as : (may : Bool) → may_stand place byte ≡ may
-        → first_wrong place (byte ∷ more) ≡ (if may then first_wrong (place + 1) more else Some (place_fault place))
-    read_as true e = answered e
-    read_as false e = answered e
-
-    by_rest : may_stand place byte ≡ true → StandOrNot (place + 1) more → StandOrNot place (byte ∷ more)
-    by_rest may (inl all) = inl ((may, all.0), read_as true may ∙ all.1)
-    by_rest may (inr found) =
-        let k = found.0 in
-        let below = found.1 in
-        let there : place + 1 + k ≡ place + suc k = omega arith in
-        let wrong = subst (λ (n : ℕ). may_stand n (slice_index more k) ≡ false) there found.2 in
-        let first = read_as true may ∙ found.4 ∙ ap (λ (n : ℕ). Some (place_fault n)) there in
-        inr (suc k, omega (arith, below), wrong, (may, found.3), first)
-
-    by_test : (may_stand place byte ≡ true) ⊎ (may_stand place byte ≡ false) → StandOrNot (place + 1) more
-        → StandOrNot place (byte ∷ more)
-    by_test (inl may) rest = by_rest may rest
-    by_test (inr wrong) rest =
-        let here : place ≡ place + 0 = omega arith in
-        inr (
-          0,
-          omega arith,
-          subst (λ (n : ℕ). may_stand n byte ≡ false) here wrong,
-          tt,
-          read_as false wrong ∙ ap (λ (n : ℕ). Some (place_fault n)) here,
-        )
-
--- the fault of the first that may not
-wrong_place : (bytes : List ℕ) (place : ℕ) → place < 8 → IsFirstWrong place bytes
-    → (first : IntervalFileFault) × IsHeaderFault first bytes × (place_fault place ≡ first)
-    × (shown first ≡ refused first)
-wrong_place bytes place low is = by_row (cases_lt place 4) (cases_eq place 4) (cases_eq place 5)
-  where
-    by_row : (place < 4) ⊎ (4 ≤ place) → (place ≡ 4) ⊎ (place ≡ 4 → ⊥) → (place ≡ 5) ⊎ (place ≡ 5 → ⊥)
-        → (first : IntervalFileFault) × IsHeaderFault first bytes × (place_fault place ≡ first)
-        × (shown first ≡ refused first)
-    by_row (inl magic) four five = (fault.Magic place, (magic, is), rw (lt-ltb place 4 magic) refl, refl)
-    by_row (inr more) (inl four) five = (fault.Version place, (four, is), rw four refl, refl)
-    by_row (inr more) (inr not_four) (inl five) = (fault.System place, (five, is), rw five refl, refl)
-    by_row (inr more) (inr not_four) (inr not_five) = (
-      fault.Reserved place,
-      (omega (arith, more, not_four, not_five), low, is),
-      rw (le-ltb place 4 more, ne_eqb place 4 not_four, ne_eqb place 5 not_five) refl,
-      refl,
-    )
-
-abbrev pub HeadOrFault : List ℕ → Type 0
-HeadOrFault bytes = (MayStand 0 (take 8 bytes) × (first_wrong 0 (take 8 bytes) ≡ None))
-    ⊎ ((first : IntervalFileFault) × IsHeaderFault first bytes × (first_wrong 0 (take 8 bytes) ≡ Some first)
-    × (shown first ≡ refused first))
-
-pub head_or_fault : (bytes : List ℕ) → HeadOrFault bytes
-head_or_fault bytes = by_answer (stand_or_not (take 8 bytes) 0)
-  where
-    by_answer : StandOrNot 0 (take 8 bytes) → HeadOrFault bytes
-    by_answer (inl may) = inl may
-    by_answer (inr found) =
-        let k = found.0 in
-        let below = found.1 in
-        let long = length-take 8 bytes in
-        let low : k < 8 = omega (arith, below, long) in
-        let byte = get_or-take 8 bytes k 0 low in
-        let here : 0 + k ≡ k = omega arith in
-        let tested = subst (λ (n : ℕ). may_stand n (slice_index (take 8 bytes) k) ≡ false) here found.2 in
-        let wrong : may_stand k (slice_index bytes k) ≡ false = ap (λ (b : ℕ). may_stand k b) (sym byte) ∙ tested in
-        let before = subst (λ (l : List ℕ). MayStand 0 l) (take-take k 8 bytes (omega (arith, low))) found.3 in
-        let is : IsFirstWrong k bytes = record { there = omega (arith, below, long); wrong = wrong; before = before } in
-        let place = wrong_place bytes k low is in
-        let first = subst (λ (n : ℕ). first_wrong 0 (take 8 bytes) ≡ Some (place_fault n)) here found.4 in
-        inr (
-          place.0,
-          place.1,
-          subst (λ (f : IntervalFileFault). first_wrong 0 (take 8 bytes) ≡ Some f) place.2 first,
-          place.3,
-        )
+use Rattle.interval_file.proofs.FirstEight.{HeadOrFault, head_or_fault}
 
 -- ---- the header
 
 -- four bytes, and two, are the bytes of their number
-four_bytes : (a b c e : ℕ) → a < 256 → b < 256 → c < 256 → e < 256
+pub four_bytes : (a b c e : ℕ) → a < 256 → b < 256 → c < 256 → e < 256
     → big_bytes 4 (big_number 4 (a ∷ b ∷ c ∷ e ∷ [])) ≡ a ∷ b ∷ c ∷ e ∷ []
 four_bytes a b c e la lb lc le =
     let n = big_number 4 (a ∷ b ∷ c ∷ e ∷ []) in
@@ -143,7 +41,7 @@ four_bytes a b c e la lb lc le =
     let fourth : n % 256 ≡ e = omega arith in
     rw (first, second, third, fourth) refl
 
-two_bytes : (a b : ℕ) → a < 256 → b < 256 → big_bytes 2 (big_number 2 (a ∷ b ∷ [])) ≡ a ∷ b ∷ []
+pub two_bytes : (a b : ℕ) → a < 256 → b < 256 → big_bytes 2 (big_number 2 (a ∷ b ∷ [])) ≡ a ∷ b ∷ []
 two_bytes a b la lb =
     let n = big_number 2 (a ∷ b ∷ []) in
     let first : n / 256 % 256 ≡ a = omega arith in
@@ -253,69 +151,6 @@ header_read bytes version system head =
     ap system_at (sym (get_or-take 8 bytes 5 0 (omega arith)) ∙ ap (λ (l : List ℕ). slice_index l 5) head)
     ∙ system_back system in
     ap₂ (λ (v : Option FileVersion) (s : Option System). header_with v s (big_number 4 (drop 8 bytes))) fifth sixth
-
--- ---- the intervals
-
--- the bytes of an interval in range are those that a recorder writes for it
-spelled_one : (rest : List ℕ) → 4 ≤ length rest → AreBytes rest → take 4 rest ≡ spelling One (ticks_in One rest)
-spelled_one [] long are = absurd (omega (arith, long))
-spelled_one (a ∷ []) long are = absurd (omega (arith, long))
-spelled_one (a ∷ b ∷ []) long are = absurd (omega (arith, long))
-spelled_one (a ∷ b ∷ c ∷ []) long are = absurd (omega (arith, long))
-spelled_one (a ∷ b ∷ c ∷ e ∷ more) long are = sym (four_bytes a b c e are.0 are.1.0 are.1.1.0 are.1.1.1.0)
-
-abbrev pub IsSpelled : FileVersion → List ℕ → Type 0
-IsSpelled version rest = take (piece_width version rest) rest ≡ spelling version (ticks_in version rest)
-
-spelled_short : (a b : ℕ) (more : List ℕ) → a < 256 → b < 256 → (big_number 2 (a ∷ b ∷ more) == 0) ≡ false
-    → IsSpelled Two (a ∷ b ∷ more)
-spelled_short a b more la lb short =
-    let low : big_number 2 (a ∷ b ∷ more) < 65536 = omega arith in
-    rw (short, lt-ltb (big_number 2 (a ∷ b ∷ more)) 65536 low) (sym (two_bytes a b la lb))
-
-spelled_long : (a b c e f g : ℕ) (more : List ℕ) → AreBytes (a ∷ b ∷ c ∷ e ∷ f ∷ g ∷ more)
-    → (big_number 2 (a ∷ b ∷ c ∷ e ∷ f ∷ g ∷ more) == 0) ≡ true → 65536 ≤ big_number 4 (c ∷ e ∷ f ∷ g ∷ more)
-    → IsSpelled Two (a ∷ b ∷ c ∷ e ∷ f ∷ g ∷ more)
-spelled_long a b c e f g more are zeros least_long =
-    let none : big_number 2 (a ∷ b ∷ c ∷ e ∷ f ∷ g ∷ more) ≡ 0 =
-    eqb-true (big_number 2 (a ∷ b ∷ c ∷ e ∷ f ∷ g ∷ more)) 0 zeros in
-    let first : a ≡ 0 = omega (arith, none) in
-    let second : b ≡ 0 = omega (arith, none) in
-    let four = four_bytes c e f g are.1.1.0 are.1.1.1.0 are.1.1.1.1.0 are.1.1.1.1.1.0 in
-    rw (zeros, le-ltb (big_number 4 (c ∷ e ∷ f ∷ g ∷ more)) 65536 least_long)
-    (ap₂ (λ (x y : ℕ). x ∷ y ∷ c ∷ e ∷ f ∷ g ∷ []) first second ∙ ap (λ (l : List ℕ). 0 ∷ 0 ∷ l) (sym four))
-
-spelled_two : (rest : List ℕ) (zero_first : Bool) → (big_number 2 rest == 0) ≡ zero_first
-    → (if zero_first then 6 else 2) ≤ length rest
-    → AreBytes rest → (if zero_first then 65536 else 1) ≤ ticks_in Two rest → IsSpelled Two rest
-spelled_two [] true e long are range = absurd (omega (arith, long))
-spelled_two (a ∷ []) true e long are range = absurd (omega (arith, long))
-spelled_two (a ∷ b ∷ []) true e long are range = absurd (omega (arith, long))
-spelled_two (a ∷ b ∷ c ∷ []) true e long are range = absurd (omega (arith, long))
-spelled_two (a ∷ b ∷ c ∷ e ∷ []) true zeros long are range = absurd (omega (arith, long))
-spelled_two (a ∷ b ∷ c ∷ e ∷ f ∷ []) true zeros long are range = absurd (omega (arith, long))
-spelled_two (a ∷ b ∷ c ∷ e ∷ f ∷ g ∷ more) true zeros long are range =
-    spelled_long a b c e f g more are zeros (rw zeros at range)
-spelled_two [] false e long are range = absurd (omega (arith, long))
-spelled_two (a ∷ []) false e long are range = absurd (omega (arith, long))
-spelled_two (a ∷ b ∷ more) false short long are range = spelled_short a b more are.0 are.1.0 short
-
-pub is_spelled : (version : FileVersion) (rest : List ℕ) → piece_width version rest ≤ length rest → AreBytes rest
-    → InRange version rest
-    → IsSpelled version rest
-is_spelled One rest long are range = spelled_one rest long are
-is_spelled Two rest long are range = spelled_two rest (big_number 2 rest == 0) refl long are range.0
-
-pub in_range_or_not : (version : FileVersion) (rest : List ℕ) → InRange version rest ⊎ (¬ InRange version rest)
-in_range_or_not version rest = by_order (cases_lt (ticks_in version rest) (least_in version rest))
-    (cases_lt MAX_INTERVAL (ticks_in version rest))
-  where
-    by_order : (ticks_in version rest < least_in version rest) ⊎ (least_in version rest ≤ ticks_in version rest)
-        → (MAX_INTERVAL < ticks_in version rest) ⊎ (ticks_in version rest ≤ MAX_INTERVAL)
-        → InRange version rest ⊎ (¬ InRange version rest)
-    by_order (inl low) high = inr (λ range. let least_of_all = range.0 in omega (arith, low, least_of_all))
-    by_order (inr low) (inl high) = inr (λ range. let most = range.1 in omega (arith, high, most))
-    by_order (inr low) (inr high) = inl (low, high)
 
 -- ---- what is read from the front
 

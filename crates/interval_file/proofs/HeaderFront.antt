@@ -10,7 +10,8 @@ use Rattle.interval_file.specs.Contents.{first_wrong, header_of}
 use Rattle.interval_file.specs.Grammar.{IsFile, IsHeaderFault}
 use Rattle.interval_file.specs.IntervalHeader.{header_bytes}
 use Rattle.interval_file.specs.Recording.{shown}
-use Rattle.interval_file.proofs.FrontOfBytes.{HeadOrFault, header_begun, header_is, head_or_fault}
+use Rattle.interval_file.proofs.FirstEight.{HeadOrFault, head_or_fault}
+use Rattle.interval_file.proofs.FrontOfBytes.{header_begun, header_is}
 
 -- the fault that is read is the first one
 pub a_fault : (bytes : List ℕ) (first : IntervalFileFault) → first_wrong 0 (take 8 bytes) ≡ Some first

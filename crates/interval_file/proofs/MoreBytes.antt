@@ -15,7 +15,7 @@ use Rattle.interval_file.specs.Grammar.{Contents, InRange, faulty, file, no_head
 use Rattle.interval_file.specs.Piece.{least_in, piece_width, ticks_in}
 use Rattle.interval_file.proofs.ContentsBehind.{at_end, cut_behind, one_behind, wrong_behind}
 use Rattle.interval_file.proofs.FrontInterval.{widths}
-use Rattle.interval_file.proofs.FrontOfBytes.{in_range_or_not}
+use Rattle.interval_file.proofs.BytesOfIntervals.{in_range_or_not}
 
 -- ---- a whole interval is the same, whatever comes behind it
 

@@ -12,7 +12,7 @@ use Rattle.tc_command.specs.declared.input_fault.InputFault.TheVariants.{Labels}
 use Rattle.tc_command.specs.declared.stop.Stop.TheVariants as stops
 use Rattle.tc_command.specs.Meaning.{IsInput, Meaning}
 use Rattle.tc_command.specs.Stops.{StopsAlong}
-use Rattle.tc_command.specs.Told.{IsLawful, IsTold}
+use Rattle.tc_command.specs.Told.{IsLawful, KeepsPromise}
 use Rattle.tc_io.specs.Verdict.{Verdict, good, past_limit, refused, verdict_as}
 use Rattle.tc_io.specs.VerdictLemmas.{ends_whole, good_too, is_good, is_refused}
 use Rattle.tc_job.specs.LabelRun.{LabelRunning}
@@ -371,8 +371,5 @@ lines_are_lawful laws run command = record {
   unlimited = λ none input spent. spent;
 }
 
-pub lines_are_told : LabelLaws → (run : LabelRunning) → IsLawful (told_labels run) → IsTold (told_labels run)
-lines_are_told laws run lawful = record {
-  lawful = lawful;
-  kept = λ text written are input output. are_answered laws run text written input output;
-}
+pub lines_are_kept : LabelLaws → (run : LabelRunning) → KeepsPromise (told_labels run)
+lines_are_kept laws run = λ text written are input output. are_answered laws run text written input output

@@ -8,7 +8,7 @@ use Rattle.tc_command.specs.declared.input_fault.InputFault.TheVariants.{Labels}
 use Rattle.tc_command.specs.declared.stop.Stop.TheVariants as stops
 use Rattle.tc_command.specs.Meaning.{IsInput, Meaning}
 use Rattle.tc_command.specs.Stops.{StopsAlong}
-use Rattle.tc_command.specs.Told.{IsLawful, IsTold}
+use Rattle.tc_command.specs.Told.{IsLawful, KeepsPromise}
 use Rattle.tc_io.specs.VerdictLemmas.{fault_stays, limit_stays}
 use Rattle.tc_job.specs.LabelRun.{LabelRunning, label_run_of}
 use Rattle.label_lines.specs.declared.timebase.Timebase.{Timebase}
@@ -129,8 +129,5 @@ sums_lawful laws base command = record {
   unlimited = λ none input spent. spent;
 }
 
-pub sums_told : LabelLaws → (base : Timebase) → IsLawful (told_sum base) → IsTold (told_sum base)
-sums_told laws base lawful = record {
-  lawful = lawful;
-  kept = λ text written are input output. keeps laws base text written input output;
-}
+pub sums_are_kept : LabelLaws → (base : Timebase) → KeepsPromise (told_sum base)
+sums_are_kept laws base = λ text written are input output. keeps laws base text written input output

@@ -4,9 +4,6 @@ ghost use Rattle.std.specs.Prelude.{◌≡◌, []};
 ghost use Rattle.label_lines.specs.Answer.{answer_line};
 ghost use Rattle.label_lines.specs.Timebase.{count_of};
 ghost use Rattle.label_command.specs.KeptLabels.{IsGoing, Stands};
-ghost use Rattle.label_command.specs.Labels.{told_labels};
-ghost use Rattle.tc_command.specs.Told.{IsLawful, IsTold, WorksAsTold};
-ghost use Rattle.tc_job.specs.LabelRun.{LabelRunning};
 
 use label_lines::answer_line;
 use label_text::laws::bytes_are_read_in_order;
@@ -14,39 +11,34 @@ use label_text::{LabelReader, LineRead};
 use line_text::Text;
 use tc_address::Label;
 use tc_address::laws::{a_text_is_read_as_its_label, number_and_label_are_inverse};
-use tc_command::{Engine, Halt, InputFault, Output, Stop, run as run_along};
-use tc_io::{Sink, Source};
+use tc_command::{Command, Engine, Halt, InputFault, Output, Stop, Way};
 use tc_job::LabelRun;
 
-/// Works `labels`: a line for each line of a text.
-pub fn answer_labels<S: Source, K: Sink>(
-    run: &LabelRun,
-    source: &mut S,
-    out: &mut K,
-) -> Result<(), Stop>
-    ensures { WorksAsTold (told_labels run.now) S.left S.ends S.faults K.written K.faults source.old source.new
-        out.old out.new result }
-{
-    labels_are_told();
-    run_along(&mut LabelAnswers::new(run), source, out)
+/// `labels`: a line for each line of a text.
+#[derive(Clone, Copy)]
+pub struct Labels {
+    pub run: LabelRun,
 }
 
-/// What is claimed of `labels` holds.
-fn labels_are_told()
-    ensures { (run : LabelRunning) → IsTold (told_labels run) }
-{
-    labels_are_lawful();
-    a_text_is_read_as_its_label();
-    number_and_label_are_inverse();
-}
+impl Command for Labels {
+    ghost use Rattle.label_command.specs.Labels.{told_labels};
 
-/// What is claimed of `labels` is lawful.
-pub fn labels_are_lawful()
-    ensures { (run : LabelRunning) → IsLawful (told_labels run) }
-{
-    bytes_are_read_in_order();
-    a_text_is_read_as_its_label();
-    number_and_label_are_inverse();
+    ghost told = { λ command. told_labels command.run };
+
+    fn work<W: Way>(&self, way: &mut W) -> Result<(), Stop> {
+        way.read(&[], &mut LabelAnswers::new(&self.run))
+    }
+
+    fn keeps_its_promise(&self) {
+        a_text_is_read_as_its_label();
+        number_and_label_are_inverse();
+    }
+
+    fn is_lawful() {
+        bytes_are_read_in_order();
+        a_text_is_read_as_its_label();
+        number_and_label_are_inverse();
+    }
 }
 
 /// A reader of a text, and what is answered to its labels.

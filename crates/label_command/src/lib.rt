@@ -3,7 +3,7 @@
 //! What this crate promises, for all sources and sinks:
 //! - `labels` writes for each line of its input what is answered to the label that it says, up to the first line that
 //!   says none (`specs/Labels.antt`, over `label_text/specs/LabelText.antt` and `label_lines/specs/Answer.antt`). It is
-//!   a command as any other (clause of `labels_are_lawful`).
+//!   a command as any other (`is_lawful` of `Labels`).
 //! - So a text is its lines (`specs/TextLines.antt`, `HasLines`): if each says a label, the output is the answer of
 //!   each, a line a line (`AnswersTheLines`), and else the place of the first that says none is given (`laws`).
 //! - `labels COUNT sum` writes one line at the end: how many frames the labels of all lines are together, and the label
@@ -21,5 +21,5 @@ pub mod laws;
 mod sum_line;
 mod sums;
 
-pub use labels::{answer_labels, labels_are_lawful};
-pub use sums::{add_labels, sums_are_lawful};
+pub use labels::Labels;
+pub use sums::Sum;

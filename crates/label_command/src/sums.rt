@@ -1,9 +1,6 @@
 //! The engine of `labels COUNT sum`: a line for all lines of a text. Read next: `sum_line`, and before it `labels`.
 ghost use Rattle.std.specs.Prelude.{◌≡◌, []};
-ghost use Rattle.label_lines.specs.declared.timebase.Timebase.{Timebase};
 ghost use Rattle.label_command.specs.KeptSums.{IsAdding, Stands};
-ghost use Rattle.label_command.specs.Sums.{told_sum};
-ghost use Rattle.tc_command.specs.Told.{IsLawful, IsTold, WorksAsTold};
 
 use crate::sum_line::sum_line;
 use label_lines::Timebase;
@@ -11,38 +8,33 @@ use label_text::laws::bytes_are_read_in_order;
 use label_text::{LabelReader, LineRead};
 use tc_address::laws::{a_text_is_read_as_its_label, number_and_label_are_inverse};
 use tc_address::number;
-use tc_command::{Engine, Halt, InputFault, Output, Stop, run as run_along};
-use tc_io::{Sink, Source};
+use tc_command::{Command, Engine, Halt, InputFault, Output, Stop, Way};
 
-/// Works `labels COUNT sum`: a line with the sum of all lines of a text.
-pub fn add_labels<S: Source, K: Sink>(
-    base: Timebase,
-    source: &mut S,
-    out: &mut K,
-) -> Result<(), Stop>
-    ensures { WorksAsTold (told_sum base) S.left S.ends S.faults K.written K.faults source.old source.new
-        out.old out.new result }
-{
-    sums_are_told();
-    run_along(&mut LabelSum::new(base), source, out)
+/// `labels COUNT sum`: a line with the sum of all lines of a text.
+#[derive(Clone, Copy)]
+pub struct Sum {
+    pub base: Timebase,
 }
 
-/// What is claimed of a sum holds.
-fn sums_are_told()
-    ensures { (base : Timebase) → IsTold (told_sum base) }
-{
-    sums_are_lawful();
-    a_text_is_read_as_its_label();
-    number_and_label_are_inverse();
-}
+impl Command for Sum {
+    ghost use Rattle.label_command.specs.Sums.{told_sum};
 
-/// What is claimed of a sum is lawful.
-pub fn sums_are_lawful()
-    ensures { (base : Timebase) → IsLawful (told_sum base) }
-{
-    bytes_are_read_in_order();
-    a_text_is_read_as_its_label();
-    number_and_label_are_inverse();
+    ghost told = { λ command. told_sum command.base };
+
+    fn work<W: Way>(&self, way: &mut W) -> Result<(), Stop> {
+        way.read(&[], &mut LabelSum::new(self.base))
+    }
+
+    fn keeps_its_promise(&self) {
+        a_text_is_read_as_its_label();
+        number_and_label_are_inverse();
+    }
+
+    fn is_lawful() {
+        bytes_are_read_in_order();
+        a_text_is_read_as_its_label();
+        number_and_label_are_inverse();
+    }
 }
 
 /// A reader of a text, and how many frames its labels are together so far.

@@ -3,8 +3,8 @@ use Rattle.std.proofs.Common.{◌≡◌, ℕ, zero, suc, ◌+◌, Bool, true, fa
 use Rattle.std.specs.Prelude.{◌==◌, nat_le, if◌then◌else◌}
 use Rattle.std.proofs.lemmas.List.{drop-append-le}
 use Rattle.byteorder.specs.Endian.{big_number}
-use Rattle.line_file.specs.declared.fault.LineFileFault.{LineFileFault}
-use Rattle.line_file.specs.declared.fault.LineFileFault.TheVariants as fault
+use Rattle.file_faults.specs.declared.lines.LineFileFault.{LineFileFault}
+use Rattle.file_faults.specs.declared.lines.LineFileFault.TheVariants as fault
 use Rattle.line_file.specs.declared.field.TheConstants.{MAX_LINES}
 use Rattle.line_file.specs.LineFile.{Front, whole, short, bad, runs_at, line_at, line_width, lines_at, field_at}
 use Rattle.line_file.specs.KeptPieces.{with_first, is_run_count, line_then}

@@ -2,7 +2,7 @@
 use Rattle.std.proofs.Common.{ap₂, ◌≡◌, ℕ, zero, suc, ◌+◌, ◌≤◌, List, [], ◌∷◌, ◌++◌, length, take, drop, refl, sym, ap}
 use Rattle.std.proofs.Common.{◌∙◌, arith}
 use Rattle.std.proofs.lemmas.List.{length-take-le, drop_at, drop-append-le}
-use Rattle.line_file.specs.declared.fault.LineFileFault.{LineFileFault}
+use Rattle.file_faults.specs.declared.lines.LineFileFault.{LineFileFault}
 use Rattle.tc_io.specs.Verdict.{Verdict, good, refused, past_limit}
 use Rattle.vitc_reader.specs.declared.field.FieldAnswer.{FieldAnswer}
 use Rattle.tc_address.specs.declared.system.System.{System}

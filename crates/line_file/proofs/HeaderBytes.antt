@@ -10,8 +10,8 @@ use Rattle.byteorder.specs.Endian.{big_number}
 use Rattle.tc_address.specs.declared.system.System.{System}
 use Rattle.tc_address.specs.declared.system.System.TheVariants.{F24, F25, F30}
 use Rattle.tc_address.specs.Count.{rate_of}
-use Rattle.line_file.specs.declared.fault.LineFileFault.{LineFileFault}
-use Rattle.line_file.specs.declared.fault.LineFileFault.TheVariants as fault
+use Rattle.file_faults.specs.declared.lines.LineFileFault.{LineFileFault}
+use Rattle.file_faults.specs.declared.lines.LineFileFault.TheVariants as fault
 use Rattle.vitc_line.specs.Places.{HasLines}
 use Rattle.line_file.specs.declared.header.LineHeader.{LineHeader}
 use Rattle.line_file.specs.declared.header.TheConstants.{HEAD_LENGTH}

@@ -14,8 +14,8 @@ use Rattle.byteorder.specs.Endian.{big_bytes, big_number}
 use Rattle.tc_address.specs.declared.system.System.{System}
 use Rattle.tc_address.specs.declared.system.System.TheVariants.{F25, F30}
 use Rattle.tc_address.specs.Count.{rate_of}
-use Rattle.line_file.specs.declared.fault.LineFileFault.{LineFileFault}
-use Rattle.line_file.specs.declared.fault.LineFileFault.TheVariants as fault
+use Rattle.file_faults.specs.declared.lines.LineFileFault.{LineFileFault}
+use Rattle.file_faults.specs.declared.lines.LineFileFault.TheVariants as fault
 use Rattle.tc_io.specs.Bytes.{AreBytes}
 use Rattle.tc_io.specs.Verdict.{good}
 use Rattle.vitc_reader.specs.Runs.{MayBeLine}

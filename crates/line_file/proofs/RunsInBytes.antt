@@ -6,7 +6,7 @@ use Rattle.std.specs.Prelude.{◌==◌, nat_le, if◌then◌else◌}
 use Rattle.std.proofs.lemmas.Bool.{and_parts, eqb-true, leb-true, ne_eqb}
 use Rattle.std.proofs.lemmas.List.{get_or-drop}
 use Rattle.byteorder.specs.Endian.{big_number}
-use Rattle.line_file.specs.declared.fault.LineFileFault.TheVariants as fault
+use Rattle.file_faults.specs.declared.lines.LineFileFault.TheVariants as fault
 use Rattle.vitc_reader.specs.Runs.{MayBeLine, runs_of_bytes}
 use Rattle.line_file.specs.declared.field.TheConstants.{MAX_RUNS}
 use Rattle.line_file.specs.Grammar.{AreRuns}

@@ -2,7 +2,7 @@
 use Rattle.std.specs.Prelude.{ℕ, ◌+◌, ◌%◌, Bool, false, ◌&&◌, ◌==◌, nat_le}
 use Rattle.std.specs.Prelude.{List, [], ◌∷◌}
 use Rattle.std.specs.Prelude.{◌++◌, drop, slice_index, Some, None}
-use Rattle.line_file.specs.declared.fault.LineFileFault.{LineFileFault}
+use Rattle.file_faults.specs.declared.lines.LineFileFault.{LineFileFault}
 use Rattle.tc_io.specs.Verdict.{Verdict}
 use Rattle.line_file.specs.declared.field.TheConstants.{MAX_RUNS}
 use Rattle.line_file.specs.declared.header.LineHeader.{LineHeader}

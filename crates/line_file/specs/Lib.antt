@@ -1,5 +1,4 @@
 pub mod Answers
-pub mod Fault
 pub mod Grammar
 pub mod KeptFront
 pub mod KeptPieces

@@ -12,7 +12,7 @@ use Rattle.line_file.specs.Answers.{AreAnswers, AreAnswersOf}
 use Rattle.line_file.specs.LineFile.{Reading, reading_of, fields_at, field_at, header_at, short}
 use Rattle.line_file.specs.KeptPieces.{with_fields}
 use Rattle.line_file.specs.LineHeader.{IsHeader}
-use Rattle.line_file.specs.declared.fault.LineFileFault.{LineFileFault}
+use Rattle.file_faults.specs.declared.lines.LineFileFault.{LineFileFault}
 
 -- how far a decoder has come: the header, the place behind the whole pieces, the number of whole fields, and the bytes
 -- of a field that is not whole

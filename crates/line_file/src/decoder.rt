@@ -9,10 +9,10 @@ ghost use Rattle.line_file.specs.LineFile.{end_fault_of};
 ghost use Rattle.line_file.specs.LineHeader.{IsHeader};
 ghost use Rattle.line_file.specs.StandsFor.{StandsFor, no_decoding, AddsTaken, TakesAll, FitsFields, StopsAt};
 
-use crate::fault::LineFileFault;
 use crate::field::{FoundField, field_in};
 use crate::header::{FoundHeader, HEADER_LENGTH, LineHeader, header_in};
 use arrayvec::ArrayVec;
+use file_faults::LineFileFault;
 use std::marker::Model;
 use tc_io::put_bytes;
 use vitc_reader::FieldAnswer;

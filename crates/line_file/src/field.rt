@@ -8,10 +8,10 @@ ghost use Rattle.line_file.specs.KeptPieces.{is_run_count};
 ghost use Rattle.line_file.specs.LineHeader.{IsHeader};
 ghost use Rattle.line_file.specs.declared.found.Found.TheVariants as things;
 
-use crate::fault::LineFileFault;
 use crate::found::Found;
 use crate::header::LineHeader;
 use byteorder::{BigEndian, ByteOrder};
+use file_faults::LineFileFault;
 use vitc_reader::laws::a_line_again_changes_nothing;
 use vitc_reader::{FieldAnswer, FieldReader};
 

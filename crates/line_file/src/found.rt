@@ -1,5 +1,5 @@
 //! What bytes begin with. Read next: `header`.
-use crate::fault::LineFileFault;
+use file_faults::LineFileFault;
 
 /// What bytes begin with.
 #[derive(Clone, Copy)]

@@ -6,9 +6,9 @@ ghost use Rattle.line_file.specs.KeptPieces.{is_line_length};
 ghost use Rattle.line_file.specs.LineFile.{whole};
 ghost use Rattle.line_file.specs.LineHeader.{IsHeader, header_bytes, system_at};
 
-use crate::fault::LineFileFault;
 use crate::found::Found;
 use byteorder::{BigEndian, ByteOrder};
+use file_faults::LineFileFault;
 use tc_address::{System, rate};
 use vitc_reader::{MAX_LINE_LENGTH, MIN_LINE_LENGTH};
 

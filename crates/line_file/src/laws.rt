@@ -1,12 +1,11 @@
 //! The numbers that code and definitions share, as the table of a line file gives them; and what follows
 //! from the definitions alone.
-ghost use Rattle.std.specs.Prelude.{◌≡◌, ◌≤◌, ℕ, List, [], ◌∷◌, ◌++◌, length, Some, None, true, codes};
-ghost use Rattle.line_file.specs.declared.fault.LineFileFault.{LineFileFault};
+ghost use Rattle.std.specs.Prelude.{◌≡◌, ◌≤◌, ℕ, List, [], ◌∷◌, ◌++◌, length, Some, None, true};
+ghost use Rattle.file_faults.specs.declared.lines.LineFileFault.{LineFileFault};
 ghost use Rattle.tc_io.specs.Bytes.{AreBytes};
 ghost use Rattle.tc_io.specs.Verdict.{good, refused, past_limit};
 ghost use Rattle.vitc_reader.specs.declared.field.FieldAnswer.{FieldAnswer};
 ghost use Rattle.vitc_reader.specs.declared.line_length.TheConstants as line_length;
-ghost use Rattle.line_file.specs.declared.names.TheConstants as names;
 ghost use Rattle.line_file.specs.declared.decoder.TheConstants as decoder;
 ghost use Rattle.line_file.specs.declared.field.TheConstants as field;
 ghost use Rattle.line_file.specs.declared.header.TheConstants as header;
@@ -33,19 +32,6 @@ pub fn a_line_file_has_these_numbers()
     ensures runs { field.MAX_RUNS ≡ 89 }
     ensures room { decoder.FIELD_ROOM ≡ 3581 }
     ensures fields { decoder.MAX_FIELDS ≡ 100000000 }
-{}
-
-/// The faults of a line file have these names in notes.
-pub fn each_fault_has_its_name()
-    ensures magic { names.MAGIC_NAME.now ≡ codes "magic" }
-    ensures version { names.VERSION_NAME.now ≡ codes "version" }
-    ensures system { names.SYSTEM_NAME.now ≡ codes "system" }
-    ensures reserved { names.RESERVED_NAME.now ≡ codes "reserved" }
-    ensures line_length { names.LINE_LENGTH_NAME.now ≡ codes "line-length" }
-    ensures line_count { names.LINE_COUNT_NAME.now ≡ codes "line-count" }
-    ensures run_count { names.RUN_COUNT_NAME.now ≡ codes "run-count" }
-    ensures run { names.RUN_NAME.now ≡ codes "run" }
-    ensures truncated { names.TRUNCATED_NAME.now ≡ codes "truncated" }
 {}
 
 /// A fault of bytes is their fault whatever bytes follow, and so is the limit.

@@ -18,21 +18,18 @@
 //! - `line_header` writes the twelve bytes of a header, and they are read back.
 //! - `field_text` and `field_end_text` give the lines of a report byte for byte (`specs/Texts.antt`).
 //!
-//! Read `fault`, `header`, `field`, `decoder` and `texts`, in this order, and `specs/LineFile.antt` beside
+//! Read `header`, `field`, `decoder` and `texts`, in this order, and `specs/LineFile.antt` beside
 //! them. Nothing here allocates.
 #![tactic(auto)]
 
 mod decoder;
-mod fault;
 mod field;
 mod found;
 mod header;
 pub mod laws;
-pub mod names;
 mod texts;
 
 pub use decoder::{FIELD_ROOM, LineDecoder, MAX_FIELDS, Taken};
-pub use fault::LineFileFault;
 pub use field::{MAX_LINES, MAX_RUNS};
 pub use header::{HEAD_LENGTH, HEADER_LENGTH, LineHeader, MAGIC, VERSION, line_header};
 pub use texts::{field_end_text, field_text};

@@ -1,7 +1,7 @@
 -- The lines of rows: there is room for the next one if there is room for all that are left; and each page has room,
--- since all lines of the tables together have. And what is given of a page, and what is left.
-use Rattle.std.proofs.Common.{◌≡◌, ◌∙◌, ℕ, suc, ◌+◌, ◌-◌, ◌<◌, ◌≤◌, Bool, true, false, List, [], ◌++◌}
-use Rattle.std.proofs.Common.{length, drop, take, map, append_assoc, refl, None, Some, get_or, slice_get, arith}
+-- since all lines of the tables together have.
+use Rattle.std.proofs.Common.{◌≡◌, ◌∙◌, ℕ, suc, ◌+◌, ◌<◌, ◌≤◌, Bool, true, false, List, [], ◌++◌}
+use Rattle.std.proofs.Common.{length, drop, map, append_assoc, refl, None, Some, get_or, slice_get, arith}
 use Rattle.std.proofs.Common.{ap, subst, sym}
 use Rattle.std.specs.declared.option.Option.{Option}
 use Rattle.std.specs.Prelude.{codes, nat_le, if◌then◌else◌}
@@ -10,7 +10,7 @@ use Rattle.std.specs.Option.{option_map}
 use Rattle.std.specs.Str.{bytes_eq}
 use Rattle.std.proofs.Math.Seq.{drop-cons}
 use Rattle.std.proofs.lemmas.Bool.{leb-true}
-use Rattle.std.proofs.lemmas.List.{drop-drop, length-append, length-take, take-append-drop}
+use Rattle.std.proofs.lemmas.List.{length-append}
 use Rattle.std.proofs.lemmas.List.Concat.{length-flat_map}
 use Rattle.std.proofs.lemmas.List.Sums.{get_or-le-sum_by, sum_by-le-sum_by}
 use Rattle.std.proofs.lemmas.Option.{get_or_from_slice_get, slice_get-get_or, slice_get-map, slice_get_past}
@@ -145,23 +145,3 @@ page_fits page = page_within usages page usages_short
 pub statuses_fit : length statuses_text ≤ 16384
 unfolding statuses_text
 statuses_fit = table_within (codes "statuses") exit_numbers 16384 statuses_short
-
--- ---- what is given of a page, and what is left
-
-pub part_given : (text bytes before after : List ℕ) (from to : ℕ) → from ≤ to → bytes ≡ text → before ≡ []
-    → after ≡ before ++ take (to - from) (drop from bytes) → drop from text ≡ after ++ drop to text
-part_given text bytes before after from to order is none given =
-    let whole : take (to - from) (drop from text) ++ drop (to - from) (drop from text) ≡ drop from text =
-    take-append-drop (to - from) (drop from text) in
-    let left : drop (to - from) (drop from text) ≡ drop (from + (to - from)) text = drop-drop (to - from) from text in
-    let there : from + (to - from) ≡ to = omega arith in
-    let part : after ≡ take (to - from) (drop from text) =
-    given ∙ ap (λ (l : List ℕ). l ++ take (to - from) (drop from bytes)) none
-    ∙ ap (λ (l : List ℕ). take (to - from) (drop from l)) is in
-    sym whole ∙ ap (λ (l : List ℕ). take (to - from) (drop from text) ++ l)
-    (left ∙ ap (λ (n : ℕ). drop n text) there) ∙ ap (λ (l : List ℕ). l ++ drop to text) (sym part)
-
-pub part_fits : (bytes before : List ℕ) (from to : ℕ) → before ≡ [] → to ≤ from + 4096
-    → length before + length (take (to - from) (drop from bytes)) ≤ 4096
-part_fits bytes before from to none few =
-    omega (arith, ap length none, length-take (to - from) (drop from bytes))

@@ -1,6 +1,5 @@
 pub mod About
 pub mod KeptDivisors
-pub mod KeptLine
 pub mod KeptLines
 pub mod KeptLoad
 pub mod KeptStriping

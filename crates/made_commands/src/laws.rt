@@ -1,6 +1,7 @@
 //! What follows from the definitions alone.
-ghost use Rattle.std.specs.Prelude.{◌≡◌, ◌≤◌, ℕ, List, [], ◌∷◌, codes, length, map, None, Some};
+ghost use Rattle.std.specs.Prelude.{◌≡◌, ◌≤◌, ◌-◌, ℕ, List, [], ◌∷◌, codes, drop, false, length, map, None, Some, true};
 ghost use Rattle.biphase.specs.Chain.{flat};
+ghost use Rattle.biphase.specs.declared.cell.Cell.TheVariants.{One, Zero};
 ghost use Rattle.interval_file.specs.Recording.{end_fault_of, recording_of};
 ghost use Rattle.tc_io.specs.Verdict.{good};
 ghost use Rattle.tc_job.specs.LineStripe.{IsLineStripe, LineStriping};
@@ -9,10 +10,11 @@ ghost use Rattle.tc_address.specs.declared.count.Count.TheVariants.{C25};
 ghost use Rattle.tc_address.specs.Label.{address};
 ghost use Rattle.made_commands.specs.declared.about.TheConstants.{MANUAL, VERSION};
 ghost use Rattle.made_commands.specs.declared.chance.TheConstants as chance;
-ghost use Rattle.made_commands.specs.About.{usage_line, version_line};
+ghost use Rattle.made_commands.specs.About.{help_text, usage_line, version_line};
 ghost use Rattle.made_commands.specs.Labels.{label_line};
+ghost use Rattle.made_commands.specs.Load.{begins_with, cells_by, load_word, next_length};
 ghost use Rattle.made_commands.specs.Made.{made, made_cells, made_header, IsReadBack};
-ghost use Rattle.made_commands.specs.Pages.{exit_numbers};
+ghost use Rattle.made_commands.specs.Pages.{exit_numbers, line_of, row_of};
 ghost use Rattle.made_commands.specs.Statuses.{TellTheNotes, told_note};
 ghost use Rattle.tc_command.specs.declared.status.Status.TheVariants as statuses;
 ghost use Rattle.made_commands.specs.MadeLines.{made_lines, AreReadBack};
@@ -35,6 +37,16 @@ pub fn the_lengths_of_a_load_run_are_these()
     ensures greatest { chance.GREATEST_LENGTH ≡ 4096 }
 {}
 
+/// The first cells of a load, worked out by hand from a seed of 53: a zero, a one, and those of three bits more. A cell
+/// is shortened to 64 ticks at most, and lengthened to 4,096. The upper half of a draw is the user bits of a word.
+pub fn the_first_cells_of_a_load_are_these()
+    ensures cells { cells_by (begins_with 53) (false ∷ true ∷ false ∷ true ∷ true ∷ [])
+        ≡ Zero 576 ∷ One 302 269 ∷ Zero 632 ∷ One 345 347 ∷ One 378 360 ∷ [] }
+    ensures shortest { next_length 0 64 ≡ 64 }
+    ensures longest { next_length 1_125_899_906_842_624 4_096 ≡ 4_096 }
+    ensures user { (load_word (address C25 0 0 0 0) 6_700_521_577_997_063_584).fields.user ≡ 1_560_086_751 }
+{}
+
 /// The line of `version`, a line of `help` with its values and its last line, and a line of `label`, letter by
 /// letter.
 pub fn what_the_program_tells_is_this()
@@ -43,6 +55,8 @@ pub fn what_the_program_tells_is_this()
     ensures usage { usage_line (codes "ltc-fly", codes " LIMIT") ≡ codes "ltc-fly LIMIT\n" }
     ensures manual { MANUAL.now ≡ codes "The manual: man 1 tc, and of files and lines man 5 tc-formats." }
     ensures label { label_line (address C25 1 2 3 4) ≡ codes "01:02:03:04\n" }
+    ensures help { drop (length help_text - 2) help_text ≡ codes ".\n" }
+    ensures page { line_of (codes "x") (row_of (codes "x") (codes "a ") (codes "b") (codes " c")) ≡ codes "a b c\n" }
 {}
 
 /// What `ltc-make` makes is within the limit of a reading, and is read as its header and its intervals,

@@ -24,9 +24,9 @@ mod ltc_make;
 mod pages;
 mod vitc_make;
 
-pub use about::{MANUAL, VERSION, tell_help, tell_version};
-pub use labels::{names_are_lawful, numbers_are_lawful, tell_label, tell_load, tell_number};
-pub use ltc_load::loads_are_lawful;
-pub use ltc_make::{make_recording, stripes_are_lawful};
-pub use pages::{tell_page, tell_statuses};
-pub use vitc_make::{line_stripes_are_lawful, make_lines};
+pub use about::{Help, MANUAL, VERSION, Version};
+pub use labels::{LabelOf, Number};
+pub use ltc_load::LtcLoad;
+pub use ltc_make::LtcMake;
+pub use pages::{HelpOf, HelpStatuses};
+pub use vitc_make::VitcMake;

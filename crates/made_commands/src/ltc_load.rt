@@ -15,9 +15,7 @@ ghost use Rattle.interval_file.specs.Grammar.{AreIntervals};
 ghost use Rattle.made_commands.specs.KeptDivisors.{AreFactors};
 ghost use Rattle.made_commands.specs.KeptLoad.{FitsTally, HasRead, first_or, line_with, no_counts, total, with_event};
 ghost use Rattle.made_commands.specs.Load.{IsAllRead, IsChance, behind, cells_by, first_label, label_text, load_text};
-ghost use Rattle.made_commands.specs.Load.{load_word, told_ltc_load};
-ghost use Rattle.tc_job.specs.LoadRun.{Loading};
-ghost use Rattle.tc_command.specs.Told.{IsLawful, IsTold};
+ghost use Rattle.made_commands.specs.Load.{load_word};
 
 use crate::chance::Chance;
 use crate::divisors::Divisors;
@@ -33,7 +31,30 @@ use ltc_word::laws::each_word_has_its_spelling;
 use ltc_word::{LtcWord, spelling};
 use tc_address::{Count, Label, System, advance, day_labels, label_at, text};
 use tc_bits::{Fields, Flags, UserBits};
+use tc_command::{Command, Stop, Way};
 use tc_job::LoadRun;
+
+/// `ltc-load`: what was read of a recording that was made by chance.
+#[derive(Clone, Copy)]
+pub struct LtcLoad {
+    pub run: LoadRun,
+}
+
+impl Command for LtcLoad {
+    ghost use Rattle.made_commands.specs.Load.{told_ltc_load};
+
+    ghost told = { λ command. told_ltc_load command.run };
+
+    fn work<W: Way>(&self, way: &mut W) -> Result<(), Stop> {
+        way.write(&load_text(&self.run))
+    }
+
+    fn keeps_its_promise(&self) {
+        is_all_read(&self.run);
+    }
+
+    fn is_lawful() {}
+}
 
 /// How many events of each kind were read, and the labels of the first and the last word.
 #[derive(Clone, Copy)]
@@ -231,21 +252,8 @@ fn is_all_read(run: &LoadRun)
     let _label = first_label(run.seed());
 }
 
-/// What is claimed of `ltc-load` holds: each word of a run is read, and nothing else.
-pub(crate) fn a_load_is_told(run: &LoadRun)
-    ensures { IsTold (told_ltc_load run.now) }
-{
-    loads_are_lawful();
-    is_all_read(run);
-}
-
-/// What is claimed of `ltc-load` is lawful.
-pub fn loads_are_lawful()
-    ensures { (run : Loading) → IsLawful (told_ltc_load run) }
-{}
-
 /// The line of a run, whose words were made and read.
-pub(crate) fn load_text(run: &LoadRun) -> Text
+fn load_text(run: &LoadRun) -> Text
     ensures { result.items ≡ load_text run.now }
 {
     a_list_has_one_list_of_events();

@@ -8,9 +8,6 @@ ghost use Rattle.interval_file.specs.declared.header.FileVersion.TheVariants.{On
 ghost use Rattle.interval_file.specs.Grammar.{intervals_bytes};
 ghost use Rattle.made_commands.specs.KeptStriping.{cell_bytes, rest_of};
 ghost use Rattle.made_commands.specs.Made.{made};
-ghost use Rattle.tc_job.specs.Stripe.{Striping};
-ghost use Rattle.tc_command.specs.Told.{IsLawful, IsTold, WorksAsTold};
-ghost use Rattle.made_commands.specs.Made.{told_ltc_make};
 
 use crate::laws::what_is_made_is_read_whole;
 use biphase::{Cell, Shaper};
@@ -18,39 +15,35 @@ use interval_file::{FileVersion, IntervalHeader, interval_header};
 use ltc_jam::played_bits;
 use tc_address::laws::steps_add_up;
 use tc_address::{Direction, Label, advance, system_of};
-use tc_command::{Maker, PIECE, Piece, Stop, make, put_interval};
-use tc_io::{Sink, Source, put_bytes};
+use tc_command::{Command, Maker, PIECE, Piece, Stop, Way, put_interval};
+use tc_io::put_bytes;
 use tc_job::Stripe;
 
 /// The room that the intervals of a frame take at most: 80 ones of two intervals of four bytes.
 const FRAME_ROOM: usize = 640;
 
-/// Works `ltc-make`: the recording of a stripe.
-pub fn make_recording<S: Source, K: Sink>(
-    stripe: &Stripe,
-    source: &mut S,
-    out: &mut K,
-) -> Result<(), Stop>
-    ensures { WorksAsTold (told_ltc_make stripe.now) S.left S.ends S.faults K.written K.faults source.old source.new
-        out.old out.new result }
-{
-    a_stripe_is_told(stripe);
-    make(&mut UnmadeRecording::new(stripe), source, out)
+/// `ltc-make`: the recording of a stripe.
+#[derive(Clone, Copy)]
+pub struct LtcMake {
+    pub stripe: Stripe,
 }
 
-/// What is claimed of `ltc-make` holds: what is made is read back, frame by frame.
-fn a_stripe_is_told(stripe: &Stripe)
-    ensures { IsTold (told_ltc_make stripe.now) }
-{
-    stripes_are_lawful();
-    what_is_made_is_read_whole();
-    let _frames = stripe.frames();
-}
+impl Command for LtcMake {
+    ghost use Rattle.made_commands.specs.Made.{told_ltc_make};
 
-/// What is claimed of `ltc-make` is lawful.
-pub fn stripes_are_lawful()
-    ensures { (stripe : Striping) → IsLawful (told_ltc_make stripe) }
-{}
+    ghost told = { λ command. told_ltc_make command.stripe };
+
+    fn work<W: Way>(&self, way: &mut W) -> Result<(), Stop> {
+        way.make(&mut UnmadeRecording::new(&self.stripe))
+    }
+
+    fn keeps_its_promise(&self) {
+        what_is_made_is_read_whole();
+        let _frames = self.stripe.frames();
+    }
+
+    fn is_lawful() {}
+}
 
 /// A recording that is still to be made.
 #[derive(Drop)]

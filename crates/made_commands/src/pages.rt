@@ -4,13 +4,11 @@ ghost use Rattle.std.specs.Prelude.{◌≡◌, ◌+◌, ◌-◌, ◌<◌, ◌≤
 ghost use Rattle.arrayvec.specs.ArrayVec.{array_vec_len};
 ghost use Rattle.made_commands.specs.Pages.{examples, line_of, page_in, page_lines, page_text, row_of, said};
 ghost use Rattle.made_commands.specs.Pages.{statuses_text, text_of, values};
-ghost use Rattle.made_commands.specs.Pages.{told_page, told_statuses};
-ghost use Rattle.tc_command.specs.Told.{WorksAsTold};
 
 use crate::about::push_usage;
 use arrayvec::ArrayVec;
-use tc_command::{Maker, PIECE, Piece, Stop, make};
-use tc_io::{Sink, Source, put_bytes};
+use tc_command::{Command, Stop, Way};
+use tc_io::put_bytes;
 use tc_job::PageLine;
 use tc_job::pages::{EXAMPLES, EXIT_NUMBERS, SAID};
 use tc_job::usages::USAGES;
@@ -22,79 +20,52 @@ const PAGE: usize = 16_384;
 /// The room in which a page is put together.
 type Room = ArrayVec<u8, PAGE>;
 
-/// Works `help COMMAND` of the command whose row in the table of usages has this number.
-pub fn tell_page<S: Source, K: Sink>(page: usize, source: &mut S, out: &mut K) -> Result<(), Stop>
-    ensures { WorksAsTold (told_page page) S.left S.ends S.faults K.written K.faults source.old source.new
-        out.old out.new result }
-{
-    make(&mut page_of(page), source, out)
+/// `help COMMAND`, of the command whose row in the table of usages has this number.
+#[derive(Clone, Copy)]
+pub struct HelpOf {
+    pub page: usize,
 }
 
-/// Works `help statuses`: what each exit number means, and what to do.
-pub fn tell_statuses<S: Source, K: Sink>(source: &mut S, out: &mut K) -> Result<(), Stop>
-    ensures { WorksAsTold told_statuses S.left S.ends S.faults K.written K.faults source.old source.new
-        out.old out.new result }
-{
-    make(&mut page_of_statuses(), source, out)
-}
+impl Command for HelpOf {
+    ghost use Rattle.made_commands.specs.Pages.{told_page};
 
-/// A page, and the place of the next byte that is given.
-#[derive(Drop)]
-struct HelpPage {
-    text: Room,
-    place: usize,
-}
+    ghost told = { λ command. told_page command.page };
 
-impl Maker for HelpPage {
-    ghost use Rattle.std.specs.Prelude.{◌-◌, drop};
-    ghost use Rattle.arrayvec.specs.ArrayVec.{array_vec_len};
-
-    ghost rest = { λ s. drop s.place s.text.items };
-
-    ghost pieces = { λ s. array_vec_len s.text - s.place };
-
-    fn give(&mut self, room: &mut Piece) -> bool {
-        put_next(&self.text, &mut self.place, room)
+    fn work<W: Way>(&self, way: &mut W) -> Result<(), Stop> {
+        way.write(&page_text(self.page))
     }
+
+    fn keeps_its_promise(&self) {}
+
+    fn is_lawful() {}
 }
 
-/// Puts the next piece of a text into an empty room, and returns whether there was one.
-fn put_next(text: &Room, place: &mut usize, room: &mut Piece) -> bool
-    requires { room.old.items ≡ [] }
-    ensures given { drop place.old text.now.items ≡ room.new.items ++ drop place.new text.now.items }
-    ensures more { result ≡ true → array_vec_len text.now - place.new < array_vec_len text.now - place.old }
-    ensures all { result ≡ false → drop place.old text.now.items ≡ [] }
-{
-    let count = text.len();
-    let from = *place;
-    if count <= from {
-        return false;
+/// `help statuses`: what each exit number means, and what to do.
+#[derive(Clone, Copy)]
+pub struct HelpStatuses;
+
+impl Command for HelpStatuses {
+    ghost use Rattle.made_commands.specs.Pages.{told_statuses};
+
+    ghost told = { λ command. told_statuses };
+
+    fn work<W: Way>(&self, way: &mut W) -> Result<(), Stop> {
+        way.write(&statuses_text())
     }
-    let to = count.min(from + PIECE);
-    put_part(text, from, to, room);
-    *place = to;
-    true
-}
 
-/// Puts the bytes of a text from one place to another into an empty room.
-fn put_part(text: &Room, from: usize, to: usize, room: &mut Piece)
-    requires empty { room.old.items ≡ [] }
-    requires order { from ≤ to }
-    requires within { to ≤ array_vec_len text.now }
-    requires few { to ≤ from + PIECE }
-    ensures { drop from text.now.items ≡ room.new.items ++ drop to text.now.items }
-{
-    put_bytes(room, &text.as_slice()[from..to]);
+    fn keeps_its_promise(&self) {}
+
+    fn is_lawful() {}
 }
 
 /// The page of a row of the table of usages.
 #[tactic(auto, using(crate::proofs::PageLines::page_fits))]
-fn page_of(page: usize) -> HelpPage
-    ensures { drop result.place result.text.items ≡ page_text page }
+fn page_text(page: usize) -> Room
+    ensures { result.items ≡ page_text page }
 {
     let mut text = Room::new();
     push_page_text(page, &mut text);
-    HelpPage { text, place: 0 }
+    text
 }
 
 /// The same, behind what the room has.
@@ -158,12 +129,12 @@ fn push_examples(command: &str, room: &mut Room)
 
 /// A line or more for each status.
 #[tactic(auto, using(crate::proofs::PageLines::statuses_fit))]
-fn page_of_statuses() -> HelpPage
-    ensures { drop result.place result.text.items ≡ statuses_text }
+fn statuses_text() -> Room
+    ensures { result.items ≡ statuses_text }
 {
     let mut text = Room::new();
     push_statuses(&mut text);
-    HelpPage { text, place: 0 }
+    text
 }
 
 /// The same, behind what the room has.

@@ -12,9 +12,6 @@ ghost use Rattle.vitc_line.specs.Places.{HasLines};
 ghost use Rattle.vitc_line.specs.Spelled.{line_of};
 ghost use Rattle.vitc_reader.specs.Runs.{IsLineLength};
 ghost use Rattle.vitc_reader.specs.Written.{runs_in};
-ghost use Rattle.tc_job.specs.LineStripe.{LineStriping};
-ghost use Rattle.tc_command.specs.Told.{IsLawful, IsTold, WorksAsTold};
-ghost use Rattle.made_commands.specs.MadeLines.{told_vitc_make};
 
 use crate::laws::lines_that_are_made_are_read_back;
 use arrayvec::ArrayVec;
@@ -24,8 +21,8 @@ use ltc_jam::word_of;
 use std::marker::Model;
 use tc_address::laws::steps_add_up;
 use tc_address::{Label, advance, system_of};
-use tc_command::{Maker, PIECE, Piece, Stop, make};
-use tc_io::{Sink, Source, put_bytes};
+use tc_command::{Command, Maker, PIECE, Piece, Stop, Way};
+use tc_io::put_bytes;
 use tc_job::LineStripe;
 use vitc_line::laws::{each_word_has_its_line, spelling_is_exact};
 use vitc_line::{VitcWord, encode};
@@ -40,32 +37,28 @@ const FRAME_ROOM: usize = 718;
 /// The bytes of a line.
 type Line = ArrayVec<u8, 179>;
 
-/// Works `vitc-make`: the line file of a stripe.
-pub fn make_lines<S: Source, K: Sink>(
-    stripe: &LineStripe,
-    source: &mut S,
-    out: &mut K,
-) -> Result<(), Stop>
-    ensures { WorksAsTold (told_vitc_make stripe.now) S.left S.ends S.faults K.written K.faults source.old source.new
-        out.old out.new result }
-{
-    a_line_stripe_is_told(stripe);
-    make(&mut UnmadeLines::new(stripe), source, out)
+/// `vitc-make`: the line file of a stripe.
+#[derive(Clone, Copy)]
+pub struct VitcMake {
+    pub stripe: LineStripe,
 }
 
-/// What is claimed of `vitc-make` holds: what is made is read back, field by field.
-fn a_line_stripe_is_told(stripe: &LineStripe)
-    ensures { IsTold (told_vitc_make stripe.now) }
-{
-    line_stripes_are_lawful();
-    lines_that_are_made_are_read_back();
-    let _frames = stripe.frames();
-}
+impl Command for VitcMake {
+    ghost use Rattle.made_commands.specs.MadeLines.{told_vitc_make};
 
-/// What is claimed of `vitc-make` is lawful.
-pub fn line_stripes_are_lawful()
-    ensures { (stripe : LineStriping) → IsLawful (told_vitc_make stripe) }
-{}
+    ghost told = { λ command. told_vitc_make command.stripe };
+
+    fn work<W: Way>(&self, way: &mut W) -> Result<(), Stop> {
+        way.make(&mut UnmadeLines::new(&self.stripe))
+    }
+
+    fn keeps_its_promise(&self) {
+        lines_that_are_made_are_read_back();
+        let _frames = self.stripe.frames();
+    }
+
+    fn is_lawful() {}
+}
 
 /// A line file that is still to be made.
 #[derive(Drop)]

@@ -3,6 +3,7 @@ pub mod CarriedEvents
 pub mod EightNeighbours
 pub mod EndOfEvents
 pub mod Examples
+pub mod HaveMessages
 pub mod Labels
 pub mod LatestEight
 pub mod MessagesAlong

@@ -1,5 +1,6 @@
 pub mod CellsNext
 pub mod EighthBefore
+pub mod Emptied
 mod Examples
 pub mod FrontNext
 mod GateExamples

@@ -1,13 +1,10 @@
 -- Each decision decides the cells of the tape that ended long enough ago, and the end of the sound
 -- decides the others.
-use Rattle.std.proofs.Common.{◌≡◌, ℕ, zero, suc, ◌+◌, ◌-◌, ◌*◌, ◌/◌, ◌%◌, ◌==◌, ◌<◌, ◌≤◌, ◌⊎◌, inl, inr}
+use Rattle.std.proofs.Common.{◌≡◌, ℕ, zero, suc, ◌+◌, ◌-◌, ◌*◌, ◌/◌, ◌<◌, ◌≤◌, ◌⊎◌, inl, inr}
 use Rattle.std.proofs.Common.{Bool, true, false}
-use Rattle.std.proofs.Common.{◌&&◌, cond, leb, List, [], ◌∷◌, ◌++◌, length, drop, refl, ap, ap₂, subst, sym, ◌∙◌, arith}
+use Rattle.std.proofs.Common.{List, [], ◌∷◌, ◌++◌, length, drop, refl, ap, ap₂, subst, sym, ◌∙◌, arith}
 use Rattle.std.specs.List.{filter}
 use Rattle.std.proofs.Math.Nat.{le-div_iff_mul-le, suc-mul}
-use Rattle.std.proofs.lemmas.Bool.{false≢true}
-use Rattle.std.proofs.lemmas.Bool.Decides.{nat_tests}
-use Rattle.std.proofs.lemmas.List.{length-drop}
 use Rattle.cell_path.specs.declared.cell.Cell.{Cell}
 use Rattle.cell_path.specs.declared.cell.Step.{Step}
 use Rattle.cell_path.specs.declared.follow.TheConstants.{DELAY, FIRST}
@@ -23,82 +20,15 @@ use Rattle.path_truth.specs.Tape.{GoOn, HasAZero, IsSteady}
 use Rattle.path_truth.proofs.BestIsTape.{best_is_tape}
 use Rattle.path_truth.proofs.OpenTape.{cells-many, part-less, unfinished-is-tape, IsPart}
 use Rattle.path_truth.proofs.Rising.{length_least}
-use Rattle.path_truth.proofs.Sections.{all-decided, later-behind, new-waits, none-old, old, old-decided, old-end}
+use Rattle.path_truth.proofs.Sections.{all-decided}
+use Rattle.path_truth.proofs.DecidedByAge.{later-behind, new-waits, none-old, old, old-decided, old-end}
 use Rattle.path_truth.proofs.Sections.{AreCells}
-
--- ---- when a decision falls due
-
-both-of : (a b : Bool) → (a && b) ≡ true → (a ≡ true) × (b ≡ true)
-both-of true true is = (refl, refl)
-both-of true false is = absurd cc
-both-of false b is = absurd cc
-
-is-zero : (a : ℕ) → (a == 0) ≡ true → a ≡ 0
-is-zero a is = grind (arith, nat_tests)
-
-is-most : (a b : ℕ) → leb a b ≡ true → a ≤ b
-is-most a b is = grind (arith, nat_tests)
-
-due-first : (count : ℕ) → is_due count ≡ true → FIRST ≤ count
-due-first count is = is-most FIRST count (both-of (leb FIRST count) (count % 1_024 == 0) is).0
-
-due-every : (count : ℕ) → is_due count ≡ true → count % 1_024 ≡ 0
-due-every count is = is-zero (count % 1_024) (both-of (leb FIRST count) (count % 1_024 == 0) is).1
-
--- ---- the latest decision
-
-at-most : (a b : ℕ) → a ≤ b → leb a b ≡ true
-at-most a b is = grind (arith, nat_tests)
-
-above : (a b : ℕ) → b < a → leb a b ≡ false
-above a b is = grind (arith, nat_tests)
-
-latest-late : (count : ℕ) → 2_048 ≤ count → latest_decision count ≡ count - count % 1_024
-latest-late count late = ap (λ (b : Bool). cond b (count - count % 1_024) 0) (at-most 2_048 count late)
-
-latest-early : (count : ℕ) → count < 2_048 → latest_decision count ≡ 0
-latest-early count early = ap (λ (b : Bool). cond b (count - count % 1_024) 0) (above 2_048 count early)
-
-early-or-late : (count : ℕ) → (2_048 ≤ count) ⊎ (count < 2_048)
-early-or-late count = grind arith
-
-latest-due : (count : ℕ) → is_due count ≡ true → latest_decision count ≡ count
-latest-due count is =
-    let every = due-every count is in
-    let all : count - count % 1_024 ≡ count = omega (arith, every) in
-    latest-late count (due-first count is) ∙ all
-
-latest-most : (count : ℕ) → latest_decision count ≤ count
-latest-most count = elim (early-or-late count) [
-  | inl late ↦ subst (λ n. n ≤ count) (sym (latest-late count late)) (omega arith)
-  | inr early ↦ subst (λ n. n ≤ count) (sym (latest-early count early)) (omega arith)
-]
-
-not-every : (count : ℕ) → 2_048 ≤ count → is_due count ≡ false → count % 1_024 ≡ 0 → ⊥
-not-every count late is every =
-    let test : (count % 1_024 == 0) ≡ true = grind (arith, nat_tests) in
-    false≢true (sym is ∙ ap₂ (λ a b. a && b) (at-most 2_048 count late) test)
-
-some-rest : (count : ℕ) → 2_048 ≤ count → is_due count ≡ false → 0 < count % 1_024
-some-rest count late is =
-    let cases : (count % 1_024 ≡ 0) ⊎ (0 < count % 1_024) = grind arith in
-    elim cases [ inl every ↦ absurd (not-every count late is every) | inr some ↦ some ]
-
--- it stays where none falls due
-latest-stays : (count : ℕ) → is_due (suc count) ≡ false → latest_decision (suc count) ≡ latest_decision count
-latest-stays count is = elim (early-or-late (suc count)) [
-  | inl late ↦
-      let some = some-rest (suc count) late is in
-      let still : 2_048 ≤ count = omega (arith, late, some) in
-      let same : suc count - suc count % 1_024 ≡ count - count % 1_024 = omega (arith, some) in
-      latest-late (suc count) late ∙ same ∙ sym (latest-late count still)
-  | inr early ↦ latest-early (suc count) early ∙ sym (latest-early count (omega (arith, early)))
-]
+use Rattle.path_truth.proofs.FallsDue.{due-first, latest-due, latest-most, latest-stays}
 
 -- ---- the cells so far
 
 -- the steps are those of these cells, and r more of the next
-record AreSoFar (place n r : ℕ) (steps : List Step) (tape : List Cell) : Type 0 where
+pub record AreSoFar (place n r : ℕ) (steps : List Step) (tape : List Cell) : Type 0 where
   pub in_list : place < 45
   pub length_is : length_in LENGTHS place ≡ n
   pub some : 1 ≤ n
@@ -109,7 +39,7 @@ record AreSoFar (place n r : ℕ) (steps : List Step) (tape : List Cell) : Type 
   pub part : 0 < r → IsPart place n r steps tape
   pub zero : FIRST / n ≤ length tape → HasAnEarlyZero n tape
 
-are-cells : (place n r : ℕ) (steps : List Step) (tape : List Cell) → AreSoFar place n r steps tape
+pub are-cells : (place n r : ℕ) (steps : List Step) (tape : List Cell) → AreSoFar place n r steps tape
     → AreCells place n (length tape * n) tape
 are-cells place n r steps tape are = record { some = are.some; long = are.length_is; go = are.go; ends = refl }
 
@@ -126,7 +56,7 @@ part-within place n r step steps tape less some part =
     subst (λ k. IsPart place n k steps tape) one
     (part-less place n (suc r) 1 (step ∷ steps) tape (omega arith) (omega (arith, less)) part)
 
-step-within : (place n r : ℕ) (step : Step) (steps : List Step) (tape : List Cell)
+pub step-within : (place n r : ℕ) (step : Step) (steps : List Step) (tape : List Cell)
     → AreSoFar place n (suc r) (step ∷ steps) tape → AreSoFar place n r steps tape
 step-within place n r step steps tape are = record {
   in_list = are.in_list;
@@ -148,7 +78,7 @@ zero-before n cell before has enough =
     subst (λ k. HasAZero (drop k (cell ∷ before))) less (has (omega (arith, enough)))
 
 -- one step fewer, behind a cell
-step-behind : (place n m : ℕ) (step : Step) (steps : List Step) (cell : Cell) (before : List Cell) → n ≡ suc m
+pub step-behind : (place n m : ℕ) (step : Step) (steps : List Step) (cell : Cell) (before : List Cell) → n ≡ suc m
     → AreSoFar place n 0 (step ∷ steps) (cell ∷ before) → AreSoFar place n m steps before
 step-behind place n m step steps cell before is are = record {
   in_list = are.in_list;
@@ -169,11 +99,11 @@ step-behind place n m step steps cell before is are = record {
 }
 
 -- what is decided are the cells that ended in time
-abbrev AreInTime : ℕ → ℕ → List Cell → List Placed → Type 0
+abbrev pub AreInTime : ℕ → ℕ → List Cell → List Placed → Type 0
 AreInTime n count tape all = all ≡ ended_in_time count (placed (length tape * n) tape)
 
 -- also with a cell more, which has just ended
-in-time-more : (place n count : ℕ) (cell : Cell) (before : List Cell) (all : List Placed)
+pub in-time-more : (place n count : ℕ) (cell : Cell) (before : List Cell) (all : List Placed)
     → AreCells place n (length (cell ∷ before) * n) (cell ∷ before) → count ≤ length (cell ∷ before) * n
     → AreInTime n count before all → AreInTime n count (cell ∷ before) all
 in-time-more place n count cell before all are within is =
@@ -248,10 +178,10 @@ add true place n r step steps tape before all are is so_far adds =
     are.long (omega (arith, most)) (latest-due count is)
     (path-so-far place n r (step ∷ steps) tape now.0 now.1 are (due-first count is) now.2) so_far now.3
 
-one_fewer : (n : ℕ) → 1 ≤ n → n ≡ suc (n - 1)
+pub one_fewer : (n : ℕ) → 1 ≤ n → n ≡ suc (n - 1)
 one_fewer n some = omega arith
 
-so-far : (place n r : ℕ) (steps : List Step) (tape : List Cell) (all : List Placed)
+pub so-far : (place n r : ℕ) (steps : List Step) (tape : List Cell) (all : List Placed)
     → AreSoFar place n r steps tape → AreDecided steps all → AreInTime n (length steps) tape all
 so-far place n r [] tape all are decided =
     decided ∙ sym (none-old place n (length tape * n) 800 0 tape (are-cells place n r [] tape are) (omega arith))
@@ -291,7 +221,7 @@ whole place n (step ∷ steps) tape all has are decided =
     ∙ all-decided place n e last.p 0 count tape cells (omega (arith, long))
     ∙ ap (λ k. placed k tape) (sym long)
 
-begun : (place : ℕ) (tape : List Cell) (steps : List Step) → IsSteady place tape
+pub begun : (place : ℕ) (tape : List Cell) (steps : List Step) → IsSteady place tape
     → KeepsItsSides (length_in LENGTHS place) steps tape → HasAnEarlyZero (length_in LENGTHS place) tape
     → AreSoFar place (length_in LENGTHS place) 0 steps tape
 begun place tape steps steady keeps early =
@@ -314,60 +244,3 @@ pub decided-tape : (place : ℕ) (tape : List Cell) (steps : List Step) (all : L
     → AreDecidedInAll steps all → all ≡ placed (length steps) tape
 decided-tape place tape steps all steady keeps early decided =
     whole place (length_in LENGTHS place) steps tape all steady.zero (begun place tape steps steady keeps early) decided
-
--- ---- while the sound goes on
-
--- with fewer of the latest steps there are fewer cells, and those that ended in time are the same
-record Fewer (place n count k : ℕ) (steps : List Step) (tape : List Cell) : Type 0 where
-  rest : ℕ
-  cells : List Cell
-  are : AreSoFar place n rest (drop k steps) cells
-  same : (all : List Placed) → AreInTime n count cells all → AreInTime n count tape all
-
-fewer : (place n r count k : ℕ) (steps : List Step) (tape : List Cell) → AreSoFar place n r steps tape
-    → count ≡ length (drop k steps) → Fewer place n count k steps tape
-fewer place n r count zero steps tape are is =
-    record { rest = r; cells = tape; are = are; same = λ all in_time. in_time }
-fewer place n r count (suc k) [] tape are is =
-    record { rest = r; cells = tape; are = are; same = λ all in_time. in_time }
-fewer place n (suc r) count (suc k) (step ∷ steps) tape are is =
-    let more = fewer place n r count k steps tape (step-within place n r step steps tape are) is in
-    record { rest = more.rest; cells = more.cells; are = more.are; same = more.same }
-fewer place n zero count (suc k) (step ∷ steps) [] are is = absurd (omega (arith, are.long))
-fewer place n zero count (suc k) (step ∷ steps) (cell ∷ before) are is =
-    let next = step-behind place n (n - 1) step steps cell before (one_fewer n are.some) are in
-    let more = fewer place n (n - 1) count k steps before next is in
-    let e = length-drop k steps in
-    record {
-      rest = more.rest;
-      cells = more.cells;
-      are = more.are;
-      same = λ all in_time. in-time-more place n count cell before all
-          (are-cells place n 0 (step ∷ steps) (cell ∷ before) are) (omega (arith, are.long, e, is))
-          (more.same all in_time);
-    }
-
-pub tape-so-far : (place : ℕ) (tape : List Cell) (steps : List Step) (later : ℕ) (all : List Placed)
-    → IsSteady place tape → KeepsItsSides (length_in LENGTHS place) steps tape
-    → HasAnEarlyZero (length_in LENGTHS place) tape → AreDecided (drop later steps) all
-    → all ≡ ended_in_time (length (drop later steps)) (placed (length steps) tape)
-tape-so-far place tape steps later all steady keeps early decided =
-    let n = length_in LENGTHS place in
-    let count = length (drop later steps) in
-    let less = fewer place n 0 count later steps tape (begun place tape steps steady keeps early) refl in
-    let is = less.same all (so-far place n less.rest (drop later steps) less.cells all less.are decided) in
-    let long : length tape * n ≡ length steps = sym (cells-many n steps tape keeps) in
-    is ∙ ap (λ k. ended_in_time count (placed k tape)) long
-
--- if the sound ends before the first decision falls due, all cells have ended then
-pub short-is-early : (place : ℕ) (tape : List Cell) (steps : List Step) → IsSteady place tape
-    → KeepsItsSides (length_in LENGTHS place) steps tape → length steps < FIRST
-    → HasAnEarlyZero (length_in LENGTHS place) tape
-short-is-early place tape steps steady keeps short =
-    let n = length_in LENGTHS place in
-    let least = length_least place steady.in_list in
-    let many = cells-many n steps tape keeps in
-    let few = (le-div_iff_mul-le {k = n} {x = length tape} {y = FIRST} (omega (arith, least))).1
-    (omega (arith, many, short)) in
-    let none : 0 ≡ length tape - FIRST / n = omega (arith, few) in
-    subst (λ k. HasAZero (drop k tape)) none steady.zero

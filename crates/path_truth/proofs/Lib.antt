@@ -1,12 +1,14 @@
 mod Beaten
 mod BestIsTape
 mod Clipping
+pub mod DecidedByAge
 mod DecidedSound
 mod DecidedTape
 mod Exact
 mod FairCells
 mod FairFit
 mod FairSound
+pub mod FallsDue
 mod Holding
 mod MeanSize
 mod MeasuredTape
@@ -20,6 +22,7 @@ mod Rising
 mod Runs
 mod SameCells
 mod Sections
+pub mod SoFarDecided
 mod SoundIntervals
 mod SoundLength
 mod SoundSides

@@ -18,7 +18,7 @@ pub enum Threshold {
     Fixed(u32),
     /// At half of the height of the peak of the sound above its mean size, and never nearer than this.
     Follow(u32),
-    /// At a quarter of it, and never nearer than this: for sound that is dull, or lies on a hum.
+    /// At a quarter of it, and never nearer than this: for dull sound.
     Deep(u32),
 }
 

@@ -1,3 +1,4 @@
+pub mod FramesOfARun
 pub mod OneFrameMore
 pub mod TwoParts
 pub mod GoesOn

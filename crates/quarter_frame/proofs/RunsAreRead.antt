@@ -16,7 +16,8 @@ use Rattle.quarter_frame.specs.ReadAgain.{all_placed, placed, read_from, read_of
 use Rattle.quarter_frame.specs.ReadAgain.{IsNeighbour, Placed}
 use Rattle.quarter_frame.specs.Runs.{four_of, is_even, mtc_from, mtc_of, quarters_from, run_text}
 use Rattle.quarter_frame.proofs.GoesOn.{frames_go_on, placed_at, GoOn, Laws}
-use Rattle.quarter_frame.proofs.RunIsRead.{one_before, run_of, ReadsRuns}
+use Rattle.quarter_frame.proofs.FramesOfARun.{one_before}
+use Rattle.quarter_frame.proofs.RunIsRead.{run_of, ReadsRuns}
 use Rattle.flywheel.specs.GoOn.{goes_on}
 
 -- no frame came before, or an end

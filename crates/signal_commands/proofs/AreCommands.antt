@@ -18,7 +18,7 @@ use Rattle.pcm_front.specs.Pace.{intervals_at, IsPace}
 use Rattle.pcm_front.specs.Samples.{sample_in, samples_of}
 use Rattle.pcm_front.specs.Settings.{Settings}
 use Rattle.interval_file.specs.Grammar.{file_of}
-use Rattle.line_file.specs.declared.fault.LineFileFault.{LineFileFault}
+use Rattle.file_faults.specs.declared.lines.LineFileFault.{LineFileFault}
 use Rattle.tc_io.specs.Verdict.{refused, past_limit}
 use Rattle.tc_io.specs.Sink.{IsFront}
 use Rattle.tc_job.specs.Slicing.{Slices}

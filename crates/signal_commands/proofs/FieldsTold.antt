@@ -21,7 +21,7 @@ use Rattle.line_file.specs.Texts.{field_line}
 use Rattle.tc_command.specs.declared.input_fault.InputFault.TheVariants.{Lines}
 use Rattle.tc_command.specs.Command.{IsCommand}
 use Rattle.tc_command.specs.Meaning.{IsInput}
-use Rattle.tc_command.specs.Told.{IsLawful, IsTold}
+use Rattle.tc_command.specs.Told.{IsLawful, KeepsPromise}
 use Rattle.signal_commands.specs.VitcRead.{along_fields, answer_lines, field_report, last_field_line, told_vitc_read}
 use Rattle.signal_commands.specs.VitcRead.{ReadsTheFields, TellTheFields}
 
@@ -145,8 +145,6 @@ fields_are_lawful command read = record {
   unlimited = λ none input spent. spent;
 }
 
-pub fields_are_told : FieldsLaws → IsLawful told_vitc_read → IsTold told_vitc_read
-fields_are_told laws lawful = record {
-  lawful = lawful;
-  kept = λ pulled written are input output. reads laws pulled written are input output.0 output.1 output.2;
-}
+pub fields_are_kept : FieldsLaws → KeepsPromise told_vitc_read
+fields_are_kept laws = λ pulled written are input output.
+    reads laws pulled written are input output.0 output.1 output.2

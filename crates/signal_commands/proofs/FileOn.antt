@@ -5,7 +5,7 @@ use Rattle.tc_command.specs.declared.halt.Halt.TheVariants.{Refused, Limit}
 use Rattle.tc_command.specs.declared.input_fault.InputFault.TheVariants.{Sound}
 use Rattle.tc_io.specs.Verdict.{Verdict, good, refused, past_limit, verdict_as}
 use Rattle.wave_file.specs.declared.decoder.Taken.TheVariants as taken
-use Rattle.wave_file.specs.declared.fault.WaveFault.{WaveFault}
+use Rattle.file_faults.specs.declared.sound.WaveFault.{WaveFault}
 use Rattle.wave_file.specs.declared.format.Asked.{Asked}
 use Rattle.wave_file.specs.declared.format.WaveFormat.{WaveFormat}
 use Rattle.wave_file.specs.declared.stage.TheConstants.{MAX_BYTES}

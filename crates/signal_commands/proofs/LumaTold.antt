@@ -20,7 +20,7 @@ use Rattle.luma_field.specs.Parts.{parts, whole_parts}
 use Rattle.luma_field.specs.Raster.{size_of, RasterSize}
 use Rattle.luma_field.specs.Rows.{SaysLines}
 use Rattle.tc_command.specs.declared.input_fault.InputFault.TheVariants.{HalfField}
-use Rattle.tc_command.specs.Told.{IsLawful, IsTold}
+use Rattle.tc_command.specs.Told.{IsLawful, KeepsPromise}
 use Rattle.tc_io.specs.Verdict.{good}
 use Rattle.tc_job.specs.LumaRun.{IsLumaReading, LumaReading}
 use Rattle.vitc_reader.specs.Runs.{IsLineLength, MayBeLine, StandFor}
@@ -156,12 +156,9 @@ luma_is_lawful laws luma = record {
   unlimited = λ none input spent. spent;
 }
 
-pub luma_is_told : LumaFileLaws → (luma : LumaReading) → IsLumaReading luma → 0 < size_of luma.raster
-    → IsLawful (told_luma_vitc luma) → IsTold (told_luma_vitc luma)
-luma_is_told laws luma valid some lawful = record {
-  lawful = lawful;
-  kept = λ pulled written are input output.
-      let within = within_by (most_pixels luma) (length pulled) (nat_lt (most_pixels luma) (length pulled)) refl
-      input.verdict in
-      reads laws luma valid some pulled written within input.end output;
-}
+pub luma_is_kept : LumaFileLaws → (luma : LumaReading) → IsLumaReading luma → 0 < size_of luma.raster
+    → KeepsPromise (told_luma_vitc luma)
+luma_is_kept laws luma valid some = λ pulled written are input output.
+    let within = within_by (most_pixels luma) (length pulled) (nat_lt (most_pixels luma) (length pulled)) refl
+    input.verdict in
+    reads laws luma valid some pulled written within input.end output

@@ -9,7 +9,7 @@ use Rattle.step_grid.specs.Grid.{AreStepsOf, IsGrid}
 use Rattle.path_front.specs.Steps.{sounds_of}
 use Rattle.pcm_front.specs.Samples.{samples_of}
 use Rattle.tc_command.specs.Command.{IsCommand}
-use Rattle.tc_command.specs.Told.{IsLawful, IsTold}
+use Rattle.tc_command.specs.Told.{IsLawful, KeepsPromise}
 use Rattle.tc_io.specs.Bytes.{AreBytes}
 use Rattle.tc_job.specs.PathSlicing.{IsPathSlicing, SlicesPath}
 use Rattle.signal_commands.specs.PcmLtc.{odd_fault}
@@ -54,9 +54,6 @@ path_is_lawful commands p = record {
   unlimited = λ none input spent. spent;
 }
 
-pub path_is_told : LastsLaws → AreOfSamples → (p : SlicesPath) → IsPathSlicing p → IsLawful (told_pcm_path p)
-    → IsTold (told_pcm_path p)
-path_is_told laws back p is lawful = record {
-  lawful = lawful;
-  kept = λ pulled written are input output. path_is_told_of laws back p is pulled written are input.end output;
-}
+pub path_is_kept : LastsLaws → AreOfSamples → (p : SlicesPath) → IsPathSlicing p → KeepsPromise (told_pcm_path p)
+path_is_kept laws back p is = λ pulled written are input output.
+    path_is_told_of laws back p is pulled written are input.end output

@@ -9,7 +9,7 @@ use Rattle.mtc_reader.specs.Laws.{all_falling, all_rising, at_no_place, full_mes
 use Rattle.mtc_reader.specs.Messages.{without_real_time}
 use Rattle.mtc_reader.specs.Spelled.{carried_by, placed, AreMessages, AreSounding, SpelledMessage}
 use Rattle.tc_command.specs.Command.{IsCommand}
-use Rattle.tc_command.specs.Told.{IsLawful, IsTold}
+use Rattle.tc_command.specs.Told.{IsLawful, KeepsPromise}
 use Rattle.signal_commands.specs.MtcRead.{along_midi, mtc_report, run_of, told_mtc_read, IsRun, ReadsTheMessages}
 use Rattle.signal_commands.specs.MtcRead.{ReadsWhatWasSent}
 use Rattle.signal_commands.proofs.AreCommands.{EarlierEventsStay}
@@ -94,9 +94,7 @@ midi_is_lawful command = record {
   unlimited = λ none input spent. spent;
 }
 
-pub midi_is_told : RunLaws → IsLawful told_mtc_read → IsTold told_mtc_read
-midi_is_told laws lawful = record {
-  lawful = lawful;
-  kept = λ pulled written are input output. let all = reads_what_was_sent laws pulled in
-      record { are = output; messages = all.messages; sent = all.sent; among = all.among };
-}
+pub midi_is_kept : RunLaws → KeepsPromise told_mtc_read
+midi_is_kept laws = λ pulled written are input output.
+    let all = reads_what_was_sent laws pulled in
+    record { are = output; messages = all.messages; sent = all.sent; among = all.among }

@@ -19,7 +19,7 @@ use Rattle.tc_job.specs.Pace.{pace_of, quarter_frame}
 use Rattle.tc_job.specs.Slicing.{Slices, IsSlicing}
 use Rattle.tc_command.specs.declared.input_fault.InputFault.TheVariants.{HalfSample}
 use Rattle.tc_command.specs.Command.{IsCommand}
-use Rattle.tc_command.specs.Told.{IsLawful, IsTold}
+use Rattle.tc_command.specs.Told.{IsLawful, KeepsPromise}
 use Rattle.interval_file.specs.Grammar.{file_of}
 use Rattle.signal_commands.specs.PcmLtc.{along_samples, odd_fault, pace_for, settings_for, sliced_header}
 use Rattle.signal_commands.specs.PcmLtc.{sliced_intervals, told_pcm_ltc, SlicesTheSound}
@@ -89,9 +89,6 @@ slices tell back s is bytes written are end output =
           ∙ ap (file_of (sliced_header s)) (sym (ap (sliced_intervals s) same ∙ told.polarity));
     }
 
-pub sound_is_told : TellAll → AreOfSamples → (s : Slices) → IsSlicing s → IsLawful (told_pcm_ltc s)
-    → IsTold (told_pcm_ltc s)
-sound_is_told tell back s is lawful = record {
-  lawful = lawful;
-  kept = λ pulled written are input output. slices tell back s is pulled written are input.end output;
-}
+pub sound_is_kept : TellAll → AreOfSamples → (s : Slices) → IsSlicing s → KeepsPromise (told_pcm_ltc s)
+sound_is_kept tell back s is = λ pulled written are input output.
+    slices tell back s is pulled written are input.end output

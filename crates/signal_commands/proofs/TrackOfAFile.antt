@@ -11,7 +11,7 @@ use Rattle.signal_commands.specs.WavLtc.{track_pace, track_settings}
 use Rattle.signal_commands.proofs.PutMore.{is_pace}
 use Rattle.signal_commands.proofs.SoundCovered.{TellAll, pace_ended, pace_passing, some_threshold}
 use Rattle.tc_command.specs.Command.{IsCommand}
-use Rattle.tc_command.specs.Told.{IsLawful, IsTold}
+use Rattle.tc_command.specs.Told.{IsLawful, KeepsPromise}
 use Rattle.signal_commands.specs.WavLtc.{asked_by}
 use Rattle.wave_file.specs.declared.format.Asked.{Asked}
 
@@ -42,9 +42,5 @@ track_is_lawful command w = record {
   unlimited = λ none input spent. spent;
 }
 
-pub track_is_told : AreReadAsMade → TellAll → (w : SlicesWave) → IsWaveSlicing w → IsLawful (told_wav_ltc w)
-    → IsTold (told_wav_ltc w)
-track_is_told law tell w is lawful = record {
-  lawful = lawful;
-  kept = λ pulled written are input output. slices_the_track law tell w is pulled written output;
-}
+pub track_is_kept : AreReadAsMade → TellAll → (w : SlicesWave) → IsWaveSlicing w → KeepsPromise (told_wav_ltc w)
+track_is_kept law tell w is = λ pulled written are input output. slices_the_track law tell w is pulled written output

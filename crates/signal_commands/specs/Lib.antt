@@ -14,3 +14,4 @@ pub mod PcmPath
 pub mod VitcRead
 pub mod WavLtc
 pub mod WavPath
+pub mod WorkedByHand

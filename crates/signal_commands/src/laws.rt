@@ -5,17 +5,18 @@ ghost use Rattle.tc_job.specs.Slicing.{Slices};
 ghost use Rattle.tc_job.specs.TrackPath.{SlicesTrackPath};
 ghost use Rattle.tc_job.specs.WaveSlicing.{SlicesWave};
 ghost use Rattle.tc_command.specs.Command.{IsCommand};
-ghost use Rattle.tc_command.specs.Told.{IsLawful};
 ghost use Rattle.signal_commands.specs.declared.luma_lines.TheConstants.{LINE_LENGTH};
 ghost use Rattle.signal_commands.specs.declared.mtc_read.TheConstants.{MAX_BYTES};
 ghost use Rattle.signal_commands.specs.declared.pcm_ltc.TheConstants.{MAX_SAMPLES};
 ghost use Rattle.signal_commands.specs.declared.wav_path.TheConstants.{MAX_PATH_SAMPLES};
 ghost use Rattle.signal_commands.specs.MtcRead.{along_midi};
-ghost use Rattle.signal_commands.specs.PcmLtc.{along_samples, told_pcm_ltc};
-ghost use Rattle.signal_commands.specs.PcmPath.{along_path, told_pcm_path};
+ghost use Rattle.signal_commands.specs.PcmLtc.{along_samples};
+ghost use Rattle.signal_commands.specs.PcmPath.{along_path};
 ghost use Rattle.signal_commands.specs.VitcRead.{along_fields};
 ghost use Rattle.signal_commands.specs.WavLtc.{along_sound_file};
 ghost use Rattle.signal_commands.specs.WavPath.{along_track_path};
+ghost use Rattle.signal_commands.specs.WorkedByHand.{AreCutInputsRefused, AreEventsCounted, AreFieldsCounted};
+ghost use Rattle.signal_commands.specs.WorkedByHand.{AreFieldsNumbered, AreHeadersSo, IsSoundSlicedSo};
 
 use line_file::laws::{
     answers_of_a_front_come_first, bytes_have_answers, bytes_have_one_list_of_answers,
@@ -50,19 +51,16 @@ pub fn each_signal_makes_a_command()
     what_bytes_show_stays();
 }
 
-/// What is claimed of `pcm-ltc .. path` is lawful.
-pub fn paths_are_lawful()
-    ensures { (path : SlicesPath) → IsLawful (told_pcm_path path) }
-{
-    each_signal_makes_a_command();
-}
-
-/// What is claimed of `pcm-ltc` is lawful.
-pub fn sliced_sound_is_lawful()
-    ensures { (slicing : Slices) → IsLawful (told_pcm_ltc slicing) }
-{
-    each_signal_makes_a_command();
-}
+/// What was worked out by hand: the last lines, the numbers of fields, the headers, how sound is sliced, and where an
+/// input may not end.
+pub fn what_is_worked_by_hand()
+    ensures events { AreEventsCounted }
+    ensures fields { AreFieldsCounted }
+    ensures numbers { AreFieldsNumbered }
+    ensures headers { AreHeadersSo }
+    ensures slicing { IsSoundSlicedSo }
+    ensures ends { AreCutInputsRefused }
+{}
 
 /// `mtc-read` reads a thousand million bytes, and no more.
 pub fn mtc_read_has_this_limit()

@@ -45,10 +45,10 @@ mod wav_ltc;
 mod wav_path;
 
 pub use luma_lines::LINE_LENGTH;
-pub use luma_vitc::{pixels_are_lawful, pixels_are_told, read_pixels};
-pub use mtc_read::{MAX_BYTES, midi_is_lawful, read_midi};
-pub use pcm_ltc::{MAX_SAMPLES, slice_sound};
-pub use pcm_path::hear_path;
-pub use vitc_read::{fields_are_lawful, read_fields};
-pub use wav_ltc::{slice_track, sliced_tracks_are_lawful};
-pub use wav_path::{MAX_PATH_SAMPLES, hear_track};
+pub use luma_vitc::LumaVitc;
+pub use mtc_read::{MAX_BYTES, MtcRead};
+pub use pcm_ltc::{MAX_SAMPLES, PcmLtc};
+pub use pcm_path::PcmPath;
+pub use vitc_read::VitcRead;
+pub use wav_ltc::WavLtc;
+pub use wav_path::{MAX_PATH_SAMPLES, WavPath};

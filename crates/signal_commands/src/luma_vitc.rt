@@ -1,11 +1,9 @@
 //! The engine of `luma-vitc`: a line file of what the rows of fields of pixels say. Read next:
 //! `luma_field/src/reader.rt`, and then `luma_lines`.
 ghost use Rattle.std.specs.Prelude.{◌≡◌, ◌≤◌, ◌^◌, []};
-ghost use Rattle.tc_command.specs.Told.{IsLawful, IsTold, WorksAsTold};
-ghost use Rattle.tc_job.specs.LumaRun.{LumaReading};
 ghost use Rattle.signal_commands.specs.KeptLuma.{IsGoing, Stands};
 ghost use Rattle.line_file.specs.LineHeader.{header_bytes};
-ghost use Rattle.signal_commands.specs.LumaVitc.{luma_header, most_pixels, told_luma_vitc};
+ghost use Rattle.signal_commands.specs.LumaVitc.{luma_header, most_pixels};
 ghost use Rattle.luma_field.specs.Raster.{size_of};
 
 use crate::luma_lines::{LINE_LENGTH, field_of};
@@ -13,43 +11,39 @@ use line_file::laws::{a_file_is_read_as_it_was_written, runs_of_a_line_fit_the_f
 use line_file::{HEADER_LENGTH, LineHeader, MAX_FIELDS, line_header};
 use luma_field::PixelReader;
 use luma_field::laws::{a_field_says_its_lines, joined_parts_are_taken_apart};
-use tc_command::{Engine, Halt, InputFault, Output, Stop, run_behind};
-use tc_io::{Sink, Source};
+use tc_command::{Command, Engine, Halt, InputFault, Output, Stop, Way};
 use tc_job::LumaRun;
 use vitc_reader::laws::each_line_has_its_runs;
 
-/// Works `luma-vitc`: a line file of the rows of fields.
-pub fn read_pixels<S: Source, K: Sink>(
-    run: &LumaRun,
-    source: &mut S,
-    out: &mut K,
-) -> Result<(), Stop>
-    ensures { WorksAsTold (told_luma_vitc run.now) S.left S.ends S.faults K.written K.faults source.old source.new
-        out.old out.new result }
-{
-    pixels_are_told(run);
-    run_behind(&header(run), &mut ReadPixels::new(run), source, out)
+/// `luma-vitc`: a line file of the rows of fields.
+#[derive(Clone, Copy)]
+pub struct LumaVitc {
+    pub run: LumaRun,
 }
 
-/// What is told of `luma-vitc` holds: the file that it writes is read as the lines of its rows.
-pub fn pixels_are_told(run: &LumaRun)
-    ensures { IsTold (told_luma_vitc run.now) }
-{
-    let _system = run.system();
-    let _size = size(run);
-    pixels_are_lawful();
-    a_field_says_its_lines();
-    each_line_has_its_runs();
-    runs_of_a_line_fit_the_file();
-    a_file_is_read_as_it_was_written();
-}
+impl Command for LumaVitc {
+    ghost use Rattle.signal_commands.specs.LumaVitc.{told_luma_vitc};
 
-/// What is told of `luma-vitc` is lawful.
-pub fn pixels_are_lawful()
-    ensures { (luma : LumaReading) → IsLawful (told_luma_vitc luma) }
-{
-    a_field_says_its_lines();
-    joined_parts_are_taken_apart();
+    ghost told = { λ command. told_luma_vitc command.run };
+
+    fn work<W: Way>(&self, way: &mut W) -> Result<(), Stop> {
+        way.read(&header(&self.run), &mut ReadPixels::new(&self.run))
+    }
+
+    /// The file that it writes is read as the lines of its rows.
+    fn keeps_its_promise(&self) {
+        let _system = self.run.system();
+        let _size = size(&self.run);
+        a_field_says_its_lines();
+        each_line_has_its_runs();
+        runs_of_a_line_fit_the_file();
+        a_file_is_read_as_it_was_written();
+    }
+
+    fn is_lawful() {
+        a_field_says_its_lines();
+        joined_parts_are_taken_apart();
+    }
 }
 
 /// Pixels on their way into lines.

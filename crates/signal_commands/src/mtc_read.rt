@@ -8,8 +8,6 @@ ghost use Rattle.mtc_reader.specs.StandsFor.{events_of};
 ghost use Rattle.mtc_reader.specs.Texts.{event_line};
 ghost use Rattle.signal_commands.specs.KeptMtc.{counted, FitsReport, Stands};
 ghost use Rattle.signal_commands.specs.MtcRead.{along_midi};
-ghost use Rattle.tc_command.specs.Told.{IsLawful, IsTold, WorksAsTold};
-ghost use Rattle.signal_commands.specs.MtcRead.{told_mtc_read};
 
 use crate::laws::each_signal_makes_a_command;
 use line_text::Text;
@@ -18,38 +16,36 @@ use mtc_reader::laws::{
     messages_carry_the_events, real_time_bytes_change_places_only,
 };
 use mtc_reader::{MtcEvent, MtcReader, mtc_end_text, push_mtc_text};
-use tc_command::{Engine, Halt, InputFault, Output, Stop, run};
-use tc_io::{Sink, Source};
+use tc_command::{Command, Engine, Halt, InputFault, Output, Stop, Way};
 
 /// How many bytes are read, at most.
 pub const MAX_BYTES: u64 = 1_000_000_000;
 
-/// Works `mtc-read`: a line for each label of MIDI Time Code in MIDI bytes, and the last line.
-pub fn read_midi<S: Source, K: Sink>(source: &mut S, out: &mut K) -> Result<(), Stop>
-    ensures { WorksAsTold told_mtc_read S.left S.ends S.faults K.written K.faults source.old source.new
-        out.old out.new result }
-{
-    midi_is_told();
-    run(&mut MtcReport::new(), source, out)
-}
+/// `mtc-read`: a line for each label of MIDI Time Code in MIDI bytes, and the last line.
+#[derive(Clone, Copy)]
+pub struct MtcRead;
 
-/// What is claimed of `mtc-read` holds: what was sent is what is read, and nothing else is.
-fn midi_is_told()
-    ensures { IsTold told_mtc_read }
-{
-    midi_is_lawful();
-    earlier_events_stay();
-    a_run_is_read_back();
-    real_time_bytes_change_places_only();
-    bytes_are_one_list_of_messages();
-    messages_carry_the_events();
-}
+impl Command for MtcRead {
+    ghost use Rattle.signal_commands.specs.MtcRead.{told_mtc_read};
 
-/// What is claimed of `mtc-read` is lawful.
-pub fn midi_is_lawful()
-    ensures { IsLawful told_mtc_read }
-{
-    each_signal_makes_a_command();
+    ghost told = { λ command. told_mtc_read };
+
+    fn work<W: Way>(&self, way: &mut W) -> Result<(), Stop> {
+        way.read(&[], &mut MtcReport::new())
+    }
+
+    /// What was sent is what is read, and nothing else is.
+    fn keeps_its_promise(&self) {
+        earlier_events_stay();
+        a_run_is_read_back();
+        real_time_bytes_change_places_only();
+        bytes_are_one_list_of_messages();
+        messages_carry_the_events();
+    }
+
+    fn is_lawful() {
+        each_signal_makes_a_command();
+    }
 }
 
 /// A reader of MIDI bytes, and how many of its events of each kind were printed.

@@ -5,45 +5,41 @@ ghost use Rattle.line_file.specs.declared.decoder.TheConstants.{MAX_FIELDS};
 ghost use Rattle.line_file.specs.Texts.{field_line};
 ghost use Rattle.signal_commands.specs.KeptFields.{counted, FitsFields, Stands};
 ghost use Rattle.signal_commands.specs.VitcRead.{along_fields};
-ghost use Rattle.tc_command.specs.Told.{IsLawful, IsTold, WorksAsTold};
-ghost use Rattle.signal_commands.specs.VitcRead.{told_vitc_read};
 
 use crate::laws::each_signal_makes_a_command;
 use line_file::laws::{
     a_decoder_tells_the_file, a_file_is_read_as_it_was_written, what_is_read_whole_is_a_file,
 };
 use line_file::{LineDecoder, Taken, field_end_text, field_text};
-use tc_command::{Engine, Halt, InputFault, Output, Stop, run};
-use tc_io::{Sink, Source};
+use tc_command::{Command, Engine, Halt, InputFault, Output, Stop, Way};
 use vitc_reader::FieldAnswer;
 use vitc_reader::laws::{an_answer_says_whose_lines_they_are, lines_have_one_answer};
 
-/// Works `vitc-read`: a line for each field of a line file, and the last line.
-pub fn read_fields<S: Source, K: Sink>(source: &mut S, out: &mut K) -> Result<(), Stop>
-    ensures { WorksAsTold told_vitc_read S.left S.ends S.faults K.written K.faults source.old source.new
-        out.old out.new result }
-{
-    fields_are_told();
-    run(&mut FieldReport::new(), source, out)
-}
+/// `vitc-read`: a line for each field of a line file, and the last line.
+#[derive(Clone, Copy)]
+pub struct VitcRead;
 
-/// What is claimed of `vitc-read` holds: each field has its answer, which says whose lines its lines are.
-fn fields_are_told()
-    ensures { IsTold told_vitc_read }
-{
-    fields_are_lawful();
-    an_answer_says_whose_lines_they_are();
-    lines_have_one_answer();
-    a_file_is_read_as_it_was_written();
-    what_is_read_whole_is_a_file();
-}
+impl Command for VitcRead {
+    ghost use Rattle.signal_commands.specs.VitcRead.{told_vitc_read};
 
-/// What is claimed of `vitc-read` is lawful.
-pub fn fields_are_lawful()
-    ensures { IsLawful told_vitc_read }
-{
-    each_signal_makes_a_command();
-    a_file_is_read_as_it_was_written();
+    ghost told = { λ command. told_vitc_read };
+
+    fn work<W: Way>(&self, way: &mut W) -> Result<(), Stop> {
+        way.read(&[], &mut FieldReport::new())
+    }
+
+    /// Each field has its answer, which says whose lines its lines are.
+    fn keeps_its_promise(&self) {
+        an_answer_says_whose_lines_they_are();
+        lines_have_one_answer();
+        a_file_is_read_as_it_was_written();
+        what_is_read_whole_is_a_file();
+    }
+
+    fn is_lawful() {
+        each_signal_makes_a_command();
+        a_file_is_read_as_it_was_written();
+    }
 }
 
 /// A decoder of a line file, and how many of its fields were printed, in all and of each kind.

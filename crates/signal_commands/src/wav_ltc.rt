@@ -1,9 +1,7 @@
 //! `wav-ltc`: an interval file of the crossings of a track of a sound file. Read next: `sound_file`, `sliced`, and
 //! then `listening`.
 ghost use Rattle.std.specs.Prelude.{◌≡◌, ◌≤◌};
-ghost use Rattle.signal_commands.specs.WavLtc.{asked_by, told_wav_ltc};
-ghost use Rattle.tc_command.specs.Told.{IsLawful, IsTold, WorksAsTold};
-ghost use Rattle.tc_job.specs.WaveSlicing.{SlicesWave};
+ghost use Rattle.signal_commands.specs.WavLtc.{asked_by};
 ghost use Rattle.wave_file.specs.Format.{IsAsked};
 
 use crate::laws::each_signal_makes_a_command;
@@ -11,46 +9,41 @@ use crate::listening::Listening;
 use crate::sliced::{Cut, SlicedSound};
 use crate::sound_file::SoundFile;
 use pcm_front::laws::intervals_tell_the_crossings;
-use tc_command::{Stop, run};
-use tc_io::{Sink, Source};
+use tc_command::{Command, Stop, Way};
 use tc_job::WaveSlicing;
 use wave_file::laws::a_file_is_read_as_it_was_written;
 use wave_file::{Asked, MAX_SAMPLES};
 
-/// Works `wav-ltc`: an interval file of the distances between the crossings of a track.
-pub fn slice_track<S: Source, K: Sink>(
-    slicing: &WaveSlicing,
-    source: &mut S,
-    out: &mut K,
-) -> Result<(), Stop>
-    ensures { WorksAsTold (told_wav_ltc slicing.now) S.left S.ends S.faults K.written K.faults source.old source.new
-        out.old out.new result }
-{
-    a_sliced_track_is_told(slicing);
-    let file = SoundFile::new(asked(slicing));
-    let mut listening: Listening<SoundFile, SlicedSound> = Listening::before(
-        file,
-        Cut::Track(*slicing),
-    );
-    run(&mut listening, source, out)
+/// `wav-ltc`: an interval file of the distances between the crossings of a track.
+#[derive(Clone, Copy)]
+pub struct WavLtc {
+    pub slicing: WaveSlicing,
 }
 
-/// What is claimed of `wav-ltc` holds: a sound file that was made is read as it was made, and the intervals give the
-/// crossings of its track.
-fn a_sliced_track_is_told(slicing: &WaveSlicing)
-    ensures { IsTold (told_wav_ltc slicing.now) }
-{
-    sliced_tracks_are_lawful();
-    a_file_is_read_as_it_was_written();
-    intervals_tell_the_crossings();
-    let _track = slicing.track();
-}
+impl Command for WavLtc {
+    ghost use Rattle.signal_commands.specs.WavLtc.{told_wav_ltc};
 
-/// What is claimed of `wav-ltc` is lawful.
-pub fn sliced_tracks_are_lawful()
-    ensures { (slicing : SlicesWave) → IsLawful (told_wav_ltc slicing) }
-{
-    each_signal_makes_a_command();
+    ghost told = { λ command. told_wav_ltc command.slicing };
+
+    fn work<W: Way>(&self, way: &mut W) -> Result<(), Stop> {
+        let file = SoundFile::new(asked(&self.slicing));
+        let mut listening: Listening<SoundFile, SlicedSound> = Listening::before(
+            file,
+            Cut::Track(self.slicing),
+        );
+        way.read(&[], &mut listening)
+    }
+
+    /// A sound file that was made is read as it was made, and the intervals give the crossings of its track.
+    fn keeps_its_promise(&self) {
+        a_file_is_read_as_it_was_written();
+        intervals_tell_the_crossings();
+        let _track = self.slicing.track();
+    }
+
+    fn is_lawful() {
+        each_signal_makes_a_command();
+    }
 }
 
 /// What is asked of the sound file.

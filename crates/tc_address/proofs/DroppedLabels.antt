@@ -64,7 +64,7 @@ kept_says : (m s f : ℕ) → is_dropped_by Drop30 m s f ≡ false → (m % 10 �
 kept_says m s f e = grind (arith, nat_tests)
 
 -- ten minutes have 17,982 labels, and each minute but the first of them has 1,798
-place_by_tens : (h m s f : ℕ) → IsLabel (address Drop30 h m s f) → place Drop30 h m s f ≡ 17982 * (6 * h + m / 10)
+pub place_by_tens : (h m s f : ℕ) → IsLabel (address Drop30 h m s f) → place Drop30 h m s f ≡ 17982 * (6 * h + m / 10)
     + (1798 * (m % 10) + (30 * s + f))
 place_by_tens h m s f l = let k : (m % 10 ≡ 0) ⊎ (2 ≤ 2 * s + f) = kept_says m s f l.counted in omega (arith, k)
 
@@ -88,7 +88,7 @@ dropped_until-place Drop30 h m s f l =
     let e = until_by_tens (6 * h + m / 10) (m % 10) (30 * s + f) (omega arith) (omega arith) j in
     ap (dropped_until Drop30) (place_by_tens h m s f l) ∙ e ∙ omega (arith, k)
 
-dropped_below : (c : Count) (h m s f : ℕ) → dropped c h m s f ≤ frame_of_day c h m s f
+pub dropped_below : (c : Count) (h m s f : ℕ) → dropped c h m s f ≤ frame_of_day c h m s f
 dropped_below C24 h m s f = omega arith
 dropped_below C25 h m s f = omega arith
 dropped_below C30 h m s f = omega arith

@@ -126,7 +126,7 @@ step_at a b steps n found e =
     ∙ ap (slice_get (labels a.count)) (sym e) ∙ found in
     sym (ap (λ o. unwrap_or o a) there)
 
-day_length-pos : (c : Count) → 0 < day_length c
+pub day_length-pos : (c : Count) → 0 < day_length c
 day_length-pos C24 = omega arith
 day_length-pos C25 = omega arith
 day_length-pos C30 = omega arith

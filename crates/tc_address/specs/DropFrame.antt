@@ -1,5 +1,5 @@
--- What drop-frame counting drops, by closed arithmetic. Only the crate's own small steps are said
--- in these words: the public clauses speak of the list of the day's labels.
+-- What drop-frame counting drops, by closed arithmetic. The crate's own small steps are said in these words, and the law
+-- of a label's number by its digits: the other public clauses speak of the list of the day's labels.
 use Rattle.std.specs.Prelude.{ℕ, ◌+◌, ◌-◌, ◌*◌, ◌/◌, ◌%◌}
 use Rattle.tc_address.specs.declared.count.Count.{Count}
 use Rattle.tc_address.specs.declared.count.Count.TheVariants.{C24, C25, C30, Drop30}

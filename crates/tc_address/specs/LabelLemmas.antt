@@ -17,3 +17,13 @@ pub label_is : (a : Address) → IsLabel a → is_label a ≡ true
 label_is a l =
     let counted = l.counted in
     grind (arith, nat_tests)
+
+-- an address that passes the test is a label
+pub label_by_test : (a : Address) → is_label a ≡ true → IsLabel a
+label_by_test a e = record {
+  hours = grind (arith, nat_tests);
+  minutes = grind (arith, nat_tests);
+  seconds = grind (arith, nat_tests);
+  frames = grind (arith, nat_tests);
+  counted = grind (arith, nat_tests);
+}

@@ -4,4 +4,5 @@ pub mod DropFrame
 pub mod Label
 pub mod Numbering
 pub mod Spelling
+pub mod KnownLabels
 pub mod LabelLemmas

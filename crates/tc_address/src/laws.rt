@@ -1,6 +1,9 @@
 //! What follows from the definitions alone: of the list of a day, of steps, ways and texts.
-ghost use Rattle.std.specs.Prelude.{◌≡◌, ℕ, ◌<◌, List, ℤ, pos, ◌+ℤ◌, slice_get, Some};
+ghost use Rattle.std.specs.Prelude.{◌≡◌, ℕ, ◌+◌, ◌*◌, ◌<◌, List, ℤ, pos, ◌+ℤ◌, slice_get, Some};
 ghost use Rattle.tc_address.specs.declared.count.Count.{Count};
+ghost use Rattle.tc_address.specs.Count.{rate_of, system_with};
+ghost use Rattle.tc_address.specs.DropFrame.{dropped_before};
+ghost use Rattle.tc_address.specs.KnownLabels.{AreApart, AreNumbered, labels_apart, numbered_labels};
 ghost use Rattle.tc_address.specs.Label.{Address, labels, IsLabel};
 ghost use Rattle.tc_address.specs.Numbering.{day_length, number_of, step};
 ghost use Rattle.tc_address.specs.Circle.{moved, IsShortest};
@@ -14,6 +17,19 @@ pub fn number_and_label_are_inverse()
     ensures number { (c : Count) (n : ℕ) (a : Address) → slice_get (labels c) n ≡ Some a
         → (number_of a ≡ n) × (a.count ≡ c) × IsLabel a }
     ensures below { (a : Address) → IsLabel a → number_of a < day_length a.count }
+{}
+
+/// The number of a label is the count of frames before it by its digits, less what was dropped before its minute.
+pub fn a_label_has_its_number_by_its_digits()
+    ensures { (a : Address) → IsLabel a → number_of a + dropped_before a.count (60 * a.hours + a.minutes)
+        ≡ rate_of (system_with a.count) * (60 * (60 * a.hours + a.minutes) + a.seconds) + a.frames }
+{}
+
+/// Labels worked out by hand have these numbers, and follow each other so, forward and back: over midnight, over the end
+/// of a minute that drops labels, and of one that does not.
+pub fn labels_follow_each_other_so()
+    ensures numbers { AreNumbered numbered_labels }
+    ensures steps { AreApart labels_apart }
 {}
 
 /// No step leads to the label itself, and steps add up.

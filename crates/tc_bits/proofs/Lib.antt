@@ -1,4 +1,5 @@
 pub mod AroundAField
 pub mod FaultlessFields
 pub mod FieldsOfATable
+pub mod RowOfATable
 pub mod SideBySide

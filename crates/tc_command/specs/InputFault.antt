@@ -1,8 +1,8 @@
 -- What notes say of the fault of an input. Each kind of file has its own faults.
 use Rattle.std.specs.Prelude.{ℕ, List, ◌++◌, codes, decimal}
 use Rattle.interval_file.specs.Fault as intervals
-use Rattle.line_file.specs.Fault as lines
-use Rattle.wave_file.specs.Fault as sound
+use Rattle.file_faults.specs.Lines as lines
+use Rattle.file_faults.specs.Sound as sound
 use Rattle.tc_command.specs.declared.input_fault.InputFault.{InputFault}
 use Rattle.tc_command.specs.declared.input_fault.InputFault.TheVariants.{Intervals, Lines, Sound, Labels}
 use Rattle.tc_command.specs.declared.input_fault.InputFault.TheVariants.{HalfField, HalfSample}

@@ -21,12 +21,15 @@ pub record IsLawful (t : Told) : Type 0 where
   pub pinned : (pulled a b : List ℕ) → t.promise pulled a → t.promise pulled b → a ≡ b
   pub unlimited : t.has_own_limit ≡ false → (input : List ℕ) → ¬ t.meaning.spent input
 
+-- what it writes of an input keeps the promise
+abbrev pub KeepsPromise : Told → Type 0
+KeepsPromise t = (pulled written : List ℕ) → AreBytes pulled → IsInput t.meaning pulled
+    → t.meaning.output pulled written → t.promise pulled written
+
 -- what is told holds
 pub record IsTold (t : Told) : Type 0 where
   pub lawful : IsLawful t
-  -- what it writes of an input keeps the promise
-  pub kept : (pulled written : List ℕ) → AreBytes pulled → IsInput t.meaning pulled → t.meaning.output pulled written
-      → t.promise pulled written
+  pub kept : KeepsPromise t
 
 -- it was worked as it is told, and what is told holds
 pub record WorksAsTold {S K : Type 0} (t : Told) (left : S → Option (List ℕ)) (at_end pulls_failed : S → ℕ)

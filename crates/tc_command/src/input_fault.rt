@@ -1,8 +1,7 @@
 //! The fault of an input, whatever a command reads. Read next: `stop`.
+use file_faults::{LineFileFault, WaveFault};
 use interval_file::IntervalFileFault;
 use label_text::LineFault;
-use line_file::LineFileFault;
-use wave_file::WaveFault;
 
 /// The first fault of an input.
 #[derive(Clone, Copy)]

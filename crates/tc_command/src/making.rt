@@ -5,12 +5,10 @@ ghost use Rattle.std.specs.Io.KnownBytes.{Appends};
 ghost use Rattle.tc_io.specs.Sink.{AppendsFront};
 ghost use Rattle.tc_io.specs.Bytes.{AreBytes};
 ghost use Rattle.tc_command.specs.Causes.{HasOutCause};
-ghost use Rattle.tc_command.specs.Meaning.{writes};
-ghost use Rattle.tc_command.specs.Worked.{IsWorked};
 
-use crate::piece::Piece;
+use crate::piece::{PIECE, Piece};
 use crate::stop::Stop;
-use tc_io::{Sink, Source, push_all};
+use tc_io::{Sink, push_all};
 
 /// A command that reads nothing, and has some of its output still to give.
 pub trait Maker {
@@ -28,18 +26,6 @@ pub trait Maker {
         ensures all { result ≡ false → rest self.old ≡ [] };
 }
 
-/// Gives the whole output, and pulls nothing.
-pub fn make<M: Maker, S: Source, K: Sink>(
-    maker: &mut M,
-    source: &mut S,
-    out: &mut K,
-) -> Result<(), Stop>
-    ensures { IsWorked (writes (M.rest maker.old)) S.left S.ends S.faults K.written K.faults
-        source.old source.new out.old out.new result }
-{
-    give_all(maker, out)
-}
-
 /// Pushes each piece.
 pub fn give_all<M: Maker, K: Sink>(maker: &mut M, out: &mut K) -> Result<(), Stop>
     ensures all { OnOk result (Appends (K.written out.old) (K.written out.new) (M.rest maker.old)) }
@@ -51,6 +37,22 @@ pub fn give_all<M: Maker, K: Sink>(maker: &mut M, out: &mut K) -> Result<(), Sto
     'pieces: while maker.give(&mut room) {
         push_piece(out, room.as_slice())?;
         room.clear();
+    }
+    Ok(())
+}
+
+/// Pushes a text, piece by piece.
+pub(crate) fn give_text<K: Sink>(text: &[u8], out: &mut K) -> Result<(), Stop>
+    ensures all { OnOk result (Appends (K.written out.old) (K.written out.new) text.now) }
+    ensures front { OnErr result (AppendsFront (K.written out.old) (K.written out.new) text.now) }
+    ensures why { IfErr result (λ stop. stop ≡ Stop.WriteFault) }
+    ensures cause { HasOutCause (K.faults out.old) (K.faults out.new) result }
+{
+    let mut at = 0;
+    'pieces: while at < text.len() {
+        let end = text.len().min(at + PIECE);
+        push_piece(out, &text[at..end])?;
+        at = end;
     }
     Ok(())
 }

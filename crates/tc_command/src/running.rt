@@ -21,24 +21,10 @@ use crate::output::Output;
 use crate::stop::Stop;
 use tc_io::{Sink, Source};
 
-/// Works a command along its input. What was pulled is worked on before the next pull, but for the last few bytes where
-/// they are too few, and what it brought is pushed.
-pub fn run<E: Engine, S: Source, K: Sink>(
-    engine: &mut E,
-    source: &mut S,
-    out: &mut K,
-) -> Result<(), Stop>
-    requires going { E.is_going engine.old }
-    requires new { E.stands engine.old [] [] }
-    requires reads { Meaning.reads (E.meaning (E.choice engine.old)) ≡ true }
-    ensures { IsWorked (E.meaning (E.choice engine.old)) S.left S.ends S.faults K.written K.faults
-        source.old source.new out.old out.new result }
-{
-    run_behind(&[], engine, source, out)
-}
-
-/// The same of a command that writes these bytes before the first one of its input comes, as a header.
-pub fn run_behind<E: Engine, S: Source, K: Sink>(
+/// Works an engine along its input, behind bytes that are written before the first one of the input comes. What was
+/// pulled is worked on before the next pull, but for the last few bytes where they are too few, and what it brought is
+/// pushed.
+pub(crate) fn run<E: Engine, S: Source, K: Sink>(
     first: &[u8],
     engine: &mut E,
     source: &mut S,

@@ -1,3 +1,4 @@
+mod OneCommand
 mod Examples
 mod FormsWritten
 mod LabelsHeard

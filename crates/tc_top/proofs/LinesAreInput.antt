@@ -2,7 +2,7 @@
 use Rattle.std.proofs.Common.{Some, None, ap, length}
 use Rattle.std.specs.Prelude.{if◌then◌else◌}
 use Rattle.std.specs.Option.{option_map}
-use Rattle.line_file.specs.declared.fault.LineFileFault.TheVariants as fault
+use Rattle.file_faults.specs.declared.lines.LineFileFault.TheVariants as fault
 use Rattle.line_file.specs.LineFile.{Reading}
 use Rattle.tc_job.specs.LineStripe.{LineStriping}
 use Rattle.tc_command.specs.declared.input_fault.InputFault.TheVariants.{Lines}

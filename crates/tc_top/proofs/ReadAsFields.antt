@@ -2,14 +2,14 @@
 use Rattle.std.proofs.Common.{◌≡◌, ℕ, List, None, ap, subst, ◌∙◌}
 use Rattle.std.specs.Option.{option_map}
 use Rattle.std.specs.Prelude.{if◌then◌else◌, length, Some}
-use Rattle.line_file.specs.declared.fault.LineFileFault.TheVariants as fault
+use Rattle.file_faults.specs.declared.lines.LineFileFault.TheVariants as fault
 use Rattle.line_file.specs.Answers.{AreAnswersOf}
 use Rattle.line_file.specs.LineFile.{reading_of, Reading}
 use Rattle.signal_commands.specs.LumaVitc.{along_pixels, told_luma_vitc, ReadsThePixels}
 use Rattle.signal_commands.specs.VitcRead.{field_report}
 use Rattle.tc_command.specs.declared.input_fault.InputFault.TheVariants.{Lines}
 use Rattle.tc_command.specs.Meaning.{Meaning, IsInput}
-use Rattle.tc_command.specs.Told.{IsTold}
+use Rattle.tc_command.specs.Told.{KeepsPromise}
 use Rattle.tc_io.specs.Bytes.{AreBytes}
 use Rattle.tc_io.specs.Verdict.{verdict_as}
 use Rattle.tc_job.specs.LumaRun.{LumaReading}
@@ -22,11 +22,11 @@ pub record AnswersLaws : Type 0 where
   pub one : (bytes : List ℕ) (a b : List FieldAnswer) → AreAnswersOf (reading_of bytes) a
       → AreAnswersOf (reading_of bytes) b → a ≡ b
 
-pub read_as_fields : AnswersLaws → (luma : LumaReading) → IsTold (told_luma_vitc luma) → (pulled written : List ℕ)
+pub read_as_fields : AnswersLaws → (luma : LumaReading) → KeepsPromise (told_luma_vitc luma) → (pulled written : List ℕ)
     → AreBytes pulled → IsInput (along_pixels luma) pulled → Meaning.output (along_pixels luma) pulled written
     → IsReadAsFields luma pulled written
-read_as_fields laws luma told pulled written are input output =
-    let pixels : ReadsThePixels luma pulled written = told.kept pulled written are input output in
+read_as_fields laws luma kept pulled written are input output =
+    let pixels : ReadsThePixels luma pulled written = kept pulled written are input output in
     let answers = laws.some written in
     record {
       pixels = pixels;

@@ -18,7 +18,7 @@ use Rattle.tc_job.specs.LumaRun.{LumaReading}
 use Rattle.tc_job.specs.PathSlicing.{IsPathSlicing, SlicesPath}
 use Rattle.tc_job.specs.TrackPath.{SlicesTrackPath}
 use Rattle.tc_command.specs.Meaning.{Meaning, IsInput}
-use Rattle.tc_command.specs.Told.{IsTold}
+use Rattle.tc_command.specs.Told.{KeepsPromise}
 use Rattle.pcm_front.specs.Samples.{samples_of}
 use Rattle.signal_commands.specs.LumaVitc.{told_luma_vitc}
 use Rattle.signal_commands.specs.PathFile.{IsPathRead, IsTrackPathRead}
@@ -72,7 +72,7 @@ copy_is_reported laws j pulled written = λ clean text few output.
 
 pub read_on : ReadOnLaws → (job : Job) → ((level : ℕ) → job ≡ LtcPcm level → level < 2 ^ 15)
     → ((path : SlicesPath) → job ≡ PcmPath path → IsPathSlicing path)
-    → ((luma : LumaReading) → job ≡ LumaVitc luma → IsTold (told_luma_vitc luma)) → IsReadOn job
+    → ((luma : LumaReading) → job ≡ LumaVitc luma → KeepsPromise (told_luma_vitc luma)) → IsReadOn job
 read_on laws (LtcMtc flight) level path told = λ pulled written are input output.
     sends_the_frames laws.back laws.labels flight pulled written output
 read_on laws (LtcJam jam) level path told = λ pulled written are input output. copy_is_reported laws jam pulled written

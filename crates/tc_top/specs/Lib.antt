@@ -5,6 +5,7 @@ pub mod Exit
 pub mod FieldsAgain
 pub mod FormsTyped
 pub mod LabelsAgain
+pub mod LinesTold
 pub mod PagesTold
 pub mod Promises
 pub mod SentAgain

@@ -1,23 +1,31 @@
 //! What follows from the definitions alone.
-ghost use Rattle.std.specs.Prelude.{◌≡◌, List, ℕ, ◌++◌, map, false, Ok, Err};
+ghost use Rattle.std.specs.Prelude.{◌≡◌, List, ℕ, [], ◌++◌, map, false, Ok, Err};
 ghost use Rattle.biphase.specs.Chain.{flat};
+ghost use Rattle.tc_job.specs.declared.fault.WordsFault.{WordsFault};
 ghost use Rattle.tc_job.specs.declared.job.Job.{Job};
 ghost use Rattle.tc_job.specs.LineStripe.{IsLineStripe, LineStriping};
 ghost use Rattle.tc_job.specs.Stripe.{IsStripe, Striping};
 ghost use Rattle.vitc_reader.specs.declared.field.FieldAnswer.{FieldAnswer};
+ghost use Rattle.tc_command.specs.declared.input_fault.InputFault.{InputFault};
 ghost use Rattle.tc_command.specs.declared.status.Status.{Status};
+ghost use Rattle.tc_command.specs.declared.stop.Stop.{Stop};
+ghost use Rattle.tc_command.specs.Exchange.{Exchange};
 ghost use Rattle.tc_command.specs.Meaning.{Meaning, IsInput};
 ghost use Rattle.tc_command.specs.Command.{IsCommand};
+ghost use Rattle.tc_command.specs.Notes.{stop_note, usage_note};
 ghost use Rattle.tc_command.specs.Told.{Told};
 ghost use Rattle.tc_command.specs.WholeInput.{HasStatus, status_by};
 ghost use Rattle.interval_commands.specs.LtcRead.{last_line, lines};
 ghost use Rattle.made_commands.specs.Made.{made, made_cells, made_events, made_header};
 ghost use Rattle.made_commands.specs.MadeLines.{made_lines, made_words};
 ghost use Rattle.signal_commands.specs.VitcRead.{field_report};
+ghost use Rattle.tc_words.specs.Words.{answer_to};
 ghost use Rattle.tc_top.specs.declared.exit.NoArguments.{NoArguments};
 ghost use Rattle.tc_top.specs.declared.exit.TheConstants.{NO_ARGUMENTS};
 ghost use Rattle.tc_top.specs.Exit.{exit_number};
+ghost use Rattle.tc_top.specs.Answer.{EndsBy, IsRunAnswer};
 ghost use Rattle.tc_top.specs.Commands.{meaning_of, told_of};
+ghost use Rattle.tc_top.specs.LinesTold.{RecordingsAreWorked, SignalsAreWorked, TextsAreWorked};
 
 use crate::streaming::each_job_is_lawful;
 use direction_reader::laws::a_list_has_one_list_of_events;
@@ -35,6 +43,23 @@ pub fn exit_numbers_are_these()
     ensures limit { exit_number (Ok Status.Limit) ≡ 7 }
     ensures no_arguments { exit_number (Err NoArguments.Other) ≡ 8 }
     ensures eight { NO_ARGUMENTS ≡ 8 }
+{}
+
+/// Words that name no task are noted with their fault, and a refused input with its own; of a job that is done nothing
+/// is noted.
+pub fn each_end_is_noted()
+    ensures usage { (words : List (List ℕ)) (e : Exchange) → IsRunAnswer words Status.Usage e → (fault : WordsFault)
+        × (answer_to words ≡ Err fault) × (e.note ≡ usage_note fault) × (e.pulled ≡ []) × (e.written ≡ []) }
+    ensures refused { (job : Job) (e : Exchange) → EndsBy job Status.Refused e → (fault : InputFault)
+        × (e.note ≡ stop_note (Stop.Refused fault)) }
+    ensures done { (job : Job) (e : Exchange) → EndsBy job Status.Done e → e.note ≡ [] }
+{}
+
+/// The words of each command work it, with their values.
+pub fn each_line_works_its_command()
+    ensures recordings { RecordingsAreWorked }
+    ensures signals { SignalsAreWorked }
+    ensures texts { TextsAreWorked }
 {}
 
 /// What holds of every command holds of each job: what it writes of some bytes comes first, whatever bytes

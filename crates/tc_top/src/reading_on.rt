@@ -1,6 +1,6 @@
 //! What a further command makes of what a job wrote is what is promised of it. Read next: `laws`.
 ghost use Rattle.std.specs.Prelude.{◌≡◌, ℕ, ◌<◌, ◌^◌};
-ghost use Rattle.tc_command.specs.Told.{IsTold};
+ghost use Rattle.tc_command.specs.Told.{KeepsPromise};
 ghost use Rattle.tc_job.specs.declared.job.Job.{Job};
 ghost use Rattle.tc_job.specs.LumaRun.{LumaReading};
 ghost use Rattle.tc_job.specs.PathSlicing.{IsPathSlicing, SlicesPath};
@@ -19,9 +19,10 @@ use pcm_front::laws::{
     samples_are_read_as_they_were_written, sums_of_one_are_the_samples,
 };
 use quarter_frame::laws::what_is_sent_is_read_back;
+use signal_commands::LumaVitc;
 use signal_commands::path_laws::the_file_of_a_path_is_read;
-use signal_commands::pixels_are_told;
 use tc_address::laws::number_and_label_are_inverse;
+use tc_command::Command;
 use tc_job::Job;
 use tc_words::laws::{
     each_command_has_its_usage, each_form_is_taken, each_page_tells_what_is_read,
@@ -75,11 +76,11 @@ fn has_a_path(job: &Job)
     }
 }
 
-/// What is told of the pixels of a job holds.
+/// What is promised of the pixels of a job is kept.
 fn has_told_pixels(job: &Job)
-    ensures { (luma : LumaReading) → job.now ≡ Job.LumaVitc luma → IsTold (told_luma_vitc luma) }
+    ensures { (luma : LumaReading) → job.now ≡ Job.LumaVitc luma → KeepsPromise (told_luma_vitc luma) }
 {
     if let Job::LumaVitc { run } = job {
-        pixels_are_told(run);
+        LumaVitc { run: *run }.keeps_its_promise();
     }
 }

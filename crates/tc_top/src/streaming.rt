@@ -13,33 +13,19 @@ ghost use Rattle.tc_command.specs.Told.{IsLawful, IsTold, WorksAsTold};
 ghost use Rattle.tc_top.specs.Commands.{meaning_of, told_of};
 
 use crate::reading_on::it_is_read_on;
-use biphase::Profile;
-use column_command::{answer_columns, columns_are_lawful};
-use frame_commands::{
-    chase_code, copies_are_lawful, flown_frames_are_lawful, fly_along, jam_sync,
-    messages_are_lawful, send_time_code, spans_are_lawful, tell_spans, traces_are_lawful,
-};
-use interval_commands::{
-    conversions_are_lawful, convert_recording, firm_reports_are_lawful, made_sound_is_lawful,
-    read_consecutively, read_counting, read_firmly, read_recording, reports_are_lawful,
-    sound_recording,
-};
-use label_command::{add_labels, answer_labels, labels_are_lawful, sums_are_lawful};
+use biphase::Profile::{Normal, Rough, Worn};
+use column_command::Columns;
+use frame_commands::{LtcChase, LtcFly, LtcJam, LtcMtc, LtcSpans};
+use interval_commands::{LtcConsecutive, LtcConvert, LtcCounted, LtcFirm, LtcPcm, LtcRead};
+use label_command::{Labels, Sum};
 use made_commands::{
-    line_stripes_are_lawful, loads_are_lawful, make_lines, make_recording, names_are_lawful,
-    numbers_are_lawful, stripes_are_lawful, tell_help, tell_label, tell_load, tell_number,
-    tell_page, tell_statuses, tell_version,
+    Help, HelpOf, HelpStatuses, LabelOf, LtcLoad, LtcMake, Number, Version, VitcMake,
 };
-use signal_commands::laws::{
-    each_signal_makes_a_command, paths_are_lawful, sliced_sound_is_lawful,
-};
-use signal_commands::{
-    fields_are_lawful, hear_path, hear_track, midi_is_lawful, pixels_are_lawful, read_fields,
-    read_midi, read_pixels, slice_sound, slice_track, sliced_tracks_are_lawful,
-};
-use tc_command::{Status, Stop, push_note, stop_note};
+use signal_commands::{LumaVitc, MtcRead, PcmLtc, PcmPath, VitcRead, WavLtc, WavPath};
+use tc_command::{Command, Status, Stop, push_note, stop_note, work};
 use tc_io::{Sink, Source};
-use tc_job::{Job, Witness};
+use tc_job::Job;
+use tc_job::Witness::{Asked, Consecutive, Counted, NotAsked};
 
 /// Works a job along its input, in fixed memory. It never answers `Usage` or `Memory`.
 pub fn stream<S: Source, K: Sink, N: Sink>(
@@ -91,30 +77,36 @@ pub fn stream<S: Source, K: Sink, N: Sink>(
 pub(crate) fn each_job_is_lawful()
     ensures { (job : Job) → IsLawful (told_of job) }
 {
-    reports_are_lawful();
-    firm_reports_are_lawful();
-    flown_frames_are_lawful();
-    spans_are_lawful();
-    messages_are_lawful();
-    copies_are_lawful();
-    traces_are_lawful();
-    stripes_are_lawful();
-    conversions_are_lawful();
-    loads_are_lawful();
-    made_sound_is_lawful();
-    sliced_tracks_are_lawful();
-    midi_is_lawful();
-    sliced_sound_is_lawful();
-    fields_are_lawful();
-    paths_are_lawful();
-    pixels_are_lawful();
-    each_signal_makes_a_command();
-    line_stripes_are_lawful();
-    numbers_are_lawful();
-    names_are_lawful();
-    labels_are_lawful();
-    columns_are_lawful();
-    sums_are_lawful();
+    LtcRead::is_lawful();
+    LtcFirm::is_lawful();
+    LtcConsecutive::is_lawful();
+    LtcCounted::is_lawful();
+    LtcFly::is_lawful();
+    LtcSpans::is_lawful();
+    LtcMtc::is_lawful();
+    LtcJam::is_lawful();
+    LtcChase::is_lawful();
+    LtcMake::is_lawful();
+    LtcConvert::is_lawful();
+    LtcLoad::is_lawful();
+    LtcPcm::is_lawful();
+    PcmLtc::is_lawful();
+    PcmPath::is_lawful();
+    WavLtc::is_lawful();
+    WavPath::is_lawful();
+    MtcRead::is_lawful();
+    VitcRead::is_lawful();
+    LumaVitc::is_lawful();
+    VitcMake::is_lawful();
+    Number::is_lawful();
+    LabelOf::is_lawful();
+    Labels::is_lawful();
+    Columns::is_lawful();
+    Sum::is_lawful();
+    Help::is_lawful();
+    HelpOf::is_lawful();
+    HelpStatuses::is_lawful();
+    Version::is_lawful();
 }
 
 /// Works a job to its end, or to where it stops.
@@ -123,45 +115,39 @@ fn work_on<S: Source, K: Sink>(job: &Job, source: &mut S, out: &mut K) -> Result
         out.old out.new result }
 {
     match job {
-        Job::LtcRead => read_recording(Profile::Normal, source, out),
-        Job::LtcWorn => read_recording(Profile::Worn, source, out),
+        Job::LtcRead => work(&LtcRead { profile: Normal }, source, out),
+        Job::LtcWorn => work(&LtcRead { profile: Worn }, source, out),
+        Job::LtcRough { witness: NotAsked } => work(&LtcRead { profile: Rough }, source, out),
+        Job::LtcRough { witness: Asked } => work(&LtcFirm { profile: Rough }, source, out),
         Job::LtcRough {
-            witness: Witness::NotAsked,
-        } => read_recording(Profile::Rough, source, out),
-        Job::LtcRough {
-            witness: Witness::Asked,
-        } => read_firmly(Profile::Rough, source, out),
-        Job::LtcRough {
-            witness: Witness::Consecutive,
-        } => read_consecutively(Profile::Rough, source, out),
-        Job::LtcRough {
-            witness: Witness::Counted,
-        } => read_counting(Profile::Rough, source, out),
-        Job::LtcFly { flight } => fly_along(*flight, source, out),
-        Job::LtcSpans { flight } => tell_spans(*flight, source, out),
-        Job::LtcMtc { flight } => send_time_code(*flight, source, out),
-        Job::LtcJam { jam } => jam_sync(*jam, source, out),
-        Job::LtcChase { run } => chase_code(*run, source, out),
-        Job::LtcMake { stripe } => make_recording(stripe, source, out),
-        Job::LtcConvert { version } => convert_recording(*version, source, out),
-        Job::LtcLoad { run } => tell_load(run, source, out),
-        Job::LtcPcm { level } => sound_recording(*level, source, out),
-        Job::PcmLtc { slicing } => slice_sound(slicing, source, out),
-        Job::PcmPath { path } => hear_path(path, source, out),
-        Job::WavLtc { slicing } => slice_track(slicing, source, out),
-        Job::WavPath { path } => hear_track(path, source, out),
-        Job::MtcRead => read_midi(source, out),
-        Job::VitcRead => read_fields(source, out),
-        Job::LumaVitc { run } => read_pixels(run, source, out),
-        Job::VitcMake { stripe } => make_lines(stripe, source, out),
-        Job::Number { label } => tell_number(label, source, out),
-        Job::LabelOf { label } => tell_label(label, source, out),
-        Job::Labels { run } => answer_labels(run, source, out),
-        Job::Columns { run } => answer_columns(run, source, out),
-        Job::Sum { base } => add_labels(*base, source, out),
-        Job::Help => tell_help(source, out),
-        Job::HelpOf { page } => tell_page(*page, source, out),
-        Job::HelpStatuses => tell_statuses(source, out),
-        Job::Version => tell_version(source, out),
+            witness: Consecutive,
+        } => work(&LtcConsecutive { profile: Rough }, source, out),
+        Job::LtcRough { witness: Counted } => work(&LtcCounted { profile: Rough }, source, out),
+        Job::LtcFly { flight } => work(&LtcFly { flight: *flight }, source, out),
+        Job::LtcSpans { flight } => work(&LtcSpans { flight: *flight }, source, out),
+        Job::LtcMtc { flight } => work(&LtcMtc { flight: *flight }, source, out),
+        Job::LtcJam { jam } => work(&LtcJam { jam: *jam }, source, out),
+        Job::LtcChase { run } => work(&LtcChase { run: *run }, source, out),
+        Job::LtcMake { stripe } => work(&LtcMake { stripe: *stripe }, source, out),
+        Job::LtcConvert { version } => work(&LtcConvert { version: *version }, source, out),
+        Job::LtcLoad { run } => work(&LtcLoad { run: *run }, source, out),
+        Job::LtcPcm { level } => work(&LtcPcm { level: *level }, source, out),
+        Job::PcmLtc { slicing } => work(&PcmLtc { slicing: *slicing }, source, out),
+        Job::PcmPath { path } => work(&PcmPath { path: *path }, source, out),
+        Job::WavLtc { slicing } => work(&WavLtc { slicing: *slicing }, source, out),
+        Job::WavPath { path } => work(&WavPath { path: *path }, source, out),
+        Job::MtcRead => work(&MtcRead, source, out),
+        Job::VitcRead => work(&VitcRead, source, out),
+        Job::LumaVitc { run } => work(&LumaVitc { run: *run }, source, out),
+        Job::VitcMake { stripe } => work(&VitcMake { stripe: *stripe }, source, out),
+        Job::Number { label } => work(&Number { label: *label }, source, out),
+        Job::LabelOf { label } => work(&LabelOf { label: *label }, source, out),
+        Job::Labels { run } => work(&Labels { run: *run }, source, out),
+        Job::Columns { run } => work(&Columns { run: *run }, source, out),
+        Job::Sum { base } => work(&Sum { base: *base }, source, out),
+        Job::Help => work(&Help, source, out),
+        Job::HelpOf { page } => work(&HelpOf { page: *page }, source, out),
+        Job::HelpStatuses => work(&HelpStatuses, source, out),
+        Job::Version => work(&Version, source, out),
     }
 }

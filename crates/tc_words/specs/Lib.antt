@@ -1,3 +1,4 @@
+pub mod AnsweredWords
 pub mod Forms
 pub mod NumberLemmas
 pub mod Pages

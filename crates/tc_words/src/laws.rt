@@ -1,10 +1,16 @@
-//! The table of usages beside the commands.
+//! What words are answered, and the table of usages beside the commands.
 ghost use Rattle.std.specs.Prelude.{◌≡◌, true};
+ghost use Rattle.tc_words.specs.AnsweredWords.{AreAnswered, answered_words};
 ghost use Rattle.tc_words.specs.Forms.{AreTaken, are_once, rows};
 ghost use Rattle.tc_words.specs.Pages.{AreNamed, are_examples_taken, are_shown, are_values_read};
 ghost use Rattle.tc_words.specs.Usages.{HaveUsages, are_commands};
 
 use tc_address::laws::number_and_label_are_inverse;
+
+/// Words are answered so, worked out by hand: their task, or the first fault and its place.
+pub fn words_are_answered_so()
+    ensures { AreAnswered answered_words }
+{}
 
 /// The table of usages has a row for each command, and no other.
 pub fn each_command_has_its_usage()

@@ -22,7 +22,7 @@ use Rattle.wave_file.specs.Step.{with_samples, IsPast}
 use Rattle.wave_file.specs.Wave.{Reading, bytes_inside, data_at, may_end_at}
 use Rattle.tc_io.specs.Verdict.{Verdict, good, past_limit}
 use Rattle.wave_file.proofs.Pieces.{nat_le_same}
-use Rattle.wave_file.specs.declared.fault.WaveFault.{WaveFault}
+use Rattle.file_faults.specs.declared.sound.WaveFault.{WaveFault}
 use Rattle.wave_file.specs.declared.format.Asked.{Asked}
 
 pub same_reading : (f : Option WaveFormat) (s t : List ℤ) (v w : Verdict WaveFault) (m n : Bool) → s ≡ t → v ≡ w → m ≡ n

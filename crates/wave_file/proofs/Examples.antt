@@ -1,6 +1,6 @@
 -- Sound files worked byte by byte, from the tables of EBU Tech 3285 and ITU-R BS.2088.
 use Rattle.std.proofs.Common.{◌≡◌, ℕ, ◌^◌, ◌*◌, ◌/◌, ◌%◌, pos, neg_ℤ, List, [], ◌∷◌, ◌++◌, refl}
-use Rattle.wave_file.specs.declared.fault.WaveFault.TheVariants as fault
+use Rattle.file_faults.specs.declared.sound.WaveFault.TheVariants as fault
 use Rattle.wave_file.specs.declared.format.Asked.{Asked}
 use Rattle.wave_file.specs.declared.format.WaveFormat.{WaveFormat}
 use Rattle.wave_file.specs.Format.{samples_at}

@@ -12,8 +12,8 @@ use Rattle.wave_file.specs.declared.chunk.Chunk.TheVariants as chunk
 use Rattle.wave_file.specs.declared.chunk.Extent.{Extent}
 use Rattle.wave_file.specs.declared.chunk.Notes.{Notes}
 use Rattle.wave_file.specs.declared.chunk.TheConstants.{DATA, FORMAT, SIZES, WAVE}
-use Rattle.wave_file.specs.declared.fault.WaveFault.{WaveFault}
-use Rattle.wave_file.specs.declared.fault.WaveFault.TheVariants as fault
+use Rattle.file_faults.specs.declared.sound.WaveFault.{WaveFault}
+use Rattle.file_faults.specs.declared.sound.WaveFault.TheVariants as fault
 use Rattle.wave_file.specs.declared.format.WaveFormat.{WaveFormat}
 use Rattle.wave_file.specs.declared.stage.TheConstants.{MAX_BYTES}
 use Rattle.wave_file.specs.Chunk.{chunk_of, data_in, data_with, extent_of, form_of, no_notes}

@@ -10,7 +10,7 @@ use Rattle.std.proofs.Math.Seq.{take-append_seam, drop-append_seam}
 use Rattle.byteorder.specs.Endian.{big_number, little_number}
 use Rattle.wave_file.specs.declared.chunk.Chunk.{Chunk}
 use Rattle.wave_file.specs.declared.chunk.Notes.{Notes}
-use Rattle.wave_file.specs.declared.fault.WaveFault.{WaveFault}
+use Rattle.file_faults.specs.declared.sound.WaveFault.{WaveFault}
 use Rattle.wave_file.specs.declared.format.WaveFormat.{WaveFormat}
 use Rattle.wave_file.specs.Format.{format_in}
 use Rattle.wave_file.specs.Chunk.{chunk_of}

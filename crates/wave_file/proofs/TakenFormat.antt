@@ -3,7 +3,7 @@ use Rattle.std.proofs.Common.{true, false, ◌≡◌, ℕ, ◌*◌, ◌/◌, ◌
 use Rattle.std.specs.Prelude.{nat_lt, ◌==◌, if◌then◌else◌}
 use Rattle.std.proofs.lemmas.Bool.{and_parts, or_cases, leb-true, ltb-false, eqb-true}
 use Rattle.std.proofs.lemmas.Nat.{mul-le}
-use Rattle.wave_file.specs.declared.fault.WaveFault.{WaveFault}
+use Rattle.file_faults.specs.declared.sound.WaveFault.{WaveFault}
 use Rattle.wave_file.specs.declared.format.WaveFormat.{WaveFormat}
 use Rattle.wave_file.specs.Format.{field_fault, is_rate, is_sample_size, is_track_count, IsTakenFor}
 use Rattle.wave_file.specs.declared.format.Asked.{Asked}

@@ -1,8 +1,8 @@
 -- The chunks of a sound file: what their letters and sizes say (EBU Tech 3285; ITU-R BS.2088 for sizes of 64 bits).
 use Rattle.std.specs.Prelude.{⊤, ◌≤◌, ℕ, zero, suc, Bool, true, false, not, ◌&&◌, ◌||◌, ◌==◌, nat_le, nat_lt}
 use Rattle.std.specs.Prelude.{if◌then◌else◌, Option, Some, None, Result, Ok, Err, IfSome}
-use Rattle.wave_file.specs.declared.fault.WaveFault.{WaveFault}
-use Rattle.wave_file.specs.declared.fault.WaveFault.TheVariants as fault
+use Rattle.file_faults.specs.declared.sound.WaveFault.{WaveFault}
+use Rattle.file_faults.specs.declared.sound.WaveFault.TheVariants as fault
 use Rattle.wave_file.specs.declared.format.WaveFormat.{WaveFormat}
 use Rattle.wave_file.specs.Format.{IsTakenFor}
 use Rattle.wave_file.specs.declared.chunk.Chunk.{Chunk}

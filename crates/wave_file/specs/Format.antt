@@ -5,8 +5,8 @@ use Rattle.std.specs.Prelude.{nat_le, nat_lt, if◌then◌else◌}
 use Rattle.std.specs.Prelude.{List, [], ◌∷◌, length, take, drop, slice_index, Option, Some, None, Result, Ok, Err}
 use Rattle.std.specs.Int.{w16, cast_signed}
 use Rattle.byteorder.specs.Endian.{little_number}
-use Rattle.wave_file.specs.declared.fault.WaveFault.{WaveFault}
-use Rattle.wave_file.specs.declared.fault.WaveFault.TheVariants as fault
+use Rattle.file_faults.specs.declared.sound.WaveFault.{WaveFault}
+use Rattle.file_faults.specs.declared.sound.WaveFault.TheVariants as fault
 use Rattle.wave_file.specs.declared.format.WaveFormat.{WaveFormat}
 use Rattle.wave_file.specs.declared.format.TheConstants.{MAX_RATE}
 use Rattle.wave_file.specs.declared.stage.TheConstants.{MAX_SAMPLES}

@@ -1,6 +1,6 @@
 -- What holds of whatever bytes say of a sound file, and what more bytes may change of it: nothing that is shown.
 use Rattle.std.specs.Prelude.{◌≡◌, ◌⊎◌, ◌≤◌, ℤ, false, List, [], ◌++◌, length, None}
-use Rattle.wave_file.specs.declared.fault.WaveFault.{WaveFault}
+use Rattle.file_faults.specs.declared.sound.WaveFault.{WaveFault}
 use Rattle.wave_file.specs.declared.format.Asked.{Asked}
 use Rattle.wave_file.specs.Wave.{Reading}
 use Rattle.tc_io.specs.Verdict.{refused, past_limit}

@@ -1,5 +1,4 @@
 pub mod Chunk
-pub mod Fault
 pub mod Format
 pub mod GoesOn
 pub mod Grammar

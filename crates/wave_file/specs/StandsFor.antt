@@ -5,7 +5,7 @@ use Rattle.wave_file.specs.declared.chunk.Extent.TheVariants as extent
 use Rattle.wave_file.specs.declared.chunk.Notes.{Notes}
 use Rattle.wave_file.specs.declared.decoder.Taken.{Taken}
 use Rattle.wave_file.specs.declared.decoder.Taken.TheVariants.{Few, Nothing, Begin, Samples, Fault, Limit}
-use Rattle.wave_file.specs.declared.fault.WaveFault.{WaveFault}
+use Rattle.file_faults.specs.declared.sound.WaveFault.{WaveFault}
 use Rattle.wave_file.specs.declared.format.Asked.{Asked}
 use Rattle.wave_file.specs.declared.format.WaveFormat.{WaveFormat}
 use Rattle.wave_file.specs.declared.stage.Stage.{Stage}

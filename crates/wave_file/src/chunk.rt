@@ -4,8 +4,8 @@ ghost use Rattle.wave_file.specs.Chunk.{chunk_of, data_in, extent_of, form_of, i
 ghost use Rattle.wave_file.specs.Chunk.{IsChunkFor, IsNoted};
 ghost use Rattle.wave_file.specs.declared.format.Asked.{Asked};
 
-use crate::fault::WaveFault;
 use crate::format::{MIN_FORMAT_LENGTH, WaveFormat};
+use file_faults::WaveFault;
 
 /// `RIFF`, as a number.
 pub const RIFF: u32 = 0x5249_4646;

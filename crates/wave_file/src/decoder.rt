@@ -13,12 +13,12 @@ ghost use Rattle.wave_file.specs.StandsFor.{AddsTaken, IsCut, IsTold, StandsFor,
 ghost use Rattle.wave_file.specs.Wave.{end_fault_of, reading_of};
 
 use crate::chunk::{Extent, Notes};
-use crate::fault::WaveFault;
 use crate::format::{Asked, WaveFormat};
 use crate::sample::sample_in;
 use crate::stage::{
     Ahead, MAX_BYTES, Stage, Step, behind, data_stage, next_in, step_over, width_of,
 };
+use file_faults::WaveFault;
 use std::marker::Model;
 
 /// What bytes bring.

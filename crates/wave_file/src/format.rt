@@ -3,8 +3,8 @@ ghost use Rattle.std.specs.Prelude.{◌≡◌, ◌≤◌, ◌^◌, ◌<◌, ◌+
 ghost use Rattle.wave_file.specs.Format.{field_fault, format_in, format_of, is_pcm};
 ghost use Rattle.wave_file.specs.Format.{is_sample_size, is_track_count, is_rate, IsAsked, IsTakenFor};
 
-use crate::fault::WaveFault;
 use byteorder::{ByteOrder, LittleEndian};
+use file_faults::WaveFault;
 use limits::MAX_TRACKS;
 
 /// The highest rate, in samples a second: 16 ticks a sample make 100,000,000 ticks a second.

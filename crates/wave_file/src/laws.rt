@@ -1,13 +1,12 @@
 //! The numbers that code and definitions share, as the standards give them; and what follows from the
 //! definitions alone.
 ghost use Rattle.std.specs.Prelude.{◌≡◌, ◌≤◌, ◌-◌, ◌^◌, ℕ, ℤ, true, false, List, [], ◌∷◌, ◌++◌};
-ghost use Rattle.std.specs.Prelude.{codes, length, Some};
+ghost use Rattle.std.specs.Prelude.{length, Some};
 ghost use Rattle.byteorder.specs.Endian.{big_number};
 ghost use Rattle.wave_file.specs.declared.chunk.TheConstants as chunk;
 ghost use Rattle.wave_file.specs.declared.format.Asked.{Asked};
 ghost use Rattle.wave_file.specs.declared.format.WaveFormat.{WaveFormat};
 ghost use Rattle.wave_file.specs.declared.format.TheConstants.{MAX_RATE};
-ghost use Rattle.wave_file.specs.declared.names.TheConstants as names;
 ghost use Rattle.wave_file.specs.declared.stage.TheConstants.{MAX_BYTES, MAX_PIECE, MAX_SAMPLES};
 ghost use Rattle.wave_file.specs.Chunk.{is_open, is_open_size, no_notes};
 ghost use Rattle.wave_file.specs.GoesOn.{GoesOn, IsWithin};
@@ -52,16 +51,6 @@ pub fn these_sizes_tell_no_length()
     ensures header { is_open (no_notes false 36) 36 0 ≡ true }
     ensures more { is_open (no_notes false 37) 36 0 ≡ false }
     ensures some { is_open (no_notes false 36) 36 1 ≡ false }
-{}
-
-/// The faults of a sound file have these names in notes.
-pub fn each_fault_has_its_name()
-    ensures riff { names.RIFF_NAME.now ≡ codes "riff" }
-    ensures wave { names.WAVE_NAME.now ≡ codes "wave" }
-    ensures ds64 { names.DS64_NAME.now ≡ codes "ds64" }
-    ensures format { names.FORMAT_NAME.now ≡ codes "format" }
-    ensures track { names.TRACK_NAME.now ≡ codes "track" }
-    ensures truncated { names.TRUNCATED_NAME.now ≡ codes "truncated" }
 {}
 
 /// Bytes that a decoder took are good; its format is theirs, and the samples that it gave are theirs.

@@ -18,20 +18,17 @@
 //! - A file that was made of samples is read as these, whatever other chunks it has, in each size of samples
 //!   (`specs/Grammar.antt`, `file_of` and `long_file_of`; `laws::a_file_is_read_as_it_was_written`).
 //!
-//! Read `fault`, `format`, `sample`, `chunk`, `stage` and `decoder`, in this order, and `specs/Grammar.antt`
+//! Read `format`, `sample`, `chunk`, `stage` and `decoder`, in this order, and `specs/Grammar.antt`
 //! and `Wave.antt` beside them. Nothing here allocates.
 #![tactic(auto)]
 
 mod chunk;
 mod decoder;
-mod fault;
 mod format;
 pub mod laws;
-mod names;
 mod sample;
 mod stage;
 
 pub use decoder::{Taken, WaveDecoder};
-pub use fault::WaveFault;
 pub use format::{Asked, MAX_RATE, WaveFormat};
 pub use stage::{MAX_BYTES, MAX_SAMPLES};

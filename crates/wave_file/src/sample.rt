@@ -1,4 +1,4 @@
-//! The sample of a track in a block. Read next: `fault`.
+//! The sample of a track in a block. Read next: `file_faults/src/sound.rt`.
 ghost use Rattle.std.specs.Prelude.{◌≡◌, ◌≤◌, length};
 ghost use Rattle.wave_file.specs.Format.{sample_in, IsTakenFor};
 

@@ -12,9 +12,9 @@ ghost use Rattle.wave_file.specs.declared.chunk.Notes.{Notes};
 ghost use Rattle.wave_file.specs.declared.format.Asked.{Asked};
 
 use crate::chunk::{Chunk, Extent, Notes, SIZES_LENGTH, WAVE, chunk_of, form_of};
-use crate::fault::WaveFault;
 use crate::format::{Asked, FORMAT_LENGTH, WaveFormat, format_in};
 use byteorder::{BigEndian, ByteOrder, LittleEndian};
+use file_faults::WaveFault;
 
 /// How many bytes are read, at most: more than any store holds.
 pub const MAX_BYTES: u64 = 4_611_686_018_427_387_904;

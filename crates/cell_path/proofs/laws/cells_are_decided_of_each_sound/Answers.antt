@@ -1,4 +1,5 @@
-use Rattle.cell_path.proofs.BestExists.{best_exists, some_decided, some_in_all}
+use Rattle.cell_path.proofs.BestExists.{best_exists}
+use Rattle.cell_path.proofs.UnfinishedExists.{some_decided, some_in_all}
 use Rattle.cell_path.proofs.laws.cells_are_decided_of_each_sound.Goals as goal
 
 pub returns-clause-best : goal.returns-clause-best

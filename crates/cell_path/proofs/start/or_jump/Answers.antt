@@ -7,7 +7,7 @@ use Rattle.cell_path.specs.StandsFor.{steps_at}
 use Rattle.cell_path.proofs.BestBeginning.{jump_best}
 use Rattle.cell_path.proofs.BestEnd.{bit_at}
 use Rattle.cell_path.proofs.LengthsOfCells.{length_bounds}
-use Rattle.cell_path.proofs.NearScores.{steps_before}
+use Rattle.cell_path.proofs.LowScores.{steps_before}
 use Rattle.cell_path.proofs.StartOfCells.{behind, best_is_end, level_kept, or_way, some_step}
 use Rattle.cell_path.proofs.start.or_jump.Goals as goal
 

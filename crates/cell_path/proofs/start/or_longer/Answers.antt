@@ -8,7 +8,7 @@ use Rattle.cell_path.specs.Path.{level_at}
 use Rattle.cell_path.specs.StandsFor.{steps_at}
 use Rattle.cell_path.proofs.BestBeginning.{longer_best}
 use Rattle.cell_path.proofs.LengthsOfCells.{length_bounds}
-use Rattle.cell_path.proofs.NearScores.{steps_before}
+use Rattle.cell_path.proofs.LowScores.{steps_before}
 use Rattle.cell_path.proofs.StartOfCells.{behind, level_kept, or_way, some_step}
 use Rattle.cell_path.proofs.start.or_longer.Goals as goal
 

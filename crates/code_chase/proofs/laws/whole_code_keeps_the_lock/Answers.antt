@@ -1,4 +1,4 @@
-use Rattle.code_chase.proofs.CausesOfALoss.{whole_near, whole_nearer, whole_no_loss}
+use Rattle.code_chase.proofs.WithoutAGap.{whole_near, whole_nearer, whole_no_loss}
 use Rattle.code_chase.proofs.laws.whole_code_keeps_the_lock.Goals as goal
 
 pub returns-clause-no_loss : goal.returns-clause-no_loss

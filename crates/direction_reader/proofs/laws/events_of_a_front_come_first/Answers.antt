@@ -1,6 +1,7 @@
 use Rattle.std.proofs.Common.{◌++◌, length, sum}
 use Rattle.direction_reader.proofs.FrontsFirst.{front_first}
-use Rattle.direction_reader.proofs.LaterEvents.{all_behind, all_later, events_behind}
+use Rattle.direction_reader.proofs.BehindFront.{all_behind, all_later}
+use Rattle.direction_reader.proofs.LaterEvents.{events_behind}
 use Rattle.direction_reader.proofs.laws.events_of_a_front_come_first.Goals as goal
 
 pub returns-clause-first : goal.returns-clause-first

@@ -1,5 +1,6 @@
 use Rattle.std.proofs.Common.{length, arith}
-use Rattle.mtc_reader.proofs.OneListOfMessages.{have_messages, one_list}
+use Rattle.mtc_reader.proofs.HaveMessages.{have_messages}
+use Rattle.mtc_reader.proofs.OneListOfMessages.{one_list}
 use Rattle.mtc_reader.proofs.laws.bytes_are_one_list_of_messages.Goals as goal
 
 pub returns-clause-some : goal.returns-clause-some

@@ -1,5 +1,5 @@
 use Rattle.path_front.proofs.GivenFirst.{given_first}
-use Rattle.path_front.proofs.SoFar.{given_first_at_end, given_first_so_far}
+use Rattle.path_front.proofs.Emptied.{given_first_at_end, given_first_so_far}
 use Rattle.path_front.proofs.laws.what_is_given_comes_first.Goals as goal
 
 pub returns-clause-in_all : goal.returns-clause-in_all

@@ -1,4 +1,5 @@
-use Rattle.path_truth.proofs.DecidedTape.{decided-tape, short-is-early}
+use Rattle.path_truth.proofs.DecidedTape.{decided-tape}
+use Rattle.path_truth.proofs.SoFarDecided.{short-is-early}
 use Rattle.path_truth.proofs.laws.a_short_tape_is_decided.Goals as goal
 
 pub returns : goal.returns

@@ -1,4 +1,4 @@
-use Rattle.tc_bits.proofs.FieldsOfATable.{are_exact}
+use Rattle.tc_bits.proofs.RowOfATable.{are_exact}
 use Rattle.tc_bits.proofs.laws.fields_are_exact.Goals as goal
 
 pub returns : goal.returns

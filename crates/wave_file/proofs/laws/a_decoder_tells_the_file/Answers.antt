@@ -1,4 +1,4 @@
-use Rattle.wave_file.proofs.Decoding.{told_taken}
+use Rattle.wave_file.proofs.Answered.{told_taken}
 use Rattle.wave_file.proofs.laws.a_decoder_tells_the_file.Goals as goal
 
 -- within the limit the bytes say what their file says

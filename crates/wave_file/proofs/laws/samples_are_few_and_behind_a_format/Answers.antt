@@ -1,4 +1,4 @@
-use Rattle.wave_file.proofs.WhatStays.{few_samples}
+use Rattle.wave_file.proofs.FewSamples.{few_samples}
 use Rattle.wave_file.proofs.laws.samples_are_few_and_behind_a_format.Goals as goal
 
 pub returns : goal.returns

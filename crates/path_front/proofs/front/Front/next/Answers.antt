@@ -2,7 +2,7 @@ use Rattle.std.proofs.Common.{refl, subst, sym}
 use Rattle.path_front.specs.Front.{FrontStandsFor}
 use Rattle.path_front.specs.Judging.{IsSettled}
 use Rattle.path_front.proofs.FrontNext.{settled_all}
-use Rattle.path_front.proofs.SoFar.{given_so_far}
+use Rattle.path_front.proofs.Emptied.{given_so_far}
 use Rattle.path_front.proofs.front.Front.next.Goals as goal
 
 pub returns-else-fill-clause-gives : goal.returns-else-fill-clause-gives

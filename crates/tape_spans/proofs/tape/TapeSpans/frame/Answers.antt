@@ -3,7 +3,7 @@ use Rattle.tape_spans.specs.StandsFor.{StandsFor, cut_lines}
 use Rattle.tape_spans.specs.Tape.{Tape}
 use Rattle.tape_spans.specs.SpanTexts.{final_lines}
 use Rattle.tape_spans.specs.declared.place.Cut.{Cut}
-use Rattle.tape_spans.proofs.FinalLines.{frame_adds}
+use Rattle.tape_spans.proofs.LinesOfFrames.{frame_adds}
 use Rattle.tape_spans.proofs.SpansGoOn.{stands_on}
 use Rattle.tape_spans.proofs.tape.TapeSpans.frame.Goals as goal
 

@@ -1,7 +1,7 @@
 use Rattle.std.proofs.Common.{arith, sym, subst, ◌∙◌, length, false}
 use Rattle.std.proofs.lemmas.Bool.{and_left, ne_eqb}
 use Rattle.wave_file.specs.StandsFor.{Decoding, IsCut, StandsFor, may_end_before}
-use Rattle.wave_file.proofs.Decoding.{ends_at}
+use Rattle.wave_file.proofs.Answered.{ends_at}
 use Rattle.wave_file.proofs.decoder.WaveDecoder.cut_off.Goals as goal
 
 -- inside a piece

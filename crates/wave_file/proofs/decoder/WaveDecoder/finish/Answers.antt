@@ -1,8 +1,8 @@
 use Rattle.std.proofs.Common.{◌≡◌, [], true, false, ℕ, List, ap, append-nil, arith, sym, subst, ◌∙◌, Some}
-use Rattle.wave_file.specs.declared.fault.WaveFault.TheVariants as fault
+use Rattle.file_faults.specs.declared.sound.WaveFault.TheVariants as fault
 use Rattle.wave_file.specs.StandsFor.{Decoding, StandsFor}
 use Rattle.wave_file.specs.Wave.{end_fault_of}
-use Rattle.wave_file.proofs.Decoding.{ends_at}
+use Rattle.wave_file.proofs.Answered.{ends_at}
 use Rattle.wave_file.proofs.decoder.WaveDecoder.finish.Goals as goal
 
 -- before bytes of this stage it may end

@@ -1,6 +1,6 @@
 use Rattle.std.proofs.Common.{subst, sym}
 use Rattle.wave_file.specs.StandsFor.{Decoding, StandsFor}
-use Rattle.wave_file.proofs.Decoding.{stage_taken, told_taken}
+use Rattle.wave_file.proofs.Answered.{stage_taken, told_taken}
 use Rattle.wave_file.proofs.decoder.WaveDecoder.format.Goals as goal
 
 -- the format of data that have begun is taken

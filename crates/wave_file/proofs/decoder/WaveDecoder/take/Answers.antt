@@ -1,6 +1,7 @@
 use Rattle.std.proofs.Common.{refl, sym, arith, subst}
 use Rattle.wave_file.specs.StandsFor.{Decoding, StandsFor}
-use Rattle.wave_file.proofs.Decoding.{few_wanted, passed_added, taken_whole, told_few, told_limit}
+use Rattle.wave_file.proofs.Answered.{few_wanted, told_few, told_limit}
+use Rattle.wave_file.proofs.Decoding.{passed_added, taken_whole}
 use Rattle.wave_file.proofs.decoder.WaveDecoder.take.Goals as goal
 
 -- a byte too many

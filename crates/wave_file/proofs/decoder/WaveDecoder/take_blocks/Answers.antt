@@ -1,4 +1,5 @@
-use Rattle.std.proofs.Common.{◌≡◌, ◌≤◌, ◌+◌, ◌-◌, ◌*◌, ◌/◌, ◌++◌, ℕ, ℤ, List, length, take, drop, ap, arith, subst, sym, ◌∙◌}
+use Rattle.std.proofs.Common.{◌≡◌, ◌≤◌, ◌+◌, ◌-◌, ◌*◌, ◌/◌, ◌++◌, ℕ, ℤ, List, length, take, drop, ap}
+use Rattle.std.proofs.Common.{arith, subst, sym, ◌∙◌}
 use Rattle.std.proofs.Math.Nat.{le-div_iff_mul-le}
 use Rattle.std.proofs.lemmas.List.{length-append, length-take-le}
 use Rattle.std.proofs.Math.Seq.{take-append_seam}
@@ -9,7 +10,8 @@ use Rattle.wave_file.specs.declared.stage.TheConstants.{MAX_BYTES}
 use Rattle.wave_file.specs.Format.{samples_at}
 use Rattle.wave_file.specs.Stage.{data_among, data_stage, HasBytes}
 use Rattle.wave_file.specs.StandsFor.{Decoding, StandsFor}
-use Rattle.wave_file.proofs.Decoding.{blocks_past, blocks_taken}
+use Rattle.wave_file.proofs.Answered.{blocks_past}
+use Rattle.wave_file.proofs.Decoding.{blocks_taken}
 use Rattle.wave_file.proofs.decoder.WaveDecoder.take_blocks.Goals as goal
 
 has_less : (extent : Extent) (a b : ℕ) → a ≤ b → HasBytes b extent → HasBytes a extent
@@ -34,7 +36,8 @@ returns-then-left-eq0-clause-stops c = λ front samples stands more.
     let d = c.self.inside in
     let s = subst (λ (x : Decoding). StandsFor x front samples) (sym c.self.view_is) stands in
     let a = c.args in
-    let ahead = subst (λ (x : Decoding). x.stage ≡ Data a.format a.extent a.left) (sym c.self.view_is) c.requires.data in
+    let stage = Data a.format a.extent a.left in
+    let ahead = subst (λ (x : Decoding). x.stage ≡ stage) (sym c.self.view_is) c.requires.data in
     let within = subst (λ (x : Decoding). x.place + a.most ≤ MAX_BYTES) (sym c.self.view_is) c.requires.within in
     rw (← c.self.view_is) (blocks_past d.asked d.notes d.place d.stage a.format a.extent a.left a.bytes.now front more
     samples ahead c.self.invariant.stage c.if-left-eq0.true (omega (arith, c.requires.whole, c.requires.there))
@@ -47,7 +50,8 @@ returns-clause-takes c =
     let a = c.args in
     let count = c.whole_blocks-samples.result in
     let e = c.whole_blocks-samples.ensures in
-    let ahead = subst (λ (x : Decoding). x.stage ≡ Data a.format a.extent a.left) (sym c.self.view_is) c.requires.data in
+    let stage = Data a.format a.extent a.left in
+    let ahead = subst (λ (x : Decoding). x.stage ≡ stage) (sym c.self.view_is) c.requires.data in
     let kept = rw ahead at c.self.invariant.stage in
     let size : length (take count a.room.now) ≡ count = length-take-le count a.room.now e.places in
     let placed : length c.read_blocks.new.places ≡ count = c.read_blocks.auto.places ∙ size in

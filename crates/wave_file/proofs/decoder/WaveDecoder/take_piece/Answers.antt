@@ -3,7 +3,8 @@ use Rattle.tc_io.specs.Verdict.{refused}
 use Rattle.wave_file.specs.declared.stage.TheConstants.{MAX_BYTES}
 use Rattle.wave_file.specs.Stage.{width_of}
 use Rattle.wave_file.specs.StandsFor.{Decoding, StandsFor}
-use Rattle.wave_file.proofs.Decoding.{piece_added, told_piece, told_bad}
+use Rattle.wave_file.proofs.Decoding.{piece_added}
+use Rattle.wave_file.proofs.Answered.{told_piece, told_bad}
 use Rattle.wave_file.proofs.decoder.WaveDecoder.take_piece.Goals as goal
 
 pub returns-in-Next-clause-takes : goal.returns-in-Next-clause-takes

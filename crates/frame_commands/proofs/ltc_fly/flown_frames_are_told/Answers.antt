@@ -1,9 +1,0 @@
-use Rattle.frame_commands.proofs.ToldOfFrames.{fly_is_told}
-use Rattle.frame_commands.proofs.ltc_fly.flown_frames_are_told.Goals as goal
-
-pub returns : goal.returns
-returns c = λ flight. fly_is_told (record {
-  marked = c.invention_is_bounded_and_marked.ensures.marked;
-  heard = c.invention_is_bounded_and_marked.ensures.heard;
-  tape = c.what_is_heard_tells_the_tape.ensures;
-}) flight (c.flown_frames_are_lawful.ensures flight)

@@ -1,9 +1,0 @@
-use Rattle.frame_commands.proofs.ToldOfFrames.{spans_are_lawful}
-use Rattle.frame_commands.proofs.ltc_spans.spans_are_lawful.Goals as goal
-
-pub returns : goal.returns
-returns c = spans_are_lawful (record {
-  grow = c.recordings_grow.ensures;
-  frames = c.what_is_made_of_frames_is_in_order.ensures;
-  one_list = c.what_is_heard_is_in_order.ensures;
-}) c.each_sink_of_frames_adds_in_order.ensures.spans

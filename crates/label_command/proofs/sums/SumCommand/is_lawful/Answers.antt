@@ -1,0 +1,13 @@
+use Rattle.label_command.proofs.SumsTold.{sums_are_command, sums_lawful}
+use Rattle.label_command.proofs.sums.SumCommand.is_lawful.Goals as goal
+
+pub returns : goal.returns
+returns c = λ command.
+    sums_lawful (record {
+      text = c.a_text_is_read_as_its_label.ensures.only;
+      number = c.number_and_label_are_inverse.ensures.number;
+    }) command.base (sums_are_command (record {
+      goes_on = c.bytes_are_read_in_order.ensures.good;
+      fault = c.bytes_are_read_in_order.ensures.refused;
+      limit = c.bytes_are_read_in_order.ensures.past_limit;
+    }) command.base)

@@ -1,0 +1,5 @@
+use Rattle.tc_command.specs.ToldLemmas.{text_is_lawful}
+use Rattle.made_commands.proofs.about.VersionCommand.is_lawful.Goals as goal
+
+pub returns : goal.returns
+returns c = λ command. text_is_lawful _

@@ -1,5 +1,0 @@
-use Rattle.tc_command.specs.ToldLemmas.{text_is_told}
-use Rattle.made_commands.proofs.about.tell_help.Goals as goal
-
-pub returns : goal.returns
-returns g c = record { told = text_is_told _; worked = rw (← c.help.ensures) c.make.ensures }

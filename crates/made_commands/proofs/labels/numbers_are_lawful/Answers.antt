@@ -1,6 +1,0 @@
-use Rattle.tc_command.specs.ToldLemmas.{made_is_lawful}
-use Rattle.made_commands.proofs.OneLabel.{one_number}
-use Rattle.made_commands.proofs.labels.numbers_are_lawful.Goals as goal
-
-pub returns : goal.returns
-returns c = λ label. made_is_lawful _ _ (one_number c.number_and_label_are_inverse.ensures.number label)

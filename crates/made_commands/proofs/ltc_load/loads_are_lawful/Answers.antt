@@ -1,6 +1,0 @@
-use Rattle.std.proofs.Common.{◌∙◌, sym}
-use Rattle.tc_command.specs.ToldLemmas.{made_is_lawful}
-use Rattle.made_commands.proofs.ltc_load.loads_are_lawful.Goals as goal
-
-pub returns : goal.returns
-returns c = λ run. made_is_lawful _ _ (λ a b p q. p.line ∙ sym q.line)

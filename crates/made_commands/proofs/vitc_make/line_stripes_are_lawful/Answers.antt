@@ -1,6 +1,0 @@
-use Rattle.std.proofs.Common.{◌∙◌, sym}
-use Rattle.tc_command.specs.ToldLemmas.{made_is_lawful}
-use Rattle.made_commands.proofs.vitc_make.line_stripes_are_lawful.Goals as goal
-
-pub returns : goal.returns
-returns c = λ stripe. made_is_lawful _ _ (λ a b p q. p.are ∙ sym q.are)

@@ -1,5 +1,0 @@
-use Rattle.signal_commands.proofs.PathLasts.{path_is_lawful}
-use Rattle.signal_commands.proofs.laws.paths_are_lawful.Goals as goal
-
-pub returns : goal.returns
-returns c = path_is_lawful c.each_signal_makes_a_command.ensures.paths

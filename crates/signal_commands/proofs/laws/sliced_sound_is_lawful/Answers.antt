@@ -1,5 +1,0 @@
-use Rattle.signal_commands.proofs.SoundCovered.{sound_is_lawful}
-use Rattle.signal_commands.proofs.laws.sliced_sound_is_lawful.Goals as goal
-
-pub returns : goal.returns
-returns c = sound_is_lawful c.each_signal_makes_a_command.ensures.samples

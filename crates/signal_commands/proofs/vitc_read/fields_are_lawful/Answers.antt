@@ -1,5 +1,0 @@
-use Rattle.signal_commands.proofs.FieldsTold.{fields_are_lawful}
-use Rattle.signal_commands.proofs.vitc_read.fields_are_lawful.Goals as goal
-
-pub returns : goal.returns
-returns c = fields_are_lawful c.each_signal_makes_a_command.ensures.fields c.a_file_is_read_as_it_was_written.ensures

@@ -1,5 +1,0 @@
-use Rattle.signal_commands.proofs.TrackOfAFile.{track_is_lawful}
-use Rattle.signal_commands.proofs.wav_ltc.sliced_tracks_are_lawful.Goals as goal
-
-pub returns : goal.returns
-returns c = track_is_lawful c.each_signal_makes_a_command.ensures.tracks
