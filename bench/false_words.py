@@ -6,7 +6,7 @@
 Code at 25 frames a second goes through the high-pass of a coupling capacitor, or the band of a telephone at 8,000
 samples a second (brought to 48,000 before it is read), or through nothing; then white noise is added, in decibels of
 the code as it was made. A row has the words that are right and those that nobody recorded: without the path, with it,
-and with `firm` and `consecutive` behind it. A word is right if its address, its user bits and its place are. It needs
+and with `firm`, `consecutive` and `counted` behind it. A word is right if its address, its user bits and its place are. It needs
 sox.
 """
 import array
@@ -28,7 +28,8 @@ CAPACITOR, TELEPHONE, NOTHING = ("highpass", "1500"), ("sinc", "300-3400"), ()
 ROWS = [("a coupling capacitor", RATE, CAPACITOR, it) for it in (-15, -10, -7, -4)]
 ROWS += [("a telephone", 8_000, TELEPHONE, it) for it in (-10, -4)]
 ROWS += [("no filter", RATE, NOTHING, it) for it in (-6, 0, 2)]
-WAYS = ((["follow"], []), (["path"], []), (["path"], ["firm"]), (["path"], ["consecutive"]))
+ASKED = ([], ["firm"], ["consecutive"], ["counted"])
+WAYS = ((["follow"], []), *((["path"], asked) for asked in ASKED))
 
 
 def by_sox(room, samples, rate, *filters):
@@ -64,8 +65,9 @@ def counted(samples, slicing, reading, frames):
 def main():
     frames, chance = int(sys.argv[1]) if len(sys.argv) > 1 else 600, random.Random(11)
     made = code(RATE, intervals("25", FIRST, frames), LEAD, SIZE)
-    print(f"| Sound of {frames} frames | `rough` | `path` | `path`, `firm` | `path`, `consecutive` |")
-    print("|---|---|---|---|---|")
+    asked = " | ".join(f"`path`, `{it[0]}`" for it in ASKED[1:])
+    print(f"| Sound of {frames} frames | `rough` | `path` | {asked} |")
+    print("|---|---|---|---|---|---|")
     with tempfile.TemporaryDirectory() as room:
         for name, rate, filters, decibels in ROWS:
             loud = SIZE * 10 ** (decibels / 20)

@@ -2,11 +2,11 @@
 """Reads damaged recordings a second time, by docs/reference/formats.md alone, and compares the lines with the program's.
 
     bench/read_by_hand.py [COUNT [PROGRAM]]      a thousand recordings and bin/tc if none are named
-    bench/read_by_hand.py --cases                writes rows of cases.tsv for `ltc-rough consecutive`
+    bench/read_by_hand.py --cases                writes rows of cases.tsv for `ltc-rough consecutive` and `counted`
 
 A recording is made here: real words in cells whose length shakes, glides or jumps, with intervals dropped, doubled,
-cut or moved. Each is read under the three tolerances, and under the rough one with witnesses and with words that follow
-one another. The seed is printed,
+cut or moved. Each is read under the three tolerances, and under the rough one with witnesses, with words that follow
+one another and with words that count. The seed is printed,
 and a run is repeated by the environment's SEED. Run by hand, never in the gate.
 """
 import itertools
@@ -141,6 +141,30 @@ def joins(first, second, system):
     return int(one[10]) + int(two[12]) == int(two[10]) and label_behind(one[2], system, steps) == two[2]
 
 
+def counts_on(first, second, system):
+    """Whether one line is of a word whose label and place are a frame or two behind those of another one."""
+    if not first or not second or first[1] != second[1]:
+        return False
+    both, apart = int(first[12]) + int(second[12]), int(second[10]) - int(first[10])
+    way = 1 if first[1] == "forward" else -1
+    return any(
+        label_behind(first[2], system, way * frames) == second[2] and abs(20 * apart - 10 * frames * both) <= 3 * both
+        for frames in (1, 2)
+    )
+
+
+def counted(lines, system):
+    """The lines, of which each word needs one that counts on with it: the word before it, or the next line."""
+    words = [line.split() if line.startswith("word") else None for line in lines]
+    told, before = [], None
+    for line, word, behind in zip(lines, words, words[1:] + [None]):
+        if word and not counts_on(before, word, system) and not counts_on(word, behind, system):
+            line = "refused %s alone tick %s" % (word[1], word[10])
+        told.append(line)
+        before = word or before
+    return told
+
+
 def judged(lines, alone, system, asked):
     """The lines, of which some have no witness."""
     told = []
@@ -168,12 +192,12 @@ def report(command, system, rate, intervals, asked=None):
                 number = sum(bit << place for place, bit in enumerate(order))
                 if number >> 64 == SYNC:
                     line = candidate(system, rate, way, number, tick, length)
-                    if asked and line.startswith("word") and not has_witness([bit for bit, _ in cells], first, way):
+                    if asked in ("firm", "consecutive") and line.startswith("word") and not has_witness([bit for bit, _ in cells], first, way):
                         alone.add(len(lines))
                     lines.append(line)
         if broken is not None:
             lines.append("lost interval %d tick %d" % (broken, sum(intervals[: broken + 1])))
-    lines = judged(lines, alone, system, asked)
+    lines = counted(lines, system) if asked == "counted" else judged(lines, alone, system, asked)
     for line in lines:
         counts[line.split()[0]] += 1
     lines.append("end intervals %d words %d refused %d lost %d ticks %d" % (
@@ -301,14 +325,42 @@ def tapes():
     yield "two-cuts", 25, intervals_of(forward + part_of(second) + cut + part_of(first) + part_of(second))
 
 
+def pairs_apart():
+    """Two words with a label some frames on, and so many cells between them: at the edges of the places that count."""
+    for frames, edges in ((1, (0, 24, 25)), (2, (55, 56, 80, 104, 105)), (3, (160,))):
+        for cells in edges:
+            yield part_of("10:00:00:03") + [0] * cells + part_of("10:00:00:%02d" % (3 + frames))
+
+
+def counted_tapes():
+    """The name, the system and the intervals of each case of words that count."""
+    first, second = part_of("10:00:00:03"), part_of("10:00:00:04")
+    cut = part_of("10:00:00:05", 0, 40) + part_of("20:00:00:18", 40)
+    pieces = first + second + cut + part_of("20:00:00:19") + part_of("20:00:00:20")
+    for bits in (pieces, pieces[::-1]):
+        yield "a-cut-in-phase", 25, intervals_of(bits)
+    for bits in (first, first + second, first + first, second + first, first + second[::-1], (first + second)[::-1]):
+        yield "two-words", 25, intervals_of(bits)
+    for bits in pairs_apart():
+        yield "two-words-apart", 25, intervals_of(bits)
+        yield "two-words-apart", 25, intervals_of(bits[::-1])
+    yield "around-the-day", 25, intervals_of(part_of("23:59:59:24") + part_of("00:00:00:00"))
+    for one, two in (("00:00:59;29", "00:01:00;02"), ("00:00:59;28", "00:01:00;02"), ("00:00:59;29", "00:01:00:02")):
+        yield "over-dropped-labels", 30, intervals_of(part_of(one, system=30) + part_of(two, system=30))
+    broken = intervals_of(first) + [7] + intervals_of(second)
+    yield "a-break-comes-between", 25, broken
+    yield "a-break-comes-between", 25, broken + [7] + intervals_of(part_of("10:00:00:05"))
+
+
 def cases():
     """The rows for cases.tsv."""
-    counts = {}
-    for name, system, intervals in tapes():
-        counts[name] = counts.get(name, 0) + 1
-        told = report("ltc-rough", system, 48000, intervals, "consecutive").replace("\n", "\\n")
-        yield "\t".join(("consecutive/%s-%d" % (name, counts[name]), "ltc-rough consecutive", spelled(system, intervals), "0",
-                         "-", "=" + told, "-", "-"))
+    for asked, given in (("consecutive", tapes()), ("counted", counted_tapes())):
+        counts = {}
+        for name, system, intervals in given:
+            counts[name] = counts.get(name, 0) + 1
+            told = report("ltc-rough", system, 48000, intervals, asked).replace("\n", "\\n")
+            yield "\t".join(("%s/%s-%d" % (asked, name, counts[name]), "ltc-rough " + asked, spelled(system, intervals), "0",
+                             "-", "=" + told, "-", "-"))
 
 
 def main():
@@ -321,7 +373,7 @@ def main():
     program = sys.argv[2] if len(sys.argv) > 2 else os.path.join(TOP, "bin", "tc")
     seed = int(os.environ.get("SEED", random.randrange(1 << 32)))
     print("seed", seed)
-    readings = [(command, None) for command in COMMANDS] + [("ltc-rough", "firm"), ("ltc-rough", "consecutive")]
+    readings = [(command, None) for command in COMMANDS] + [("ltc-rough", asked) for asked in ("firm", "consecutive", "counted")]
     chance, totals, wrong = random.Random(seed), dict.fromkeys(readings, 0), 0
     for number in range(count):
         system = chance.choice([24, 25, 30])

@@ -7,7 +7,7 @@ _tc() {
     else
         case $command:$COMP_CWORD in
             # made by tools/make_completions of the table of forms
-            ltc-rough:2 | ltc-fly:4 | ltc-spans:4 | ltc-mtc:4 | ltc-jam:6 | ltc-chase:8) values="firm consecutive" ;;
+            ltc-rough:2 | ltc-fly:4 | ltc-spans:4 | ltc-mtc:4 | ltc-jam:6 | ltc-chase:8) values="firm consecutive counted" ;;
             ltc-fly:3 | ltc-spans:3 | ltc-mtc:3 | ltc-jam:5 | ltc-chase:7) values="worn rough" ;;
             ltc-convert:2) values="1 2" ;;
             pcm-ltc:2 | wav-ltc:2) values="24 25 30" ;;

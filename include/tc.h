@@ -137,7 +137,8 @@ typedef struct tc_tape_settings {
     uint32_t tolerance; /* how much cells may differ: 0 normal, 1 worn, 2 rough */
     uint32_t firm;      /* 0: each word is told. 1: a word needs a witness, which is another word's sync word beside it,
                            or the edge of the code; without one it is refused as TC_ALONE. 2: a word needs a witness, or
-                           the word that follows it on the tape: one that is beside it and has the next label */
+                           the word that follows it on the tape: one that is beside it and has the next label. 3: a word needs
+                           one that counts on with it, the word before it or what comes next; else it is TC_ALONE */
 } tc_tape_settings;
 
 /* What a call took and gave. */
@@ -185,7 +186,8 @@ static inline bool tc_tape_init(tc_tape *tape, const tc_tape_settings *settings)
  * that, intervals may be left: call again with those. In whatever pieces the intervals come, the events are the same.
  * If words need a witness, one that is read backward is told 16 cells after its end, or where its
  * stretch or the tape ends. Where `firm` is 2, one that is
- * read forward and has no witness is told with the next event. */
+ * read forward and has no witness is told with the next event; where it is 3, one that does not count on from the word
+ * before it. */
 static inline tc_tape_taken tc_tape_write(tc_tape *tape, const uint32_t *ticks, size_t count, tc_event *events,
                                           size_t room) {
     tc_handle handle = {tape->state};

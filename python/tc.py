@@ -59,12 +59,14 @@ class Follows(enum.IntEnum):
 
 class Witness(enum.IntEnum):
     """What a word of a tape is asked for, so that it counts: nothing; a witness, which is another word's sync word beside
-    it; or a witness, or the word that follows it on the tape, if that is beside it and has the next label.
+    it; a witness, or the word that follows it on the tape, if that is beside it and has the next label; or one that
+    counts on with it, the word before it or what comes next.
     """
 
     NOT_ASKED = 0
     ASKED = 1
     CONSECUTIVE = 2
+    COUNTED = 3
 
 
 class Fault(enum.IntEnum):

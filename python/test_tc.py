@@ -183,7 +183,7 @@ class Tapes(unittest.TestCase):
             with self.assertRaises(ValueError):
                 tape.write(list(self.ticks[:300]) + list(more))
             self.assertEqual(tape.told(), sum(self.ticks[:300]))
-        for settings in ((29,), (25, 3), (25, 0, 3), (25, 0, -1)):
+        for settings in ((29,), (25, 3), (25, 0, 4), (25, 0, -1)):
             with self.assertRaises(ValueError):
                 tc.Tape(*settings)
 
@@ -196,6 +196,7 @@ class Tapes(unittest.TestCase):
             (tc.Witness.NOT_ASKED, labels[:1], [], labels[1:]),
             (tc.Witness.ASKED, [tc.Fault.ALONE], [], labels[1:]),
             (tc.Witness.CONSECUTIVE, [], [tc.Fault.ALONE], labels),
+            (tc.Witness.COUNTED, [], [tc.Fault.ALONE], labels),
         ):
             tape = tc.Tape(25, firm=witness)
             self.assertEqual([told_as(event) for event in tape.write(front)], first)

@@ -92,7 +92,7 @@ fn spoil(input: &mut Vec<u8>, d: &mut Draws) {
 /// Changes the words so that they are often wrong.
 fn spoil_words(words: &mut Vec<String>, d: &mut Draws) {
     let place = d.below(words.len() as u64) as usize;
-    let odd = ["", "-", "--help", "0", "00", "live", "worn", "firm", "consecutive", "deep", "99999999999999999999", "1e3", "25 ", "help"];
+    let odd = ["", "-", "--help", "0", "00", "live", "worn", "firm", "consecutive", "counted", "deep", "99999999999999999999", "1e3", "25 ", "help"];
     match d.below(4) {
         0 => drop(words.remove(place)),
         1 => words.insert(place, d.pick(&odd).to_string()),
@@ -136,7 +136,7 @@ fn values(command: &str, d: &mut Draws) -> Vec<String> {
     let tolerance = d.pick(&["", "", "worn", "rough"]);
     let limit = d.pick(&[0, 1, 2, 3, 10, 255]).to_string();
     match command {
-        "ltc-rough" if d.one_in(2) => words.push(d.pick(&["firm", "consecutive"]).into()),
+        "ltc-rough" if d.one_in(2) => words.push(d.pick(&["firm", "consecutive", "counted"]).into()),
         "ltc-fly" | "ltc-spans" | "ltc-mtc" => words = vec![limit, tolerance.into()],
         "ltc-jam" => {
             let cell = 16 + d.of_any_size(10);
@@ -173,7 +173,7 @@ fn values(command: &str, d: &mut Draws) -> Vec<String> {
     }
     words.retain(|word| !word.is_empty());
     if words.last().is_some_and(|word| word == "worn" || word == "rough") && d.one_in(2) {
-        words.push(d.pick(&["firm", "consecutive"]).into());
+        words.push(d.pick(&["firm", "consecutive", "counted"]).into());
     }
     words
 }

@@ -17,6 +17,8 @@ pub enum Asked {
     Witness,
     /// A witness, or the word that follows it on the tape: `consecutive`.
     WitnessOrNext,
+    /// A word that counts on with it: `counted`.
+    Counted,
 }
 
 impl Asked {
@@ -24,6 +26,7 @@ impl Asked {
         match word {
             "firm" => Some(Asked::Witness),
             "consecutive" => Some(Asked::WitnessOrNext),
+            "counted" => Some(Asked::Counted),
             _ => None,
         }
     }
@@ -163,6 +166,9 @@ pub fn events(tolerance: Tolerance, system: u64, intervals: &[u64], asked: Asked
     if asked == Asked::Nothing {
         return told;
     }
+    if asked == Asked::Counted {
+        return counted(told, is_ended);
+    }
     let (mut judged, mut until) = judge(told, &stretches, waits);
     if asked == Asked::WitnessOrNext {
         join(&mut judged);
@@ -265,6 +271,44 @@ fn judge(told: Told, stretches: &[Vec<Cell>], may_go_on: bool) -> (Vec<Judged>, 
         judged.push(Judged { event: Event::Word(word), is_alone });
     }
     (judged, told.until)
+}
+
+/// A word counts if it counts on from the latest word before it, or if the very next event is a word that counts on
+/// from it. Of a file that does not end a word that waits for the next event is left out.
+fn counted(told: Told, is_ended: bool) -> Told {
+    let words: Vec<Option<Word>> = told.events.iter().map(|event| match event {
+        Event::Word(word) => Some(word.clone()),
+        _ => None,
+    }).collect();
+    let (mut events, mut until, mut before) = (Vec::new(), told.until, None);
+    let last = told.events.len();
+    for (place, event) in told.events.into_iter().enumerate() {
+        let Some(word) = &words[place] else {
+            events.push(event);
+            continue;
+        };
+        let is_behind = before.is_some_and(|other| counts_on(other, word));
+        before = Some(word);
+        if !is_behind && !is_ended && place + 1 == last {
+            until = word.tick;
+            break;
+        }
+        let next = words.get(place + 1).and_then(Option::as_ref);
+        let is_counted = is_behind || next.is_some_and(|next| counts_on(word, next));
+        events.push(Judged { event, is_alone: !is_counted }.told());
+    }
+    Told { events, until }
+}
+
+/// The second word is a frame or two behind the first, by its label and to within three tenths of a frame.
+fn counts_on(first: &Word, second: &Word) -> bool {
+    let (both, apart) = (first.ticks + second.ticks, second.tick - first.tick);
+    (1..=2).any(|frames: u64| {
+        let steps = if first.way == Way::Forward { frames as i64 } else { -(frames as i64) };
+        let day = first.label.count.day() as i64;
+        let label = Label::at(first.label.count, ((first.label.number() as i64 + steps + day) % day) as _);
+        second.way == first.way && second.label == label && (20 * apart).abs_diff(10 * frames * both) <= 3 * both
+    })
 }
 
 /// A word that is alone counts if the word that follows it on the tape is beside it among the events.

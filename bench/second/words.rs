@@ -100,7 +100,7 @@ impl<'a> Words<'a> {
         Ok(Hearing { tolerance, asked: self.asked()? })
     }
 
-    /// `firm`, `consecutive` or nothing at the end.
+    /// `firm`, `consecutive`, `counted` or nothing at the end.
     fn asked(&mut self) -> Read<Asked> {
         if self.next().is_some() { self.value(Asked::named) } else { Ok(Asked::Nothing) }
     }

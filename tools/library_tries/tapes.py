@@ -6,7 +6,7 @@ from library_tries.midi import damaged, mtc_line
 
 COUNTS = ("24", "25", "30", "30d")
 REPORTS = ("ltc-read", "ltc-worn", "ltc-rough")
-ASKED = ((), ("firm",), ("consecutive",))
+ASKED = ((), ("firm",), ("consecutive",), ("counted",))
 HEARD, FRAME, LABEL = struct.Struct("<6I2Q"), struct.Struct("<10IQ"), struct.Struct("<8IQ")
 WAYS = ("forward", "backward")
 KINDS = ("heard", "invented", "gone")

@@ -12,7 +12,8 @@ use Rattle.direction_reader.specs.declared.firm_event.FirmEvent.{FirmEvent}
 use Rattle.direction_reader.specs.declared.firm_event.FirmEvent.TheVariants.{Told}
 use Rattle.direction_reader.specs.Consecutive.{heard_as}
 use Rattle.direction_reader.specs.Counted.{counted, counts_on, heard_of, later_word}
-use Rattle.direction_reader.specs.CountedStep.{heard_with, heard_with_all, held_alone, released, told_with, told_with_all}
+use Rattle.direction_reader.specs.CountedStep.{heard_with, heard_with_all, held_alone, released, told_with}
+use Rattle.direction_reader.specs.CountedStep.{told_with_all}
 use Rattle.direction_reader.specs.CountedTold.{held_behind, told_behind, told_without, undecided, until_held}
 use Rattle.direction_reader.specs.Events.{tick_of}
 use Rattle.direction_reader.specs.Firm.{judged, DoNotFall}

@@ -90,7 +90,8 @@ latest_is : (before w : Option HeardWord) → counts_on before w ≡ true → la
 latest_is before (Some w) is = refl
 latest_is before None is = let both : true ≡ false = sym is ∙ none_on before in absurd cc
 
-all_told : (before : Option HeardWord) (es : List Event) → EachCountsOn before es → counted_behind before es ≡ as_told es
+all_told : (before : Option HeardWord) (es : List Event) → EachCountsOn before es
+    → counted_behind before es ≡ as_told es
 all_told before [] are = refl
 all_told before (e ∷ es) are =
     let here : judged (does_count before e (next_of es)) e ≡ Told e =

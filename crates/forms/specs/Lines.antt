@@ -35,7 +35,7 @@ use Rattle.tc_job.specs.declared.fault.WordsFault.TheVariants.{Command, CountOfW
 use Rattle.tc_job.specs.declared.job.Job.TheVariants as jobs
 use Rattle.tc_job.specs.declared.job.Task.{Task}
 use Rattle.tc_job.specs.declared.job.Task.TheVariants.{Stream, Chase}
-use Rattle.tc_job.specs.declared.witness.Witness.TheVariants.{NotAsked, Asked, Consecutive}
+use Rattle.tc_job.specs.declared.witness.Witness.TheVariants.{NotAsked, Asked, Consecutive, Counted}
 use Rattle.forms.specs.Made.{column_run_of, length_run_of}
 use Rattle.forms.specs.Named.{task_of}
 use Rattle.forms.specs.Number.{Word}
@@ -74,6 +74,8 @@ named_lines =
     ∷ (codes "ltc-rough", Stream (jobs.LtcRough NotAsked))
     ∷ (codes "ltc-rough firm", Stream (jobs.LtcRough Asked))
     ∷ (codes "ltc-rough consecutive", Stream (jobs.LtcRough Consecutive))
+    ∷ (codes "ltc-rough counted", Stream (jobs.LtcRough Counted))
+    ∷ (codes "ltc-fly 2 rough counted", Stream (jobs.LtcFly (record { limit = 2; profile = Rough; witness = Counted })))
     ∷ (codes "ltc-fly 2", Stream (jobs.LtcFly (record { limit = 2; profile = Normal; witness = NotAsked })))
     ∷ (codes "ltc-fly 2 worn", Stream (jobs.LtcFly (record { limit = 2; profile = Worn; witness = NotAsked })))
     ∷ (codes "ltc-fly 2 rough firm", Stream (jobs.LtcFly (record { limit = 2; profile = Rough; witness = Asked })))

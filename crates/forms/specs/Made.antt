@@ -54,11 +54,11 @@ flight_at values limit more = record {
   witness = witness_at values (more + 1);
 }
 
--- `LIMIT CELL TICK-RATE [worn|rough [firm|consecutive]]`
+-- `LIMIT CELL TICK-RATE [worn|rough [firm|consecutive|counted]]`
 unfoldable pub jam_in : List Value → Jamming
 jam_in values = jamming_of (flight_at values 0 3) (number_or values 1 0) (number_or values 2 0)
 
--- `COUNT LABEL LIMIT SEED BOUND [worn|rough [firm|consecutive]]`
+-- `COUNT LABEL LIMIT SEED BOUND [worn|rough [firm|consecutive|counted]]`
 unfoldable pub chase_in : List Value → Chasing
 chase_in values = chasing_of (label_at values 1) (flight_at values 2 5) (seed_at values 3) (number_or values 4 0)
 

@@ -87,6 +87,7 @@ pub static CHOICES: [&[(&str, Said)]; 21] = [
     &[
         ("firm", Said::Witness(Witness::Asked)),
         ("consecutive", Said::Witness(Witness::Consecutive)),
+        ("counted", Said::Witness(Witness::Counted)),
     ],
     &[
         ("1", Said::Version(FileVersion::One)),

@@ -14,7 +14,7 @@ use biphase::Shaper;
 use luma_field::Raster;
 use tc_job::{ChaseRun, Flight, Jam, LineStripe, LoadRun, LumaRun, Stripe};
 
-/// How frames are had, by the words `LIMIT [worn|rough [firm|consecutive]]`.
+/// How frames are had, by the words `LIMIT [worn|rough [firm|consecutive|counted]]`.
 #[tactic(auto, using(crate::proofs::JobsInRange::limit_valid))]
 pub(crate) fn flight_of(values: &[Value]) -> Flight
     requires { AreRead FLIGHT.now values.now }

@@ -20,10 +20,7 @@ const LIMIT: Name = (
 
 const TOLERANCE: Name = ("", "words are read as ltc-worn or ltc-rough reads them");
 
-const WITNESS: Name = (
-    "",
-    "a word needs another's sync word beside it, or the next word",
-);
+const WITNESS: Name = ("", "which other word each word needs beside it");
 
 const SYSTEM: Name = ("SYSTEM", "frames a second");
 

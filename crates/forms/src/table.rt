@@ -21,14 +21,14 @@ use pcm_front::MAX_SMOOTH;
 use tc_job::{MAX_FINENESS, MAX_FRAMES, MAX_LEVEL, MAX_SLIP, MAX_WORDS};
 use vitc_reader::{MAX_LINE_LENGTH, MIN_LINE_LENGTH};
 
-/// `LIMIT [worn|rough [firm|consecutive]]`
+/// `LIMIT [worn|rough [firm|consecutive|counted]]`
 pub const FLIGHT: &[(Need, Slot)] = &[
     (Needed, Number(0, 255)),
     (Optional, OneOf(choices::TOLERANCE)),
     (Optional, OneOf(choices::WITNESS)),
 ];
 
-/// `LIMIT CELL TICK-RATE [worn|rough [firm|consecutive]]`
+/// `LIMIT CELL TICK-RATE [worn|rough [firm|consecutive|counted]]`
 pub const JAM: &[(Need, Slot)] = &[
     (Needed, Number(0, 255)),
     (Needed, Number(MIN_SHAPED, MAX_SHAPED)),
@@ -116,7 +116,7 @@ pub const LABEL: &[(Need, Slot)] = &[
     (Needed, Slot::Label { count: 0 }),
 ];
 
-/// `COUNT LABEL LIMIT SEED BOUND [worn|rough [firm|consecutive]]`
+/// `COUNT LABEL LIMIT SEED BOUND [worn|rough [firm|consecutive|counted]]`
 pub const CHASE: &[(Need, Slot)] = &[
     (Needed, OneOf(choices::COUNT)),
     (Needed, Slot::Label { count: 0 }),

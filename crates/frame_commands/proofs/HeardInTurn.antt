@@ -6,12 +6,14 @@ use Rattle.std.proofs.lemmas.List.Sums.{sum_by-append}
 use Rattle.biphase.specs.declared.profile.Profile.{Profile}
 use Rattle.tc_address.specs.declared.system.System.{System}
 use Rattle.tc_job.specs.declared.witness.Witness.{Witness}
-use Rattle.tc_job.specs.declared.witness.Witness.TheVariants.{NotAsked, Asked, Consecutive}
+use Rattle.tc_job.specs.declared.witness.Witness.TheVariants.{NotAsked, Asked, Consecutive, Counted}
 use Rattle.direction_reader.specs.declared.event.Event.{Event}
 use Rattle.direction_reader.specs.declared.firm_event.FirmEvent.{FirmEvent}
 use Rattle.direction_reader.specs.declared.firm_event.FirmEvent.TheVariants.{Told, Alone}
 use Rattle.direction_reader.specs.Events.{tick_of}
 use Rattle.direction_reader.specs.Consecutive.{AreConsecutiveEvents}
+use Rattle.direction_reader.specs.Counted.{AreCountedEvents}
+use Rattle.direction_reader.specs.CountedTold.{AreCountedTold}
 use Rattle.direction_reader.specs.ConsecutiveTold.{AreConsecutiveTold}
 use Rattle.direction_reader.specs.Firm.{AreFirmEvents, told_tick}
 use Rattle.direction_reader.specs.FirmTold.{AreTold, ComesFirst}
@@ -151,8 +153,29 @@ consecutive_in_order laws = record {
       (laws.all system profile front more one.0 two.0 until one.1 two.1) one.2 two.2;
 }
 
+pub counted_in_order : ToldLaws AreCountedEvents AreCountedTold → HeardInOrder Counted
+counted_in_order laws = record {
+  some_yet = λ system profile intervals.
+      let told = laws.some_yet system profile intervals in
+      (told_events told.0, told.1, (told.0, told.2, refl));
+  some = λ system profile intervals.
+      let told = laws.some system profile intervals in (told_events told.0, (told.0, told.1, refl));
+  one_yet = λ system profile intervals events others until another one two.
+      let same = laws.one_yet system profile intervals one.0 two.0 until another one.1 two.1 in
+      (one.2 ∙ ap told_events same.0 ∙ sym two.2, same.1);
+  one = λ system profile intervals events others one two.
+      one.2 ∙ ap told_events (laws.one system profile intervals one.0 two.0 one.1 two.1) ∙ sym two.2;
+  more = λ system profile front more events later until now one two.
+      firm_behind one.0 two.0 events later until now
+      (laws.more system profile front more one.0 two.0 until now one.1 two.1) one.2 two.2;
+  all = λ system profile front more events all until one two.
+      firm_behind one.0 two.0 events all until (sum (front ++ more))
+      (laws.all system profile front more one.0 two.0 until one.1 two.1) one.2 two.2;
+}
+
 pub in_order : PlainLaws → ToldLaws AreFirmEvents AreTold → ToldLaws AreConsecutiveEvents AreConsecutiveTold
-    → (witness : Witness) → HeardInOrder witness
-in_order plain told next NotAsked = plain_in_order plain
-in_order plain told next Asked = firm_in_order told
-in_order plain told next Consecutive = consecutive_in_order next
+    → ToldLaws AreCountedEvents AreCountedTold → (witness : Witness) → HeardInOrder witness
+in_order plain told next count NotAsked = plain_in_order plain
+in_order plain told next count Asked = firm_in_order told
+in_order plain told next count Consecutive = consecutive_in_order next
+in_order plain told next count Counted = counted_in_order count

@@ -6,13 +6,14 @@ use Rattle.direction_reader.specs.declared.event.Event.{Event}
 use Rattle.direction_reader.specs.declared.event.Event.TheVariants.{Word, Refused, Lost}
 use Rattle.direction_reader.specs.declared.firm_event.FirmEvent.{FirmEvent}
 use Rattle.direction_reader.specs.Consecutive.{AreConsecutiveEvents}
+use Rattle.direction_reader.specs.Counted.{AreCountedEvents}
 use Rattle.direction_reader.specs.Firm.{AreFirmEvents, judged}
 use Rattle.direction_reader.specs.FirmTape.{IsJudged}
 use Rattle.direction_reader.specs.ListEvents.{AreEvents}
 use Rattle.ltc_jam.specs.Labels.{AreEventsOf, IsEventOf}
 use Rattle.tc_address.specs.declared.system.System.{System}
 use Rattle.tc_job.specs.declared.witness.Witness.{Witness}
-use Rattle.tc_job.specs.declared.witness.Witness.TheVariants.{NotAsked, Asked, Consecutive}
+use Rattle.tc_job.specs.declared.witness.Witness.TheVariants.{NotAsked, Asked, Consecutive, Counted}
 use Rattle.frame_commands.specs.Heard.{AreHeard, told_events}
 
 one_judged : (system : System) (firm : Bool) (e : Event) (fs : List FirmEvent) → IsEventOf system e
@@ -42,6 +43,9 @@ pub record LabelLaws : Type 0 where
   pub judged_too : (system : System) (profile : Profile) (intervals : List ℕ) (events : List Event)
       (told : List FirmEvent) → AreEvents system profile intervals events
       → AreConsecutiveEvents system profile intervals told → AllZip IsJudged events told
+  pub judged_counted : (system : System) (profile : Profile) (intervals : List ℕ) (events : List Event)
+      (told : List FirmEvent) → AreEvents system profile intervals events
+      → AreCountedEvents system profile intervals told → AllZip IsJudged events told
 
 pub heard_labels : LabelLaws → (witness : Witness) (system : System) (profile : Profile) (intervals : List ℕ)
     (events : List Event) → AreHeard witness system profile intervals events → AreEventsOf system events
@@ -55,4 +59,9 @@ heard_labels laws Consecutive system profile intervals events are =
     let plain = laws.some system profile intervals in
     subst (λ (es : List Event). AreEventsOf system es) (sym are.2)
     (all_judged system plain.0 are.0 (laws.judged_too system profile intervals plain.0 are.0 plain.1 are.1)
+    (laws.labels system profile intervals plain.0 plain.1))
+heard_labels laws Counted system profile intervals events are =
+    let plain = laws.some system profile intervals in
+    subst (λ (es : List Event). AreEventsOf system es) (sym are.2)
+    (all_judged system plain.0 are.0 (laws.judged_counted system profile intervals plain.0 are.0 plain.1 are.1)
     (laws.labels system profile intervals plain.0 plain.1))

@@ -5,7 +5,7 @@ use Rattle.tc_address.specs.declared.system.System.{System}
 use Rattle.direction_reader.specs.declared.event.Event.{Event}
 use Rattle.direction_reader.specs.declared.firm_event.FirmEvent.{FirmEvent}
 use Rattle.direction_reader.specs.declared.witness.Witness.{Witness}
-use Rattle.direction_reader.specs.declared.witness.Witness.TheVariants.{NotAsked, Asked, Consecutive}
+use Rattle.direction_reader.specs.declared.witness.Witness.TheVariants.{NotAsked, Asked, Consecutive, Counted}
 use Rattle.direction_reader.specs.ListEvents.{AreEvents}
 use Rattle.direction_reader.specs.Reading.{as_told, AreEventsAsked, AreToldAsked}
 use Rattle.frame_commands.specs.Heard.{told_events, AreHeard, AreHeardYet}
@@ -26,9 +26,11 @@ pub heard_whole : (w : Witness) (system : System) (profile : Profile) (l : List 
 heard_whole NotAsked system profile l told are = as_they_are system profile l told are
 heard_whole Asked system profile l told are = (told, are, refl)
 heard_whole Consecutive system profile l told are = (told, are, refl)
+heard_whole Counted system profile l told are = (told, are, refl)
 
 pub heard_yet : (w : Witness) (system : System) (profile : Profile) (l : List ℕ) (told : List FirmEvent) (until : ℕ)
     → AreToldAsked w system profile l told until → AreHeardYet (asked_as w) system profile l (told_events told) until
 heard_yet NotAsked system profile l told until are = (as_they_are system profile l told are.0, are.1)
 heard_yet Asked system profile l told until are = (told, are, refl)
 heard_yet Consecutive system profile l told until are = (told, are, refl)
+heard_yet Counted system profile l told until are = (told, are, refl)

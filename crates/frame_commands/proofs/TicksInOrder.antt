@@ -19,7 +19,7 @@ use Rattle.flywheel.specs.declared.heard.HeardWord.{HeardWord}
 use Rattle.flywheel.specs.Marked.{word_of, words_in}
 use Rattle.tape_spans.specs.InOrder.{heard_ticks}
 use Rattle.tc_job.specs.declared.witness.Witness.{Witness}
-use Rattle.tc_job.specs.declared.witness.Witness.TheVariants.{NotAsked, Asked, Consecutive}
+use Rattle.tc_job.specs.declared.witness.Witness.TheVariants.{NotAsked, Asked, Consecutive, Counted}
 use Rattle.frame_commands.specs.Heard.{told_events}
 use Rattle.frame_commands.specs.HeardTape.{HearsTheTape, AreHeardOf}
 use Rattle.frame_commands.specs.OfFrames.{words_heard}
@@ -63,6 +63,9 @@ heard_by Asked system profile intervals plain events are is =
     subst (λ (es : List Event). DoNotFall 0 (map tick_of es) (sum intervals)) (sym are.3)
     (some_told 0 (sum intervals) plain are.0 are.1 is)
 heard_by Consecutive system profile intervals plain events are is =
+    subst (λ (es : List Event). DoNotFall 0 (map tick_of es) (sum intervals)) (sym are.3)
+    (some_told 0 (sum intervals) plain are.0 are.1 is)
+heard_by Counted system profile intervals plain events are is =
     subst (λ (es : List Event). DoNotFall 0 (map tick_of es) (sum intervals)) (sym are.3)
     (some_told 0 (sum intervals) plain are.0 are.1 is)
 

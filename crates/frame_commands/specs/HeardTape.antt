@@ -1,27 +1,31 @@
 -- What the events that are heard of a recording say of its tape.
-use Rattle.std.specs.Prelude.{◌≡◌, ℕ, List}
+use Rattle.std.specs.Prelude.{◌≡◌, ℕ, List, None}
 use Rattle.std.specs.List.{AllZip}
 use Rattle.biphase.specs.declared.profile.Profile.{Profile}
 use Rattle.direction_reader.specs.declared.event.Event.{Event}
 use Rattle.direction_reader.specs.declared.firm_event.FirmEvent.{FirmEvent}
 use Rattle.direction_reader.specs.ConsecutiveTape.{AreBacked}
+use Rattle.direction_reader.specs.CountedTape.{EachIsCounted}
 use Rattle.direction_reader.specs.FirmTape.{AreWitnessed, IsJudged}
 use Rattle.direction_reader.specs.ListEvents.{AreEvents}
 use Rattle.direction_reader.specs.Tape.{FindsTheTape, FindsTheTapeBehindOnes, TellsTheTape}
 use Rattle.tc_address.specs.declared.system.System.{System}
 use Rattle.tc_job.specs.declared.witness.Witness.{Witness}
-use Rattle.tc_job.specs.declared.witness.Witness.TheVariants.{NotAsked, Asked, Consecutive}
+use Rattle.tc_job.specs.declared.witness.Witness.TheVariants.{NotAsked, Asked, Consecutive, Counted}
 use Rattle.frame_commands.specs.Heard.{told_events}
 
 -- which of the events of a reading that asks for no witness are heard: all of them; or all but the words that are
 -- alone, and each word that is heard has its witness, or stands at the edge of its stretch, or, where words may be
--- consecutive, is joined by the word that follows it on the tape
+-- consecutive, is joined by the word that follows it on the tape, or, where words are counted, another one counts on
+-- with it
 abbrev pub AreHeardOf : Witness → System → Profile → List ℕ → List Event → List Event → Type 0
 AreHeardOf NotAsked system profile intervals plain events = events ≡ plain
 AreHeardOf Asked system profile intervals plain events = (told : List FirmEvent) × AllZip IsJudged plain told
     × AreWitnessed system profile intervals told × (events ≡ told_events told)
 AreHeardOf Consecutive system profile intervals plain events = (told : List FirmEvent) × AllZip IsJudged plain told
     × AreBacked system profile intervals told × (events ≡ told_events told)
+AreHeardOf Counted system profile intervals plain events = (told : List FirmEvent) × AllZip IsJudged plain told
+    × EachIsCounted None told × (events ≡ told_events told)
 
 -- what is heard are events that tell the tape, or those among them that have what is asked of them: where the intervals keep the
 -- tolerance, the events are the whole words of the tape, good or refused, from the first unequal pair on, and no break;

@@ -5,7 +5,7 @@ use Rattle.direction_reader.specs.declared.witness.Witness as reader
 use Rattle.direction_reader.specs.declared.witness.Witness.TheVariants as asked
 use Rattle.direction_reader.specs.Reading.{ReadingState}
 use Rattle.tc_job.specs.declared.witness.Witness.{Witness}
-use Rattle.tc_job.specs.declared.witness.Witness.TheVariants.{NotAsked, Asked, Consecutive}
+use Rattle.tc_job.specs.declared.witness.Witness.TheVariants.{NotAsked, Asked, Consecutive, Counted}
 use Rattle.frame_commands.specs.Heard.{told_events}
 use Rattle.frame_commands.specs.Hearing.{Hearer}
 
@@ -14,6 +14,7 @@ abbrev pub asked_as : reader.Witness → Witness
 asked_as asked.NotAsked = NotAsked
 asked_as asked.Asked = Asked
 asked_as asked.Consecutive = Consecutive
+asked_as asked.Counted = Counted
 
 -- it tells what the reading tells, without the words that are alone
 abbrev pub hearer_of : ReadingState → Hearer

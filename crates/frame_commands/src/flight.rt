@@ -25,7 +25,7 @@ use crate::frame_sink::FrameSink;
 use crate::frames::Frames;
 use crate::hearing::{Hearing, step_aside};
 use crate::laws::what_is_heard_is_in_order;
-use direction_reader::{ConsecutiveReader, DirectionReader, FirmReader};
+use direction_reader::{ConsecutiveReader, CountedReader, DirectionReader, FirmReader};
 use interval_engine::{Behind, work_along};
 use interval_file::IntervalHeader;
 use tc_command::{Output, Stop, Way};
@@ -39,6 +39,7 @@ pub(crate) fn work_frames<T: FrameSink, W: Way>(choice: T::Choice, way: &mut W) 
         Witness::NotAsked => work_along::<FlightTo<DirectionReader, T>, W>(choice, way),
         Witness::Asked => work_along::<FlightTo<FirmReader, T>, W>(choice, way),
         Witness::Consecutive => work_along::<FlightTo<ConsecutiveReader, T>, W>(choice, way),
+        Witness::Counted => work_along::<FlightTo<CountedReader, T>, W>(choice, way),
     }
 }
 

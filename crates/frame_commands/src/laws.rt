@@ -32,6 +32,10 @@ use direction_reader::consecutive_laws::{
     consecutive_told_come_first, each_word_has_its_witness_or_its_next_word,
     the_next_word_changes_words_alone,
 };
+use direction_reader::counted_laws::{
+    a_list_has_one_list_of_counted_events, a_list_has_one_list_of_counted_told,
+    counted_told_come_first, counting_changes_words_alone, each_word_that_is_told_counts,
+};
 use direction_reader::firm_laws::{
     a_list_has_one_list_of_firm_events, a_list_has_one_list_of_told_events,
     a_witness_changes_words_alone, each_word_that_is_told_has_its_witness, told_events_come_first,
@@ -51,7 +55,7 @@ use quarter_frame::laws::messages_of_a_front_come_first;
 use tape_spans::laws::final_lines_come_first;
 
 /// What is heard of some intervals there is, and it comes first, whatever intervals follow: if words
-/// need a witness, if they may be consecutive, and if neither.
+/// need a witness, if they may be consecutive, if they are counted, and if none of these.
 pub fn what_is_heard_is_in_order()
     ensures { (witness : Witness) → HeardInOrder witness }
 {
@@ -64,6 +68,9 @@ pub fn what_is_heard_is_in_order()
     a_list_has_one_list_of_consecutive_events();
     a_list_has_one_list_of_consecutive_told();
     consecutive_told_come_first();
+    a_list_has_one_list_of_counted_events();
+    a_list_has_one_list_of_counted_told();
+    counted_told_come_first();
 }
 
 /// The words that are heard have labels of the recording's system.
@@ -75,10 +82,11 @@ pub fn what_is_heard_has_labels_of_its_system()
     each_list_has_events();
     a_witness_changes_words_alone();
     the_next_word_changes_words_alone();
+    counting_changes_words_alone();
 }
 
-/// What is heard of a recording tells its tape: it is what is read of it, or that among it which has a witness or
-/// is consecutive, and what is read are the words of the tape.
+/// What is heard of a recording tells its tape: it is what is read of it, or that among it which has a witness, is
+/// consecutive or counts, and what is read are the words of the tape.
 pub fn what_is_heard_tells_the_tape()
     ensures { (witness : Witness) (system : System) (profile : Profile) (intervals : List ℕ) (events : List Event)
         → AreHeard witness system profile intervals events
@@ -92,6 +100,8 @@ pub fn what_is_heard_tells_the_tape()
     each_word_that_is_told_has_its_witness();
     the_next_word_changes_words_alone();
     each_word_has_its_witness_or_its_next_word();
+    counting_changes_words_alone();
+    each_word_that_is_told_counts();
 }
 
 /// What a command prints of frames there is, and it is in order, if what it makes of frames is.

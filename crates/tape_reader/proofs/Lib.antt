@@ -1,2 +1,2 @@
-mod OneOfThree
+mod OneOfFour
 mod ReadsOneMore

@@ -3,13 +3,14 @@ use Rattle.std.specs.Prelude.{◌≡◌, ℕ, ◌-◌, ◌≤◌, nat_le, ◌&&�
 use Rattle.direction_reader.specs.declared.consecutive_event.ConsecutiveEvents.{ConsecutiveEvents}
 use Rattle.direction_reader.specs.declared.firm_event.FirmEvent.{FirmEvent}
 use Rattle.direction_reader.specs.declared.witness.Witness.{Witness}
-use Rattle.direction_reader.specs.declared.witness.Witness.TheVariants.{NotAsked, Asked, Consecutive}
+use Rattle.direction_reader.specs.declared.witness.Witness.TheVariants.{NotAsked, Asked, Consecutive, Counted}
 use Rattle.direction_reader.specs.FirmStep.{nothing_told}
-use Rattle.direction_reader.specs.KeptReading.{none_held, reading_of_all, reading_of_consecutive, reading_of_firm}
+use Rattle.direction_reader.specs.KeptReading.{none_held, reading_of_all, reading_of_consecutive, reading_of_counted}
+use Rattle.direction_reader.specs.KeptReading.{reading_of_firm}
 use Rattle.direction_reader.specs.Reading.{AreEventsAsked, AreToldAsked, ReadingState}
 use Rattle.limits.specs.declared.recording.TheConstants.{MAX_INTERVAL, MAX_INTERVALS}
 use Rattle.tape_reader.specs.declared.reader.TapeReader.{TapeReader}
-use Rattle.tape_reader.specs.declared.reader.TapeReader.TheVariants.{Plain, Firm, Joined}
+use Rattle.tape_reader.specs.declared.reader.TapeReader.TheVariants.{Plain, Firm, Joined, Counting}
 use Rattle.tape_reader.specs.declared.settings.TapeSettings.{TapeSettings}
 
 -- its reader in numbers
@@ -17,12 +18,14 @@ abbrev pub reading_of : TapeReader → ReadingState
 reading_of (Plain r) = reading_of_all r
 reading_of (Firm r) = reading_of_firm r
 reading_of (Joined r) = reading_of_consecutive r
+reading_of (Counting r) = reading_of_counted r
 
 -- what it asks each word for
 abbrev pub witness_of : TapeReader → Witness
 witness_of (Plain r) = NotAsked
 witness_of (Firm r) = Asked
 witness_of (Joined r) = Consecutive
+witness_of (Counting r) = Counted
 
 -- how it reads
 abbrev pub settings_of : TapeReader → TapeSettings

@@ -6,7 +6,7 @@ ghost use Rattle.tape_reader.specs.declared.reader.TapeReader.{TapeReader};
 ghost use Rattle.tape_reader.specs.Tape.{settings_of, told_until, AreTapeEvents, AreTapeTold, StandsFor};
 
 use direction_reader::reading_laws::what_is_told_comes_first;
-use direction_reader::{ConsecutiveReader, DirectionReader, FirmReader, Reading};
+use direction_reader::{ConsecutiveReader, CountedReader, DirectionReader, FirmReader, Reading};
 
 /// What a reader has told is what its intervals tell while more may follow. If more follow, it comes first,
 /// and all else ends at the tick up to which all was told, or later.
@@ -20,5 +20,6 @@ pub fn what_is_told_of_a_tape_comes_first()
     DirectionReader::what_it_has_told();
     FirmReader::what_it_has_told();
     ConsecutiveReader::what_it_has_told();
+    CountedReader::what_it_has_told();
     what_is_told_comes_first();
 }

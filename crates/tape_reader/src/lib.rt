@@ -1,10 +1,11 @@
-//! From the intervals of a tape to events: a reader of all words, one that asks each for a witness, or one of
-//! consecutive words.
+//! From the intervals of a tape to events: a reader of all words, one that asks each for a witness, one of
+//! consecutive words, or one of words that count on.
 //!
 //! Intervals come in pieces of any length, as a capture or a file gives them, in ticks. Under settings that
 //! ask for no witness each word is told; under those that ask, one without a witness is told as alone; and of
-//! consecutive words one without a witness is told too if the word that follows it on the tape joins it. What
-//! a reader keeps has one size, whatever it was given, and lies in one place.
+//! consecutive words one without a witness is told too if the word that follows it on the tape joins it. Of
+//! counted words one with which no other counts on is told as alone. What a reader keeps has one size, whatever
+//! it was given, and lies in one place.
 //!
 //! What this crate promises:
 //! - A `TapeReader` that is given intervals, piece by piece, tells the events of all intervals so far, each

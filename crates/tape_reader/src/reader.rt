@@ -1,5 +1,5 @@
 //! A reader of a tape. Read next: `reading_on`, and of the readers that it has `direction_reader/src/reader.rt`,
-//! `direction_reader/src/firm_reader.rt` and `direction_reader/src/consecutive.rt`.
+//! `direction_reader/src/firm_reader.rt`, `direction_reader/src/consecutive.rt` and `direction_reader/src/counted.rt`.
 ghost use Rattle.std.specs.Prelude.{◌≡◌, ℕ, ◌≤◌, List, [], ◌++◌, length, take, drop, sum, false};
 ghost use Rattle.direction_reader.specs.declared.firm_event.FirmEvent.{FirmEvent};
 ghost use Rattle.direction_reader.specs.ConsecutiveStep.{consecutive_list};
@@ -13,7 +13,8 @@ use crate::laws::what_is_told_of_a_tape_comes_first;
 use crate::reading_on::read_on;
 use crate::settings::TapeSettings;
 use direction_reader::{
-    ConsecutiveEvents, ConsecutiveReader, DirectionReader, FirmReader, Reading, Witness,
+    ConsecutiveEvents, ConsecutiveReader, CountedReader, DirectionReader, FirmReader, Reading,
+    Witness,
 };
 use limits::MAX_INTERVALS;
 
@@ -26,6 +27,8 @@ pub enum TapeReader {
     Firm(FirmReader),
     /// A word is told where it has a witness too, or where the word that follows it on the tape joins it.
     Joined(ConsecutiveReader),
+    /// A word is told where another one counts on with it, and as alone where none does.
+    Counting(CountedReader),
 }
 
 impl TapeReader {
@@ -44,6 +47,7 @@ impl TapeReader {
             Witness::NotAsked => TapeReader::Plain(Reading::start(system, profile)),
             Witness::Asked => TapeReader::Firm(Reading::start(system, profile)),
             Witness::Consecutive => TapeReader::Joined(Reading::start(system, profile)),
+            Witness::Counted => TapeReader::Counting(Reading::start(system, profile)),
         }
     }
 
@@ -55,6 +59,7 @@ impl TapeReader {
             TapeReader::Plain(reader) => Reading::intervals(reader),
             TapeReader::Firm(reader) => Reading::intervals(reader),
             TapeReader::Joined(reader) => Reading::intervals(reader),
+            TapeReader::Counting(reader) => Reading::intervals(reader),
         };
         count >= MAX_INTERVALS
     }
@@ -67,6 +72,7 @@ impl TapeReader {
             TapeReader::Plain(_) => Witness::NotAsked,
             TapeReader::Firm(_) => Witness::Asked,
             TapeReader::Joined(_) => Witness::Consecutive,
+            TapeReader::Counting(_) => Witness::Counted,
         }
     }
 
@@ -85,6 +91,7 @@ impl TapeReader {
             TapeReader::Plain(reader) => reader.until(),
             TapeReader::Firm(reader) => reader.until(),
             TapeReader::Joined(reader) => reader.until(),
+            TapeReader::Counting(reader) => reader.until(),
         }
     }
 
@@ -103,6 +110,7 @@ impl TapeReader {
             TapeReader::Plain(reader) => read_on(reader, intervals),
             TapeReader::Firm(reader) => read_on(reader, intervals),
             TapeReader::Joined(reader) => read_on(reader, intervals),
+            TapeReader::Counting(reader) => read_on(reader, intervals),
         }
     }
 
@@ -116,6 +124,7 @@ impl TapeReader {
             TapeReader::Plain(reader) => reader.last(),
             TapeReader::Firm(reader) => reader.last(),
             TapeReader::Joined(reader) => reader.last(),
+            TapeReader::Counting(reader) => reader.last(),
         }
     }
 }

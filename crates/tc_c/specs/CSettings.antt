@@ -12,7 +12,7 @@ use Rattle.tc_address.specs.declared.system.System.{System}
 use Rattle.tc_address.specs.declared.system.System.TheVariants.{F24, F25, F30}
 use Rattle.tape_reader.specs.declared.settings.TapeSettings.{TapeSettings}
 use Rattle.direction_reader.specs.declared.witness.Witness.{Witness}
-use Rattle.direction_reader.specs.declared.witness.Witness.TheVariants.{NotAsked, Asked, Consecutive}
+use Rattle.direction_reader.specs.declared.witness.Witness.TheVariants.{NotAsked, Asked, Consecutive, Counted}
 use Rattle.tc_c.specs.declared.settings.TcSettings.{TcSettings}
 use Rattle.tc_c.specs.declared.tape_settings.TcTapeSettings.{TcTapeSettings}
 
@@ -44,6 +44,7 @@ abbrev pub witness_number : Witness → ℕ
 witness_number NotAsked = 0
 witness_number Asked = 1
 witness_number Consecutive = 2
+witness_number Counted = 3
 
 -- the numbers mean these settings
 pub record Means (numbers : TcSettings) (s : SoundSettings) : Type 0 where

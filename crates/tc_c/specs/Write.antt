@@ -15,7 +15,7 @@ use Rattle.sound_reader.specs.Sound.{SoundState}
 use Rattle.tape_reader.specs.Tape as tape
 use Rattle.tape_reader.specs.declared.reader.TapeReader.{TapeReader}
 use Rattle.direction_reader.specs.declared.witness.Witness.{Witness}
-use Rattle.direction_reader.specs.declared.witness.Witness.TheVariants.{NotAsked, Asked, Consecutive}
+use Rattle.direction_reader.specs.declared.witness.Witness.TheVariants.{NotAsked, Asked, Consecutive, Counted}
 use Rattle.tc_c.specs.CEvent.{c_event, c_told}
 use Rattle.tc_c.specs.CFrame.{c_frame}
 use Rattle.tc_c.specs.CMtc.{c_mtc_event, HasTold}
@@ -44,6 +44,7 @@ abbrev pub room_for : Witness → ℕ
 room_for NotAsked = 3
 room_for Asked = 3
 room_for Consecutive = 4
+room_for Counted = 3
 
 -- that of a reader of a tape
 abbrev pub room_of : TapeReader → ℕ

@@ -10,7 +10,7 @@ ghost use Rattle.ltc_word.specs.Spelling.{word_with};
 ghost use Rattle.mtc_reader.specs.declared.event.MtcEvent.TheVariants as midi;
 ghost use Rattle.pcm_front.specs.declared.pace.Pace.TheVariants.{Ended, Passing};
 ghost use Rattle.pcm_front.specs.declared.threshold.Threshold.TheVariants.{Fixed, Follow, Deep};
-ghost use Rattle.direction_reader.specs.declared.witness.Witness.TheVariants.{NotAsked, Asked, Consecutive};
+ghost use Rattle.direction_reader.specs.declared.witness.Witness.TheVariants.{NotAsked, Asked, Consecutive, Counted};
 ghost use Rattle.tc_address.specs.declared.count.Count.TheVariants.{C24, C25, C30, Drop30};
 ghost use Rattle.tc_address.specs.declared.direction.Direction.TheVariants.{Forward, Backward};
 ghost use Rattle.tc_address.specs.declared.label.LabelFault.TheVariants as label_faults;
@@ -34,7 +34,7 @@ pub fn settings_have_these_numbers()
     ensures tolerances { map tolerance_number (Normal ∷ Worn ∷ Rough ∷ []) ≡ 0 ∷ 1 ∷ 2 ∷ [] }
     ensures follows { (n : ℕ) → map follows_number (Fixed n ∷ Follow n ∷ Deep n ∷ []) ≡ 0 ∷ 1 ∷ 2 ∷ [] }
     ensures pace { (n : ℕ) → map pace_number (Ended ∷ Passing n ∷ []) ≡ 0 ∷ n ∷ [] }
-    ensures firm { map witness_number (NotAsked ∷ Asked ∷ Consecutive ∷ []) ≡ 0 ∷ 1 ∷ 2 ∷ [] }
+    ensures firm { map witness_number (NotAsked ∷ Asked ∷ Consecutive ∷ Counted ∷ []) ≡ 0 ∷ 1 ∷ 2 ∷ 3 ∷ [] }
 {}
 
 /// The numbers of directions, counts, flags and faults.

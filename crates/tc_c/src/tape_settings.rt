@@ -17,7 +17,8 @@ pub struct TcTapeSettings {
     pub system: u32,
     /// 0 normal, 1 worn, 2 rough.
     pub tolerance: u32,
-    /// What each word is asked for: 0 nothing, 1 a witness beside it, 2 a witness or the word that follows it.
+    /// What each word is asked for: 0 nothing, 1 a witness beside it, 2 a witness or the word that follows it,
+    /// 3 a word that counts on with it.
     pub firm: u32,
 }
 
@@ -44,6 +45,7 @@ fn witness_of(number: u32) -> Option<Witness>
         0 => Some(Witness::NotAsked),
         1 => Some(Witness::Asked),
         2 => Some(Witness::Consecutive),
+        3 => Some(Witness::Counted),
         _ => None,
     }
 }

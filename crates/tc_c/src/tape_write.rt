@@ -71,7 +71,7 @@ pub(crate) fn room_for(witness: Witness) -> usize
     ensures some { 1 ≤ result }
 {
     match witness {
-        Witness::NotAsked | Witness::Asked => 3,
+        Witness::NotAsked | Witness::Asked | Witness::Counted => 3,
         Witness::Consecutive => 4,
     }
 }

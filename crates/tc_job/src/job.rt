@@ -35,22 +35,22 @@ pub enum Job {
     LtcRead,
     /// `ltc-worn`: the same under the tolerance of worn recordings.
     LtcWorn,
-    /// `ltc-rough [firm|consecutive]`: the same under the tolerance of hissy and dull recordings; and each
+    /// `ltc-rough [firm|consecutive|counted]`: the same under the tolerance of hissy and dull recordings; and each
     /// word is asked for a witness, or for one or the next word, or for nothing.
     LtcRough { witness: Witness },
-    /// `ltc-fly LIMIT [worn|rough [firm|consecutive]]`: reads an interval file, and writes a line for each
+    /// `ltc-fly LIMIT [worn|rough [firm|consecutive|counted]]`: reads an interval file, and writes a line for each
     /// frame of its words, with at most this many invented frames in a row.
     LtcFly { flight: Flight },
-    /// `ltc-spans LIMIT [worn|rough [firm|consecutive]]`: reads an interval file, and writes a line for each
+    /// `ltc-spans LIMIT [worn|rough [firm|consecutive|counted]]`: reads an interval file, and writes a line for each
     /// span of the same frames, and for each gap between two.
     LtcSpans { flight: Flight },
-    /// `ltc-mtc LIMIT [worn|rough [firm|consecutive]]`: reads an interval file, and writes MIDI Time Code of
+    /// `ltc-mtc LIMIT [worn|rough [firm|consecutive|counted]]`: reads an interval file, and writes MIDI Time Code of
     /// the same frames.
     LtcMtc { flight: Flight },
-    /// `ltc-jam LIMIT CELL TICK-RATE [worn|rough [firm|consecutive]]`: reads an interval file, and writes the
+    /// `ltc-jam LIMIT CELL TICK-RATE [worn|rough [firm|consecutive|counted]]`: reads an interval file, and writes the
     /// same frames anew as an interval file of cells of one length.
     LtcJam { jam: Jam },
-    /// `ltc-chase COUNT LABEL LIMIT SEED BOUND [worn|rough [firm|consecutive]]`: reads an interval file, and
+    /// `ltc-chase COUNT LABEL LIMIT SEED BOUND [worn|rough [firm|consecutive|counted]]`: reads an interval file, and
     /// writes the steps of a chase that begins at the label and follows the same frames.
     LtcChase { run: ChaseRun },
     /// `mtc-read`: reads MIDI bytes, and writes a line for each label of MIDI Time Code in them, and for

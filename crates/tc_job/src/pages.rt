@@ -429,8 +429,8 @@ pub static EXIT_NUMBERS: [(&str, PageLine); 8] = [
             "..  The input breaks its format at the place that is named.\n\
             \x20  magic at byte 0: another kind of file; a sound file goes to wav-ltc, and an\n\
             \x20  interval file to ltc-read. truncated: the end is cut off. What came before\n\
-            \x20  that byte was read and written, but for a word that still waits with firm\n\
-            \x20  or consecutive; of a script nothing is written.",
+            \x20  that byte was read and written, but for a word that still waits with firm,\n\
+            \x20  consecutive or counted; of a script nothing is written.",
         ),
     ),
     (

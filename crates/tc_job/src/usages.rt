@@ -6,13 +6,16 @@
 pub static USAGES: [(&str, &str); 24] = [
     ("ltc-read", ""),
     ("ltc-worn", ""),
-    ("ltc-rough", " [firm|consecutive]"),
-    ("ltc-fly", " LIMIT [worn|rough [firm|consecutive]]"),
-    ("ltc-spans", " LIMIT [worn|rough [firm|consecutive]]"),
-    ("ltc-mtc", " LIMIT [worn|rough [firm|consecutive]]"),
+    ("ltc-rough", " [firm|consecutive|counted]"),
+    ("ltc-fly", " LIMIT [worn|rough [firm|consecutive|counted]]"),
+    (
+        "ltc-spans",
+        " LIMIT [worn|rough [firm|consecutive|counted]]",
+    ),
+    ("ltc-mtc", " LIMIT [worn|rough [firm|consecutive|counted]]"),
     (
         "ltc-jam",
-        " LIMIT CELL TICK-RATE [worn|rough [firm|consecutive]]",
+        " LIMIT CELL TICK-RATE [worn|rough [firm|consecutive|counted]]",
     ),
     ("ltc-convert", " VERSION"),
     (
@@ -33,7 +36,7 @@ pub static USAGES: [(&str, &str); 24] = [
     ("chase", " COUNT LABEL"),
     (
         "ltc-chase",
-        " COUNT LABEL LIMIT SEED BOUND [worn|rough [firm|consecutive]]",
+        " COUNT LABEL LIMIT SEED BOUND [worn|rough [firm|consecutive|counted]]",
     ),
     ("vitc-read", ""),
     ("luma-vitc", " SYSTEM WIDTH HEIGHT FIRST ROWS"),

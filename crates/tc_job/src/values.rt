@@ -8,7 +8,7 @@ pub static VALUES: [(&str, PageLine); 24] = [
     (
         "ltc-rough",
         (
-            "  firm|consecutive: a word needs another's sync word beside it, or the next word",
+            "  firm|consecutive|counted: which other word each word needs beside it",
             "",
             "",
         ),
@@ -18,7 +18,7 @@ pub static VALUES: [(&str, PageLine); 24] = [
         (
             "  LIMIT 0 to 255: at most this many missing frames in a row are invented\n\
             \x20 worn|rough: words are read as ltc-worn or ltc-rough reads them\n\
-            \x20 firm|consecutive: a word needs another's sync word beside it, or the next word",
+            \x20 firm|consecutive|counted: which other word each word needs beside it",
             "",
             "",
         ),
@@ -28,7 +28,7 @@ pub static VALUES: [(&str, PageLine); 24] = [
         (
             "  LIMIT 0 to 255: at most this many missing frames in a row are invented\n\
             \x20 worn|rough: words are read as ltc-worn or ltc-rough reads them\n\
-            \x20 firm|consecutive: a word needs another's sync word beside it, or the next word",
+            \x20 firm|consecutive|counted: which other word each word needs beside it",
             "",
             "",
         ),
@@ -38,7 +38,7 @@ pub static VALUES: [(&str, PageLine); 24] = [
         (
             "  LIMIT 0 to 255: at most this many missing frames in a row are invented\n\
             \x20 worn|rough: words are read as ltc-worn or ltc-rough reads them\n\
-            \x20 firm|consecutive: a word needs another's sync word beside it, or the next word",
+            \x20 firm|consecutive|counted: which other word each word needs beside it",
             "",
             "",
         ),
@@ -50,7 +50,7 @@ pub static VALUES: [(&str, PageLine); 24] = [
             \x20 CELL 16 to 8388607: how many ticks a cell lasts\n\
             \x20 TICK-RATE 1 to 100000000: ticks a second\n\
             \x20 worn|rough: words are read as ltc-worn or ltc-rough reads them\n\
-            \x20 firm|consecutive: a word needs another's sync word beside it, or the next word",
+            \x20 firm|consecutive|counted: which other word each word needs beside it",
             "",
             "",
         ),
@@ -138,7 +138,7 @@ pub static VALUES: [(&str, PageLine); 24] = [
             \x20 SEED 0 to 18446744073709551615: the seed of the slips\n\
             \x20 BOUND 0 to 1000: the greatest slip, in eightieths of a frame\n\
             \x20 worn|rough: words are read as ltc-worn or ltc-rough reads them\n\
-            \x20 firm|consecutive: a word needs another's sync word beside it, or the next word",
+            \x20 firm|consecutive|counted: which other word each word needs beside it",
             "",
             "",
         ),

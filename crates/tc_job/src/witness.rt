@@ -10,4 +10,6 @@ pub enum Witness {
     Asked,
     /// A witness, or the word that follows it on the tape: one that is beside it and has the next label.
     Consecutive,
+    /// A word that counts on with it: the word before it, whatever came between, or what comes next.
+    Counted,
 }

@@ -3,11 +3,11 @@
 use Rattle.biphase.specs.declared.profile.Profile.TheVariants.{Normal, Worn, Rough}
 use Rattle.tc_job.specs.declared.job.Job.{Job}
 use Rattle.tc_job.specs.declared.job.Job.TheVariants as jobs
-use Rattle.tc_job.specs.declared.witness.Witness.TheVariants.{NotAsked, Asked, Consecutive}
+use Rattle.tc_job.specs.declared.witness.Witness.TheVariants.{NotAsked, Asked, Consecutive, Counted}
 use Rattle.tc_command.specs.Meaning.{Meaning}
 use Rattle.tc_command.specs.Told.{Told}
 use Rattle.column_command.specs.AnsweredText.{told_columns}
-use Rattle.interval_commands.specs.FirmTape.{told_ltc_consecutive, told_ltc_firm}
+use Rattle.interval_commands.specs.FirmTape.{told_ltc_consecutive, told_ltc_counted, told_ltc_firm}
 use Rattle.interval_commands.specs.LtcConvert.{told_ltc_convert}
 use Rattle.interval_commands.specs.LtcPcm.{told_ltc_pcm}
 use Rattle.interval_commands.specs.Tape.{told_ltc_read}
@@ -39,6 +39,7 @@ told_of jobs.LtcWorn = told_ltc_read Worn
 told_of (jobs.LtcRough NotAsked) = told_ltc_read Rough
 told_of (jobs.LtcRough Asked) = told_ltc_firm Rough
 told_of (jobs.LtcRough Consecutive) = told_ltc_consecutive Rough
+told_of (jobs.LtcRough Counted) = told_ltc_counted Rough
 told_of (jobs.LtcFly flight) = told_ltc_fly flight
 told_of (jobs.LtcSpans flight) = told_ltc_spans flight
 told_of (jobs.LtcMtc flight) = told_ltc_mtc flight

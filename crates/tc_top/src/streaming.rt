@@ -16,7 +16,7 @@ use crate::reading_on::it_is_read_on;
 use biphase::Profile::{Normal, Rough, Worn};
 use column_command::Columns;
 use frame_commands::{LtcChase, LtcFly, LtcJam, LtcMtc, LtcSpans};
-use interval_commands::{LtcConsecutive, LtcConvert, LtcFirm, LtcPcm, LtcRead};
+use interval_commands::{LtcConsecutive, LtcConvert, LtcCounted, LtcFirm, LtcPcm, LtcRead};
 use label_command::{Labels, Sum};
 use made_commands::{
     Help, HelpOf, HelpStatuses, LabelOf, LtcLoad, LtcMake, Number, Version, VitcMake,
@@ -25,7 +25,7 @@ use signal_commands::{LumaVitc, MtcRead, PcmLtc, PcmPath, VitcRead, WavLtc, WavP
 use tc_command::{Command, Status, Stop, push_note, stop_note, work};
 use tc_io::{Sink, Source};
 use tc_job::Job;
-use tc_job::Witness::{Asked, Consecutive, NotAsked};
+use tc_job::Witness::{Asked, Consecutive, Counted, NotAsked};
 
 /// Works a job along its input, in fixed memory. It never answers `Usage` or `Memory`.
 pub fn stream<S: Source, K: Sink, N: Sink>(
@@ -80,6 +80,7 @@ pub(crate) fn each_job_is_lawful()
     LtcRead::is_lawful();
     LtcFirm::is_lawful();
     LtcConsecutive::is_lawful();
+    LtcCounted::is_lawful();
     LtcFly::is_lawful();
     LtcSpans::is_lawful();
     LtcMtc::is_lawful();
@@ -121,6 +122,7 @@ fn work_on<S: Source, K: Sink>(job: &Job, source: &mut S, out: &mut K) -> Result
         Job::LtcRough {
             witness: Consecutive,
         } => work(&LtcConsecutive { profile: Rough }, source, out),
+        Job::LtcRough { witness: Counted } => work(&LtcCounted { profile: Rough }, source, out),
         Job::LtcFly { flight } => work(&LtcFly { flight: *flight }, source, out),
         Job::LtcSpans { flight } => work(&LtcSpans { flight: *flight }, source, out),
         Job::LtcMtc { flight } => work(&LtcMtc { flight: *flight }, source, out),

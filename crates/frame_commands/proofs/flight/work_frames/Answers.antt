@@ -9,3 +9,6 @@ returns-in-Asked g c = rw (rw c.flight.ensures at c.in-Asked.is) c.work_along-in
 
 pub returns-in-Consecutive : goal.returns-in-Consecutive
 returns-in-Consecutive g c = rw (rw c.flight.ensures at c.in-Consecutive.is) c.work_along-in-Consecutive.ensures
+
+pub returns-in-Counted : goal.returns-in-Counted
+returns-in-Counted g c = rw (rw c.flight.ensures at c.in-Counted.is) c.work_along-in-Counted.ensures

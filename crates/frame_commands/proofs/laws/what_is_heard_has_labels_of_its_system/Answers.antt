@@ -7,4 +7,5 @@ returns c = heard_labels (record {
   labels = c.what_is_read_has_labels_of_its_system.ensures.events;
   judged_are = c.a_witness_changes_words_alone.ensures;
   judged_too = c.the_next_word_changes_words_alone.ensures.plain;
+  judged_counted = c.counting_changes_words_alone.ensures;
 })

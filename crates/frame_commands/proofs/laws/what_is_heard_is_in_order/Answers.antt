@@ -21,4 +21,11 @@ returns c = in_order (record {
   one = c.a_list_has_one_list_of_consecutive_events.ensures.one;
   more = c.consecutive_told_come_first.ensures.more;
   all = c.consecutive_told_come_first.ensures.all;
+}) (record {
+  some_yet = c.a_list_has_one_list_of_counted_told.ensures.some;
+  some = c.a_list_has_one_list_of_counted_events.ensures.some;
+  one_yet = c.a_list_has_one_list_of_counted_told.ensures.one;
+  one = c.a_list_has_one_list_of_counted_events.ensures.one;
+  more = c.counted_told_come_first.ensures.more;
+  all = c.counted_told_come_first.ensures.all;
 })

@@ -11,4 +11,6 @@ returns c = tape_is_heard (record {
   witnessed = c.each_word_that_is_told_has_its_witness.ensures.list;
   judged_too = c.the_next_word_changes_words_alone.ensures.plain;
   backed = c.each_word_has_its_witness_or_its_next_word.ensures;
+  judged_counted = c.counting_changes_words_alone.ensures;
+  each_counts = c.each_word_that_is_told_counts.ensures;
 })

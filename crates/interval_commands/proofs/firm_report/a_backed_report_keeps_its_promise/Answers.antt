@@ -3,7 +3,7 @@ use Rattle.interval_commands.proofs.FirmlyReports.{firm_report_is_kept}
 use Rattle.interval_commands.proofs.firm_report.a_backed_report_keeps_its_promise.Goals as goal
 
 pub returns : goal.returns
-returns c = λ consecutive profile. firm_report_is_kept consecutive (backing_laws (record {
+returns c = λ backing profile. firm_report_is_kept backing (backing_laws (record {
   judged = c.a_witness_changes_words_alone.ensures;
   backed = c.each_word_that_is_told_has_its_witness.ensures.list;
   tape = c.firm_events_tell_the_tape.ensures;
@@ -11,7 +11,11 @@ returns c = λ consecutive profile. firm_report_is_kept consecutive (backing_law
   judged = c.the_next_word_changes_words_alone.ensures.plain;
   backed = c.each_word_has_its_witness_or_its_next_word.ensures;
   tape = c.consecutive_events_tell_the_tape.ensures;
-}) consecutive) (record {
+}) (record {
+  judged = c.counting_changes_words_alone.ensures;
+  backed = c.each_word_that_is_told_counts.ensures;
+  tape = c.counted_events_tell_the_tape.ensures;
+}) backing) (record {
   plain = c.each_list_has_events.ensures;
   tell = record {
     truth = c.events_tell_the_tape.ensures;

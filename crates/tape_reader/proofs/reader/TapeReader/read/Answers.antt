@@ -1,7 +1,8 @@
-use Rattle.direction_reader.specs.declared.witness.Witness.TheVariants.{NotAsked, Asked, Consecutive}
-use Rattle.direction_reader.specs.KeptReading.{reading_of_all, reading_of_consecutive, reading_of_firm}
-use Rattle.tape_reader.specs.declared.reader.TapeReader.TheVariants.{Plain, Firm, Joined}
-use Rattle.tape_reader.proofs.OneOfThree.{same_settings}
+use Rattle.direction_reader.specs.declared.witness.Witness.TheVariants.{NotAsked, Asked, Consecutive, Counted}
+use Rattle.direction_reader.specs.KeptReading.{reading_of_all, reading_of_consecutive, reading_of_counted}
+use Rattle.direction_reader.specs.KeptReading.{reading_of_firm}
+use Rattle.tape_reader.specs.declared.reader.TapeReader.TheVariants.{Plain, Firm, Joined, Counting}
+use Rattle.tape_reader.proofs.OneOfFour.{same_settings}
 use Rattle.tape_reader.proofs.reader.TapeReader.read.Goals as goal
 
 pub returns-in-Plain-clause-latest : goal.returns-in-Plain-clause-latest
@@ -18,3 +19,12 @@ pub returns-in-Joined-clause-latest : goal.returns-in-Joined-clause-latest
 returns-in-Joined-clause-latest c = rw c.in-Joined.is (λ some.
     let found = c.read_on-in-Joined.ensures.latest some in
     (Joined found.0, found.1, same_settings Consecutive (reading_of_consecutive c.in-Joined.reader) (reading_of_consecutive found.0) found.2, found.3))
+
+pub returns-in-Counting-clause-latest : goal.returns-in-Counting-clause-latest
+returns-in-Counting-clause-latest c = rw c.in-Counting.is (λ some.
+    let found = c.read_on-in-Counting.ensures.latest some in (
+      Counting found.0,
+      found.1,
+      same_settings Counted (reading_of_counted c.in-Counting.reader) (reading_of_counted found.0) found.2,
+      found.3,
+    ))
