@@ -44,11 +44,12 @@
 //! they are said to have, which do not overlap, and one call at a time on one object.
 //!
 //! Read `event`, `settings`, `kept`, `write`, `handle`, `opening` and `exports`, in this order; the files of a
-//! slicer, `slicer_settings` first; of a tape `told`, `tape_settings` and the other files of its name, of a flywheel
-//! `heard`, `frame`, `given` and the files of its name, and of MIDI Time Code `mtc_event` and the files of its name; then the files of a maker and of a sound,
-//! and `label`, `label_exports`, `word`, `word_exports`, `line`, `line_runs` and `line_exports`, and the files of
-//! specs/ beside them. `sound_reader`, `tape_reader`, `frame_wheel`, `quarter_frame`, `mtc_reader`, `code_maker`,
-//! `ltc_word`, `vitc_reader` and `tc_address` are what is called.
+//! slicer, `slicer_settings` first; of a tape `told`, `tape_settings` and the other files of its name, of a
+//! flywheel `heard`, `frame`, `given` and the files of its name, and of MIDI Time Code `mtc_event` and the files of
+//! its name; then the files of a maker and of a sound, and `label`, `label_exports`, `word`, `word_exports`,
+//! `line`, `line_runs` and `line_exports`, and the files of specs/ beside them. `sound_reader`, `tape_reader`,
+//! `frame_wheel`, `quarter_frame`, `mtc_reader`, `code_maker`, `ltc_word`, `vitc_reader` and `tc_address` are what
+//! is called.
 #![tactic(auto)]
 
 mod event;

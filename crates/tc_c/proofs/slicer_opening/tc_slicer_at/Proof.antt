@@ -32,7 +32,8 @@ tc_slicer_at_spec 𝓤 𝓛 𝓜 𝓡 wired =
     f.Key.name code.function (code.unfolded 𝓤 𝓛.H 𝓜 𝓡 wired)
     (λ κs. (rawptr_vals, (rawptr_vals, tt))) (λ κs. (rawptr_Tells, (rawptr_Tells, tt))) (λ κs qs bounds a _ are.
     let y : Ptr → Ptr → W.Ghost = λ p h. ((κs, qs, bounds, (p, (h, tt)), (rawptr_vals p, (rawptr_vals h, tt))), tt) in
-    qed 𝓛 (raw (on_entry 𝓛 f.signature κs qs a (y a.0 a.1.0).0.4) ∷ ‵ (HasSlicerRoom a.0 a.1.0) ∷ []) ∵ drop ! $ fsplit ! $
+    qed 𝓛 (raw (on_entry 𝓛 f.signature κs qs a (y a.0 a.1.0).0.4) ∷ ‵ (HasSlicerRoom a.0 a.1.0) ∷ []) ∵ drop ! $
+    fsplit ! $
     -- neither of the two is null, so each is a place
     in_a_block ! a.0 (λ p. room_at K p) (id⊢ 𝓤 _) (λ b o e.
     regoal ! (λ p. prop (WpFn 𝓤 𝓛.H 𝓣.C 𝓣.Λ code.function (rawptr_vals p ++ (rawptr_vals a.1.0 ++ []))
@@ -46,7 +47,8 @@ tc_slicer_at_spec 𝓤 𝓛 𝓜 𝓡 wired =
     -- blank()
     let G = triple_of 𝓛 g.signature (g.spec 𝓛 𝓜.mem 𝓡.returns) in let z : G.Ghost = ((tt, tt, tt, tt, tt), tt) in
     nothing ! $ nothing ! $ join ! $ nothing ! $ move ! (1 ∷ 0 ∷ []) $ join ! $ use1 𝓛 (raw (G.pre z)) (id⊢ 𝓤 _) $
-    calls_at ! (framed 𝓤 𝓛.H 𝓜 (tables 𝓤 𝓛.H 𝓜 𝓡 𝓡.env)) G (met 𝓤 𝓛 𝓜 𝓡 (code.calls-tc_c::slicer_opening::blank 𝓡.env wired)) z
+    calls_at ! (framed 𝓤 𝓛.H 𝓜 (tables 𝓤 𝓛.H 𝓜 𝓡 𝓡.env)) G
+    (met 𝓤 𝓛 𝓜 𝓡 (code.calls-tc_c::slicer_opening::blank 𝓡.env wired)) z
     (no_more !) (λ v.
     use1 𝓛 (later (some (λ (r : SlicerState). (‵ ftrue ⊛ ‵ (K.own_val r (v ∷ [])))
     ⊛ raw (ensured 𝓛 g.ended (g.clauses 𝓛 𝓜.mem 𝓡.returns) tt tt tt r)))) (id⊢ 𝓤 _) $
@@ -70,6 +72,7 @@ tc_slicer_at_spec 𝓤 𝓛 𝓜 𝓡 wired =
     nothing ! $ feq_i ! (List Val) (vptr b o ∷ []) _ refl $ fjoin ! $ feq_i ! (List Val) (word ∷ []) _ refl $ fjoin ! $
     fpack ! (Valss (RawPtr ∷ [])) (within (shape the_type) (h.at, tt) (word ∷ [])) (vptr b o ∷ [], tt) $ fjoin ! $
     move ! (1 ∷ 0 ∷ []) $ use2 𝓛 (‵ (part_at H full_share h hb ho)) (part_in 𝓛 H refl full_share h hb ho word) $
-    fpack ! SlicerState (λ (value : SlicerState). lies_at H full_share (block_ptr hb ho) (record h { value = value })) r $
+    fpack ! SlicerState (λ (value : SlicerState). lies_at H full_share (block_ptr hb ho)
+    (record h { value = value })) r $
     feq_i ! _ (vunit ∷ []) _ refl $ nothing ! $ nothing ! $ join ! $ nothing ! $ join ! $ nothing ! $ group ! 3 $
     done !)))))))
