@@ -1,6 +1,6 @@
-/* tc.h: linear time code for C11 and C++17, by proved code: it is read from samples or from intervals of a tape, samples
- * are sliced into intervals, words become frames, labels and MIDI Time Code, and words become intervals and samples.
- * Lines of vertical interval time code are read and made as well.
+/* tc.h: linear time code for C11 and C++17, by proved code: it is read from samples or from intervals of a tape,
+ * samples are sliced into intervals, words become frames, labels and MIDI Time Code, and words become intervals and
+ * samples. Lines of vertical interval time code are read and made as well.
  *
  * No function here allocates, keeps global state, waits, prints or ends the process. An object, such as a reader or a
  * flywheel, lies in the caller's memory, and its size is fixed: memcpy makes a copy that goes on from the same place,
@@ -137,10 +137,10 @@ typedef struct tc_slicer_settings {
     uint32_t threshold; /* the fixed one, or the least to which it falls, in units of a sum: 1 to 524272 */
     uint32_t fineness;  /* ticks of a sample: 1 to 64 */
     uint32_t smooth;    /* what is sliced is the sum of this many latest samples: 1 to 16 */
-    uint32_t pace;      /* 0: an interval is given when it has ended. Else as it passes, in pieces of this many ticks, 1 to
-                           16777215: a quarter of a frame, say */
-    uint32_t start;     /* where the first interval begins: 0 at the first sample, so that ticks count from there, as those
-                           of tc_reader; 1 at the first crossing */
+    uint32_t pace;      /* 0: an interval is given when it has ended. Else as it passes, in pieces of this many ticks, 1
+                           to 16777215: a quarter of a frame, say */
+    uint32_t start;     /* where the first interval begins: 0 at the first sample, so that ticks count from there, as
+                           those of tc_reader; 1 at the first crossing */
 } tc_slicer_settings;
 
 /* The library's own form of it. */
@@ -150,7 +150,7 @@ void tc_slicer_at(void *room, tc_handle *handle);
 bool tc_slicer_start_(tc_handle *handle, const tc_slicer_settings *settings);
 tc_taken tc_slicer_write_s16_(tc_handle *handle, const int16_t *samples, size_t count, uint32_t *ticks, size_t room);
 
-#define TC_SLICER_BYTES 1024
+#define TC_SLICER_BYTES 512
 #define TC_SLICER_BOUNDARY 16
 typedef struct tc_slicer {
     TC_ALIGN(TC_SLICER_BOUNDARY) unsigned char state[TC_SLICER_BYTES];

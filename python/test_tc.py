@@ -144,7 +144,8 @@ class Slicing(unittest.TestCase):
             smooth = 3 if words else 1
             told = {"follows": tc.Follows.FIXED, "threshold": 250 * smooth, "smooth": smooth, "start": 1, **numbers}
             words = ["25", "48000", "250", "16", *words, *(["3"] if words else [])]
-            file = subprocess.run([TC, "pcm-ltc", *words], input=self.samples.tobytes(), capture_output=True, check=True).stdout
+            raw = self.samples.tobytes()
+            file = subprocess.run([TC, "pcm-ltc", *words], input=raw, capture_output=True, check=True).stdout
             wanted = list(struct.unpack(f">{len(file) // 4 - 3}I", file[12:]))
             for piece in (1, 7, 999, 1_024, 1_000_000):
                 slicer, found = tc.Slicer(**told), []

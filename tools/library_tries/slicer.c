@@ -5,8 +5,8 @@
  *
  * With MOVE the slicer is copied to another place behind each call, and the old one is overwritten. The status is 1 if
  * the words are wrong or there is no memory, 2 if the settings are refused, and 3 if a call breaks what tc.h says: what
- * is written behind the intervals that are made, a call that takes more than there is, or less than it has room for, and
- * a slicer that changes when there is no room, or by settings that are refused. */
+ * is written behind the intervals that are made, a call that takes more than there is, or less than it has room for,
+ * and a slicer that changes when there is no room, or by settings that are refused. */
 #include "tc.h"
 #include <stdio.h>
 #include <stdlib.h>

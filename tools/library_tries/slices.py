@@ -14,7 +14,8 @@ def ways(chance, system):
     fineness = chance.choice((1, 4, 16, 64))
     smooth = chance.randint(1, 16) if follows else 1
     live = chance.random() < 0.3
-    words = [str(least), str(fineness), *FOLLOWS[follows], *([str(smooth)] if follows else []), *(["live"] if live else [])]
+    words = [str(least), str(fineness), *FOLLOWS[follows]]
+    words += ([str(smooth)] if follows else []) + (["live"] if live else [])
     pace = RATE * fineness // (4 * system) if live else 0
     return (follows, least * smooth, fineness, smooth, pace), words
 
