@@ -1,6 +1,6 @@
-/* tc.h: linear time code for C11 and C++17, by proved code: it is read from samples or from intervals of a tape, its
- * words become frames, labels and MIDI Time Code, and words become intervals and samples. Lines of vertical interval
- * time code are read and made as well.
+/* tc.h: linear time code for C11 and C++17, by proved code: it is read from samples or from intervals of a tape,
+ * samples are sliced into intervals, words become frames, labels and MIDI Time Code, and words become intervals and
+ * samples. Lines of vertical interval time code are read and made as well.
  *
  * No function here allocates, keeps global state, waits, prints or ends the process. An object, such as a reader or a
  * flywheel, lies in the caller's memory, and its size is fixed: memcpy makes a copy that goes on from the same place,
@@ -69,7 +69,7 @@ typedef struct tc_event {
 /* What a call took and gave. */
 typedef struct tc_taken {
     size_t used; /* elements taken, from the front */
-    size_t made; /* events written, from the front */
+    size_t made; /* events, or of a slicer intervals, written, from the front */
     bool full;   /* nothing more is taken: 2 to the 50th samples, or a thousand million intervals. Start anew */
 } tc_taken;
 
@@ -127,6 +127,59 @@ static inline tc_taken tc_reader_write_s16(tc_reader *reader, const int16_t *sam
 static inline uint64_t tc_reader_told(tc_reader *reader) {
     tc_handle handle = {reader->state};
     return tc_reader_told_(&handle);
+}
+
+/* ---- a slicer: samples in, intervals out, for a reader of a tape */
+
+/* How a sound is sliced. The first five are those of tc_settings, and a number that is not named here is refused. */
+typedef struct tc_slicer_settings {
+    uint32_t follows;   /* the threshold: 0 fixed, 1 at half of the level, 2 at a quarter of it */
+    uint32_t threshold; /* the fixed one, or the least to which it falls, in units of a sum: 1 to 524272 */
+    uint32_t fineness;  /* ticks of a sample: 1 to 64 */
+    uint32_t smooth;    /* what is sliced is the sum of this many latest samples: 1 to 16 */
+    uint32_t pace;      /* 0: an interval is given when it has ended. Else as it passes, in pieces of this many ticks, 1
+                           to 16777215: a quarter of a frame, say */
+    uint32_t start;     /* where the first interval begins: 0 at the first sample, so that ticks count from there, as
+                           those of tc_reader; 1 at the first crossing */
+} tc_slicer_settings;
+
+/* The library's own form of it. */
+size_t tc_slicer_bytes(void);
+size_t tc_slicer_boundary(void);
+void tc_slicer_at(void *room, tc_handle *handle);
+bool tc_slicer_start_(tc_handle *handle, const tc_slicer_settings *settings);
+tc_taken tc_slicer_write_s16_(tc_handle *handle, const int16_t *samples, size_t count, uint32_t *ticks, size_t room);
+
+#define TC_SLICER_BYTES 512
+#define TC_SLICER_BOUNDARY 16
+typedef struct tc_slicer {
+    TC_ALIGN(TC_SLICER_BOUNDARY) unsigned char state[TC_SLICER_BYTES];
+} tc_slicer;
+
+/* Begins anew, as tc_reader_start does. */
+static inline bool tc_slicer_start(tc_slicer *slicer, const tc_slicer_settings *settings) {
+    tc_handle handle = {slicer->state};
+    return tc_slicer_start_(&handle, settings);
+}
+
+/* Makes a slicer, before its first sample, as tc_reader_init makes a reader. */
+static inline bool tc_slicer_init(tc_slicer *slicer, const tc_slicer_settings *settings) {
+    tc_handle handle;
+    if (tc_abi() != TC_ABI || tc_slicer_bytes() > TC_SLICER_BYTES || tc_slicer_boundary() > TC_SLICER_BOUNDARY) {
+        return false;
+    }
+    tc_slicer_at(slicer->state, &handle);
+    return tc_slicer_start_(&handle, settings);
+}
+
+/* Takes samples from the front, and writes the intervals that they bring, in ticks, in order, as long as there is room:
+ * with a room of 0 it takes nothing and leaves the slicer as it was. Behind the intervals that are made no element
+ * changes. If made == room, samples or intervals may be left: call again with the samples that are left, or none. In
+ * whatever pieces the samples come, the intervals are the same. It is `full` after 2 to the 50th samples. */
+static inline tc_taken tc_slicer_write_s16(tc_slicer *slicer, const int16_t *samples, size_t count, uint32_t *ticks,
+                                           size_t room) {
+    tc_handle handle = {slicer->state};
+    return tc_slicer_write_s16_(&handle, samples, count, ticks, room);
 }
 
 /* ---- a reader of a tape: intervals in, events out */

@@ -14,7 +14,8 @@ full scale, or no number, counts as full scale. A track of an array of more chan
 of a sample, which has `fineness` of them; tick 0 is at the first sample. Intervals are whole numbers, in bytes 32 bits
 wide; an array has any width that holds them. A tick is their unit.
 
-A `Reader` takes samples, a `Tape` intervals, and both give words, refused words and breaks. A `Wheel` takes words and
+A `Reader` takes samples, a `Tape` intervals, and both give words, refused words and breaks. A `Slicer` takes samples
+and gives intervals, for a `Tape`. A `Wheel` takes words and
 the time, and gives frames: those that were heard, and invented ones for those that were not. An `MtcWriter` makes MIDI
 Time Code of frames, and an `MtcReader` reads its bytes. `bits` gives the 80 bits of a word; a `Maker` makes intervals
 of bits, and a `Sound` samples of intervals. `line` reads a line of vertical interval time code from its runs, and
@@ -110,6 +111,26 @@ class Settings:
 
     def __post_init__(self) -> None:
         Reader(self)
+
+
+@dataclass(frozen=True)
+class Slicing:
+    """How a sound is sliced into intervals. Raises ValueError at once if one is out of range."""
+
+    follows: Follows = Follows.HALF
+    threshold: int = 250
+    """The threshold, or the least to which it falls, in units of a sum: 1 to 524,272."""
+    fineness: int = 16
+    """Ticks of a sample: 1 to 64."""
+    smooth: int = 1
+    """What is sliced is the sum of this many latest samples: 1 to 16."""
+    pace: int = 0
+    """0: an interval is given when it has ended. Else as it passes, in pieces of this many ticks, 1 to 16,777,215."""
+    start: int = 0
+    """Where the first interval begins: 0 at the first sample, 1 at the first crossing."""
+
+    def __post_init__(self) -> None:
+        Slicer(self)
 
 
 class Kind(enum.IntEnum):
@@ -254,6 +275,10 @@ class _Taken(ctypes.Structure):
     _fields_ = [("used", ctypes.c_size_t), ("made", ctypes.c_size_t), ("full", ctypes.c_bool)]
 
 
+class _SlicerSettings(ctypes.Structure):
+    _fields_ = [(name, ctypes.c_uint32) for name in Slicing.__dataclass_fields__]
+
+
 class _TapeSettings(ctypes.Structure):
     _fields_ = [(name, ctypes.c_uint32) for name in ("system", "tolerance", "firm")]
 
@@ -359,7 +384,7 @@ def _describe(loaded: ctypes.CDLL) -> None:
     """Tells ctypes what the functions take and give."""
     place, size = ctypes.POINTER(ctypes.c_void_p), ctypes.c_size_t
     events, frames = ctypes.POINTER(_Event), ctypes.POINTER(_Frame)
-    for name in ("reader", "tape", "wheel", "mtc_writer", "mtc_reader", "maker", "sound"):
+    for name in ("reader", "slicer", "tape", "wheel", "mtc_writer", "mtc_reader", "maker", "sound"):
         for what in ("bytes", "boundary"):
             getattr(loaded, f"tc_{name}_{what}").restype = size
         made = getattr(loaded, f"tc_{name}_at")
@@ -370,6 +395,9 @@ def _describe(loaded: ctypes.CDLL) -> None:
     loaded.tc_reader_start_.argtypes = [place, ctypes.POINTER(_Settings)]
     loaded.tc_reader_write_s16_.restype = _Taken
     loaded.tc_reader_write_s16_.argtypes = [place, ctypes.c_void_p, size, events, size]
+    loaded.tc_slicer_start_.argtypes = [place, ctypes.POINTER(_SlicerSettings)]
+    loaded.tc_slicer_write_s16_.restype = _Taken
+    loaded.tc_slicer_write_s16_.argtypes = [place, ctypes.c_void_p, size, ctypes.POINTER(ctypes.c_uint32), size]
     loaded.tc_tape_start_.argtypes = [place, ctypes.POINTER(_TapeSettings)]
     loaded.tc_tape_write_.restype = _TapeTaken
     loaded.tc_tape_write_.argtypes = [place, ctypes.c_void_p, size, events, size]
@@ -550,6 +578,42 @@ class Reader(_Object):
         a `Wheel`. With a pace of 0 it stands still during a silence, and else it goes on by such pieces.
         """
         return self._call("told_", ctypes.byref(self._handle))
+
+
+class Slicer(_Object):
+    """Slices a sound into its intervals, in pieces of any length, for a `Tape`. One serves one thread at a time."""
+
+    _name, _gives = "slicer", ctypes.c_uint32
+
+    def __init__(self, slicing: Slicing | None = None, **numbers: int):
+        """Settings, or some of their fields by name. Raises ValueError if one is out of range."""
+        self._slicing = slicing or Slicing()
+        if numbers:
+            self._slicing = Slicing(**{**vars(self._slicing), **numbers})
+        self._make()
+        fields = (getattr(self._slicing, name) for name in Slicing.__dataclass_fields__)
+        self._start(_SlicerSettings(*_numbers(fields, self._slicing)), self._slicing)
+
+    @property
+    def slicing(self) -> Slicing:
+        return self._slicing
+
+    def write(self, samples) -> array.array:
+        """Takes all samples, and gives the intervals that they bring. Raises ValueError if these are no samples, and
+        Full if the slicer takes no more.
+        """
+        view = _samples_of(samples)
+        held = (ctypes.c_char * view.nbytes).from_buffer_copy(view.cast("B"))
+        made, at, count = array.array("I"), 0, view.nbytes // 2
+        while True:
+            place = ctypes.c_void_p(ctypes.addressof(held) + 2 * at)
+            taken = self._call("write_s16_", ctypes.byref(self._handle), place, count - at, self._given, ROOM)
+            made.extend(self._given[: taken.made])
+            at += taken.used
+            if taken.made < ROOM:
+                if at < count:
+                    raise Full("the slicer takes no more: begin a new one")
+                return made
 
 
 class Tape(_Object):

@@ -129,6 +129,64 @@ class Reading(unittest.TestCase):
 
 
 @unittest.skipUnless(os.path.exists(TC), "bin/tc is not built")
+class Slicing(unittest.TestCase):
+    @classmethod
+    def setUpClass(cls):
+        ticks = intervals("25", "09:59:59:20", 40)
+        chance = random.Random(5)
+        made = code(48_000, ticks, lead=500, size=3_000)
+        made[20_000:20_000] = [0] * 9_000
+        cls.samples = array.array("h", (sample + chance.randint(-400, 400) for sample in made))
+
+    def test_intervals_are_the_programs(self):
+        ways = ({}, []), ({"follows": tc.Follows.HALF}, ["follow"]), ({"follows": tc.Follows.QUARTER}, ["deep"])
+        for numbers, words in ways:
+            smooth = 3 if words else 1
+            told = {"follows": tc.Follows.FIXED, "threshold": 250 * smooth, "smooth": smooth, "start": 1, **numbers}
+            words = ["25", "48000", "250", "16", *words, *(["3"] if words else [])]
+            raw = self.samples.tobytes()
+            file = subprocess.run([TC, "pcm-ltc", *words], input=raw, capture_output=True, check=True).stdout
+            wanted = list(struct.unpack(f">{len(file) // 4 - 3}I", file[12:]))
+            for piece in (1, 7, 999, 1_024, 1_000_000):
+                slicer, found = tc.Slicer(**told), []
+                for at in range(0, len(self.samples), piece):
+                    found += slicer.write(self.samples[at : at + piece])
+                self.assertEqual(found, wanted, f"{words} in pieces of {piece}")
+
+    def test_a_tape_of_them_is_read_as_the_sound(self):
+        for tolerance in tc.Tolerance:
+            for pace in (0, 7_680):
+                sliced = tc.Slicer(pace=pace).write(self.samples)
+                wanted = tc.Reader(tolerance=tolerance, pace=pace).write(self.samples)
+                self.assertEqual(tc.Tape(25, tolerance).write(sliced), wanted)
+
+    def test_consecutive_words_of_sound(self):
+        tape = tc.Tape(25, tc.Tolerance.ROUGH, tc.Witness.CONSECUTIVE)
+        slicer, events = tc.Slicer(), []
+        for at in range(0, len(self.samples), 1_024):
+            events += tape.write(slicer.write(self.samples[at : at + 1_024]))
+        events += tape.last()
+        whole = tc.Tape(25, tc.Tolerance.ROUGH, tc.Witness.CONSECUTIVE)
+        self.assertEqual(events, whole.write(tc.Slicer().write(self.samples)) + whole.last())
+        self.assertGreater(sum(isinstance(event, tc.Word) for event in events), 30)
+
+    def test_settings_at_the_edges_and_copies(self):
+        for numbers in ({"start": 1}, {"fineness": 64}, {"smooth": 16}, {"threshold": 524_272}, {"pace": 16_777_215}):
+            tc.Slicer(**numbers)
+        wrong = ({"start": 2}, {"follows": 3}, {"threshold": 0}, {"fineness": 65}, {"smooth": 0}, {"pace": 1 << 24})
+        for numbers in (*wrong, {"start": -1}, {"fineness": 1 << 40}):
+            for make in (tc.Slicing, tc.Slicer):
+                with self.assertRaises(ValueError):
+                    make(**numbers)
+        slicer, wanted = tc.Slicer(), tc.Slicer().write(self.samples)
+        first = slicer.write(self.samples[:7_000])
+        other = slicer.copy()
+        slicer.write(self.samples[:1_000])
+        self.assertEqual(first + other.write(self.samples[7_000:]), wanted)
+        self.assertEqual(tc.Slicer().write(b""), array.array("I"))
+
+
+@unittest.skipUnless(os.path.exists(TC), "bin/tc is not built")
 class Tapes(unittest.TestCase):
     @classmethod
     def setUpClass(cls):

@@ -1,3 +1,4 @@
 mod OnlyPieces
+mod SlicesOn
 mod StepsGoOn
 mod ToldLater

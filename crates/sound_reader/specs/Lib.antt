@@ -1,3 +1,4 @@
 pub mod Settings
+pub mod Slicer
 pub mod Sound
 pub mod Waiting

@@ -1,4 +1,4 @@
-//! From samples to events: a slicer and a reader of intervals in one.
+//! From samples to events, by a slicer and a reader of intervals in one, and from samples to intervals.
 //!
 //! Samples come in pieces of any length, as a sound card or a file gives them. The slicer finds the
 //! crossings among them, and the reader the words, refused words and breaks of the intervals between. What
@@ -14,15 +14,24 @@
 //! - All that is told later ends at the tick that `told_until` gives, or behind it (clause `later`).
 //! - So they are the events of the intervals of the samples, under the settings that it was made with
 //!   (`laws::what_is_given_are_the_events_of_the_samples`).
+//! - A `SoundSlicer` gives the intervals themselves, of all samples so far, each once and in order, in whatever
+//!   pieces the samples come and in whatever room (`specs/Slicer.antt`, `StandsFor` and `Gives`; clause `goes` of
+//!   `write`). Where it leaves room it has taken all samples, and no interval waits, unless it is full (`settled`,
+//!   `all`).
 //!
 //! Read `settings`, `waiting` and `reader`, in this order, and `specs/Settings.antt`, `Waiting.antt` and
-//! `Sound.antt` beside them. `tc_c` makes functions for C of it. Nothing here allocates or fails.
+//! `Sound.antt` beside them; then `slicer_settings` and `slicer`, and `specs/Slicer.antt`. `tc_c` makes functions for C
+//! of both. Nothing here allocates or fails.
 #![tactic(auto)]
 
 pub mod laws;
 mod reader;
 mod settings;
+mod slicer;
+mod slicer_settings;
 mod waiting;
 
 pub use reader::{MAX_SAMPLES, SoundReader};
 pub use settings::SoundSettings;
+pub use slicer::SoundSlicer;
+pub use slicer_settings::SlicerSettings;

@@ -40,7 +40,7 @@ impl SoundSettings {
     }
 }
 
-fn is_threshold(threshold: Threshold) -> bool
+pub(crate) fn is_threshold(threshold: Threshold) -> bool
     ensures { IsTrue result ↔ IsThreshold threshold }
 {
     match threshold {
@@ -49,7 +49,7 @@ fn is_threshold(threshold: Threshold) -> bool
     }
 }
 
-fn is_pace(pace: Pace) -> bool
+pub(crate) fn is_pace(pace: Pace) -> bool
     ensures { IsTrue result ↔ IsPace pace }
 {
     match pace {

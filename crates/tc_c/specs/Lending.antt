@@ -6,6 +6,7 @@ use Rattle.quarter_frame.specs.declared.half.Half.{Half}
 use Rattle.std.specs.Prelude.{Option}
 use Rattle.biphase.specs.Shape.{Shape}
 use Rattle.code_maker.specs.Sound.{MadeSound}
+use Rattle.sound_reader.specs.Slicer.{SlicerState}
 use Rattle.sound_reader.specs.Sound.{SoundState}
 use Rattle.tape_reader.specs.declared.reader.TapeReader.{TapeReader}
 use Rattle.tc_c.specs.contracts.kept.KeptReader as reader
@@ -19,6 +20,9 @@ use Rattle.tc_c.specs.declared.mtc_reader_handle.TcMtcReader.{TcMtcReader}
 use Rattle.tc_c.specs.declared.mtc_writer_handle.TcMtcWriter.{TcMtcWriter}
 use Rattle.tc_c.specs.contracts.maker_kept.KeptMaker as maker
 use Rattle.tc_c.specs.contracts.maker_handle.TcMaker as maker_handle
+use Rattle.tc_c.specs.contracts.slicer_kept.KeptSlicer as slicer
+use Rattle.tc_c.specs.contracts.slicer_handle.TcSlicer as slicer_handle
+use Rattle.tc_c.specs.declared.slicer_handle.TcSlicer.{TcSlicer}
 use Rattle.tc_c.specs.contracts.sound_kept.KeptSound as sound
 use Rattle.tc_c.specs.contracts.sound_handle.TcSound as sound_handle
 use Rattle.tc_c.specs.declared.maker_handle.TcMaker.{TcMaker}
@@ -85,3 +89,11 @@ with_sound handle value = record handle { value = value }
 -- the handle ends with the last state of its maker
 abbrev pub LendsSound : MutBor TcSound → MutBor MadeSound → Fml
 LendsSound s r = Lends sound_handle.the_row sound.the_row s r (with_sound s.now)
+
+-- and of a slicer of sound
+abbrev pub with_slicer : TcSlicer → SlicerState → TcSlicer
+with_slicer handle value = record handle { value = value }
+
+-- the handle ends with the last state of its slicer
+abbrev pub LendsSlicer : MutBor TcSlicer → MutBor SlicerState → Fml
+LendsSlicer s r = Lends slicer_handle.the_row slicer.the_row s r (with_slicer s.now)

@@ -9,6 +9,7 @@ use Rattle.quarter_frame.specs.declared.half.Half.{Half}
 use Rattle.std.specs.Prelude.{Option}
 use Rattle.biphase.specs.Shape.{Shape}
 use Rattle.code_maker.specs.Sound.{MadeSound}
+use Rattle.sound_reader.specs.Slicer.{SlicerState}
 use Rattle.sound_reader.specs.Sound.{SoundState}
 use Rattle.tape_reader.specs.declared.reader.TapeReader.{TapeReader}
 use Rattle.tc_c.specs.contracts.kept.KeptReader as reader
@@ -19,6 +20,8 @@ use Rattle.tc_c.specs.contracts.mtc_writer_kept.KeptMtcWriter as mtc_writer
 use Rattle.tc_c.specs.contracts.mtc_writer_handle.TcMtcWriter as mtc_writer_handle
 use Rattle.tc_c.specs.contracts.maker_kept.KeptMaker as maker
 use Rattle.tc_c.specs.contracts.maker_handle.TcMaker as maker_handle
+use Rattle.tc_c.specs.contracts.slicer_kept.KeptSlicer as slicer
+use Rattle.tc_c.specs.contracts.slicer_handle.TcSlicer as slicer_handle
 use Rattle.tc_c.specs.contracts.sound_kept.KeptSound as sound
 use Rattle.tc_c.specs.contracts.sound_handle.TcSound as sound_handle
 use Rattle.tc_c.specs.contracts.tape_kept.KeptTape as tape
@@ -88,3 +91,12 @@ HasSoundRoom room at = fsep (room_at sound.the_row room) (room_at sound_handle.t
 abbrev pub HasSound : Ptr → Ptr → Fml
 HasSound room at =
     fex MadeSound (λ value. lies_at sound_handle.the_row full_share at (record { at = room; value = value }))
+
+-- room for a slicer of sound and its handle
+abbrev pub HasSlicerRoom : Ptr → Ptr → Fml
+HasSlicerRoom room at = fsep (room_at slicer.the_row room) (room_at slicer_handle.the_row at)
+
+-- a handle whose slicer lies in the room
+abbrev pub HasSlicer : Ptr → Ptr → Fml
+HasSlicer room at =
+    fex SlicerState (λ value. lies_at slicer_handle.the_row full_share at (record { at = room; value = value }))

@@ -4,7 +4,9 @@ ghost use Rattle.flywheel.specs.declared.frame.Frame.{Frame};
 ghost use Rattle.flywheel.specs.declared.heard.HeardWord.{HeardWord};
 ghost use Rattle.ltc_word.specs.declared.word.LtcWord.{LtcWord};
 ghost use Rattle.sound_reader.specs.declared.settings.SoundSettings.{SoundSettings};
+ghost use Rattle.sound_reader.specs.declared.slicer_settings.SlicerSettings.{SlicerSettings};
 ghost use Rattle.sound_reader.specs.Settings.{AreInRange};
+ghost use Rattle.sound_reader.specs.Slicer.{CanSlice};
 ghost use Rattle.tape_reader.specs.declared.settings.TapeSettings.{TapeSettings};
 ghost use Rattle.tc_address.specs.Count.{system_with};
 ghost use Rattle.tc_address.specs.Label.{Address};
@@ -18,12 +20,13 @@ ghost use Rattle.vitc_reader.specs.Written.{runs_in};
 ghost use Rattle.tc_c.specs.CFrame.{c_frame, HasLabel, MeansFrame, MeansHeard};
 ghost use Rattle.tc_c.specs.CLabel.{MeansLabel};
 ghost use Rattle.tc_c.specs.CLine.{c_line_word, MeansLineWord};
-ghost use Rattle.tc_c.specs.CSettings.{Means, MeansTape};
+ghost use Rattle.tc_c.specs.CSettings.{Means, MeansSlicer, MeansTape};
 ghost use Rattle.tc_c.specs.CWord.{MeansWord};
 ghost use Rattle.tc_c.specs.declared.frame.TcFrame.{TcFrame};
 ghost use Rattle.tc_c.specs.declared.heard.TcHeard.{TcHeard};
 ghost use Rattle.tc_c.specs.declared.label.TcLabel.{TcLabel};
 ghost use Rattle.tc_c.specs.declared.settings.TcSettings.{TcSettings};
+ghost use Rattle.tc_c.specs.declared.slicer_settings.TcSlicerSettings.{TcSlicerSettings};
 ghost use Rattle.tc_c.specs.declared.tape_settings.TcTapeSettings.{TcTapeSettings};
 ghost use Rattle.tc_c.specs.declared.word.TcWord.{TcWord};
 
@@ -39,6 +42,12 @@ pub fn numbers_mean_one_settings()
 /// Numbers mean one way to read a tape at most.
 pub fn numbers_mean_one_way_to_read_a_tape()
     ensures { (numbers : TcTapeSettings) (s t : TapeSettings) → MeansTape numbers s → MeansTape numbers t → s ≡ t }
+{}
+
+/// Numbers mean one way to slice a sound at most, of those in range.
+pub fn numbers_mean_one_way_to_slice()
+    ensures { (numbers : TcSlicerSettings) (s t : SlicerSettings) → CanSlice s → CanSlice t → MeansSlicer numbers s
+        → MeansSlicer numbers t → s ≡ t }
 {}
 
 /// Numbers mean one word that was heard at most.

@@ -15,16 +15,20 @@
 //!   `tc_tape_last_` writes, the events are those of the tape.
 //! - `tc_reader_told_` and `tc_tape_told_` give the tick up to which all words are told: one that is told later
 //!   ends there or behind it, whatever follows.
+//! - `tc_slicer_write_s16_` takes samples and writes the intervals of all samples so far, each once and in order, in
+//!   whatever pieces the samples come and in whatever room (`sound_reader`, `Gives`). They are what `tc_tape_write_`
+//!   takes.
 //! - `tc_wheel_hear_` and `tc_wheel_pass_` write the frames of all words so far, up to the latest tick
 //!   (`WheelGoes`). A tick that falls is refused.
 //! - `tc_mtc_writer_write_` writes what the MIDI Time Code of the frames so far grows by (`MtcWrites`), and
 //!   `tc_mtc_reader_read_` the labels that bytes complete, in whatever pieces they come (`MtcGoes`).
 //! - `tc_maker_bits_` writes the intervals of the cells of bits (`code_maker`, `GoesOnBehind`), and
 //!   `tc_sound_write_` the samples of all intervals so far, in whatever pieces they come and go (`SoundMakes`).
-//! - `tc_reader_start_`, `tc_tape_start_` and `tc_wheel_start_` take the settings that the numbers mean, and say
-//!   whether they mean some (`specs/CSettings.antt`, `Means`, `MeansTape`). Where they do not, nothing changes.
-//! - `tc_reader_at`, `tc_tape_at`, `tc_wheel_at`, `tc_mtc_writer_at`, `tc_mtc_reader_at`, `tc_maker_at` and
-//!   `tc_sound_at` make an object in the room that they are given (`specs/Opening.antt`).
+//! - `tc_reader_start_`, `tc_slicer_start_`, `tc_tape_start_` and `tc_wheel_start_` take the settings that the numbers
+//!   mean, and say whether they mean some (`specs/CSettings.antt`, `Means`, `MeansSlicer`, `MeansTape`). Where they do
+//!   not, nothing changes.
+//! - `tc_reader_at`, `tc_slicer_at`, `tc_tape_at`, `tc_wheel_at`, `tc_mtc_writer_at`, `tc_mtc_reader_at`,
+//!   `tc_maker_at` and `tc_sound_at` make an object in the room that they are given (`specs/Opening.antt`).
 //! - The numbers of an event are those of `specs/CEvent.antt`, `c_event` and `c_told`, and those of a frame
 //!   `c_frame` of `specs/CFrame.antt`; numbers mean one settings, one label, one word and one frame at most
 //!   (`laws`). `number_laws` writes them out.
@@ -39,12 +43,13 @@
 //! What a caller in C has to keep stands as `requires` and in the header: pointers to as many elements as
 //! they are said to have, which do not overlap, and one call at a time on one object.
 //!
-//! Read `event`, `settings`, `kept`, `write`, `handle`, `opening` and `exports`, in this order; of a tape `told`,
-//! `tape_settings` and the other files of its name, of a flywheel `heard`, `frame`, `given` and the files of its
-//! name, and of MIDI Time Code `mtc_event` and the files of its name; then the files of a maker and of a sound,
-//! and `label`, `label_exports`, `word`, `word_exports`, `line`, `line_runs` and `line_exports`, and the files of
-//! specs/ beside them. `sound_reader`, `tape_reader`, `frame_wheel`, `quarter_frame`, `mtc_reader`, `code_maker`,
-//! `ltc_word`, `vitc_reader` and `tc_address` are what is called.
+//! Read `event`, `settings`, `kept`, `write`, `handle`, `opening` and `exports`, in this order; the files of a
+//! slicer, `slicer_settings` first; of a tape `told`, `tape_settings` and the other files of its name, of a
+//! flywheel `heard`, `frame`, `given` and the files of its name, and of MIDI Time Code `mtc_event` and the files of
+//! its name; then the files of a maker and of a sound, and `label`, `label_exports`, `word`, `word_exports`,
+//! `line`, `line_runs` and `line_exports`, and the files of specs/ beside them. `sound_reader`, `tape_reader`,
+//! `frame_wheel`, `quarter_frame`, `mtc_reader`, `code_maker`, `ltc_word`, `vitc_reader` and `tc_address` are what
+//! is called.
 #![tactic(auto)]
 
 mod event;
@@ -78,6 +83,11 @@ mod mtc_writer_opening;
 pub mod number_laws;
 mod opening;
 mod settings;
+mod slicer_exports;
+mod slicer_handle;
+mod slicer_kept;
+mod slicer_opening;
+mod slicer_settings;
 mod sound_exports;
 mod sound_handle;
 mod sound_kept;
@@ -114,6 +124,9 @@ pub use mtc_reader_kept::KeptMtcReader;
 pub use mtc_writer_handle::TcMtcWriter;
 pub use mtc_writer_kept::KeptMtcWriter;
 pub use settings::TcSettings;
+pub use slicer_handle::TcSlicer;
+pub use slicer_kept::KeptSlicer;
+pub use slicer_settings::TcSlicerSettings;
 pub use sound_exports::TcSoundTaken;
 pub use sound_handle::TcSound;
 pub use sound_kept::KeptSound;

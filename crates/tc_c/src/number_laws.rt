@@ -9,6 +9,7 @@ ghost use Rattle.ltc_word.specs.declared.word.WordFault.TheVariants.{Sync};
 ghost use Rattle.ltc_word.specs.Spelling.{word_with};
 ghost use Rattle.mtc_reader.specs.declared.event.MtcEvent.TheVariants as midi;
 ghost use Rattle.pcm_front.specs.declared.pace.Pace.TheVariants.{Ended, Passing};
+ghost use Rattle.pcm_front.specs.declared.start.Start.TheVariants.{Crossing, Tick};
 ghost use Rattle.pcm_front.specs.declared.threshold.Threshold.TheVariants.{Fixed, Follow, Deep};
 ghost use Rattle.direction_reader.specs.declared.witness.Witness.TheVariants.{NotAsked, Asked, Consecutive, Counted};
 ghost use Rattle.tc_address.specs.declared.count.Count.TheVariants.{C24, C25, C30, Drop30};
@@ -25,7 +26,8 @@ ghost use Rattle.tc_c.specs.CEvent.{bit, c_event, c_told, count_number, directio
 ghost use Rattle.tc_c.specs.CFrame.{c_frame};
 ghost use Rattle.tc_c.specs.CLine.{line_fault_number, line_fault_place};
 ghost use Rattle.tc_c.specs.CMtc.{c_mtc_event, label_fault_number};
-ghost use Rattle.tc_c.specs.CSettings.{follows_number, pace_number, system_number, tolerance_number, witness_number};
+ghost use Rattle.tc_c.specs.CSettings.{follows_number, pace_number, start_number, system_number, tolerance_number};
+ghost use Rattle.tc_c.specs.CSettings.{witness_number};
 ghost use Rattle.tc_c.specs.CWord.{word_fault_number};
 
 /// The numbers of settings.
@@ -34,6 +36,7 @@ pub fn settings_have_these_numbers()
     ensures tolerances { map tolerance_number (Normal ∷ Worn ∷ Rough ∷ []) ≡ 0 ∷ 1 ∷ 2 ∷ [] }
     ensures follows { (n : ℕ) → map follows_number (Fixed n ∷ Follow n ∷ Deep n ∷ []) ≡ 0 ∷ 1 ∷ 2 ∷ [] }
     ensures pace { (n : ℕ) → map pace_number (Ended ∷ Passing n ∷ []) ≡ 0 ∷ n ∷ [] }
+    ensures starts { map start_number (Tick ∷ Crossing ∷ []) ≡ 0 ∷ 1 ∷ [] }
     ensures firm { map witness_number (NotAsked ∷ Asked ∷ Consecutive ∷ Counted ∷ []) ≡ 0 ∷ 1 ∷ 2 ∷ 3 ∷ [] }
 {}
 

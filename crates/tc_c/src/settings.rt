@@ -83,7 +83,7 @@ pub(crate) fn profile_of(number: u32) -> Option<Profile>
     }
 }
 
-fn threshold_of(follows: u32, least: u32) -> Option<Threshold>
+pub(crate) fn threshold_of(follows: u32, least: u32) -> Option<Threshold>
     ensures means { IfSome result (λ t. (follows_number t ≡ follows) × (least_of t ≡ least)) }
     ensures only { (t : Threshold) → follows_number t ≡ follows → least_of t ≡ least → result ≡ Some t }
 {
@@ -95,7 +95,7 @@ fn threshold_of(follows: u32, least: u32) -> Option<Threshold>
     }
 }
 
-fn pace_of(ticks: u32) -> Pace
+pub(crate) fn pace_of(ticks: u32) -> Pace
     ensures means { pace_number result ≡ ticks }
     ensures only { (p : Pace) → IsPace p → pace_number p ≡ ticks → result ≡ p }
 {
