@@ -9,7 +9,7 @@ use Rattle.frame_commands.specs.LtcFly.{told_ltc_fly}
 use Rattle.frame_commands.specs.LtcJam.{told_ltc_jam}
 use Rattle.frame_commands.specs.LtcMtc.{told_ltc_mtc}
 use Rattle.frame_commands.specs.LtcSpans.{told_ltc_spans}
-use Rattle.interval_commands.specs.FirmTape.{told_ltc_consecutive, told_ltc_firm}
+use Rattle.interval_commands.specs.FirmTape.{told_ltc_consecutive, told_ltc_counted, told_ltc_firm}
 use Rattle.interval_commands.specs.LtcConvert.{told_ltc_convert}
 use Rattle.interval_commands.specs.LtcPcm.{told_ltc_pcm}
 use Rattle.interval_commands.specs.Tape.{told_ltc_read}
@@ -60,6 +60,7 @@ pub record RecordingsAreWorked : Type 0 where
   pub rough : Works (codes "ltc-rough") (told_ltc_read Rough)
   pub firm : Works (codes "ltc-rough firm") (told_ltc_firm Rough)
   pub consecutive : Works (codes "ltc-rough consecutive") (told_ltc_consecutive Rough)
+  pub counted : Works (codes "ltc-rough counted") (told_ltc_counted Rough)
   pub convert : WorksWith (codes "ltc-convert 2") jobs.LtcConvert told_ltc_convert
   pub pcm : WorksWith (codes "ltc-pcm 8192") jobs.LtcPcm told_ltc_pcm
   pub fly : WorksWith (codes "ltc-fly 2") jobs.LtcFly told_ltc_fly
