@@ -2,6 +2,7 @@
 """What `tools/tape` chooses by itself, beside each way of reading alone, on kinds of sound that none was made for.
 
     bench/choice.py [--seed N] [--frames 600] [WORD ..]     all kinds, or those whose name has one of the words
+    bench/choice.py --witnesses ..      by the best path alone: all words, and `firm`, `consecutive`, `counted` behind it
 
 A row is a kind of sound: the band of a telephone at three phases, codecs of low rates, a coupling capacitor, worn tape
 with wow and an automatic level, a dimmer, print-through, speech beside the code, a loud room. A cell has the words that
@@ -39,6 +40,7 @@ RATE, SIZE, SYSTEM = 48_000, 8_000, 25
 TELEPHONE = 8_000
 NEAR = 0.005
 CONSECUTIVE = "consecutive"
+ASKED = ((), ("firm",), (CONSECUTIVE,), ("counted",))
 
 
 def by_sox(room, samples, effects, rate=RATE):
@@ -154,11 +156,11 @@ def counted(said, recorded):
     return right, len(said) - right
 
 
-def by_tc(samples, rate, recorded, *slicing):
+def by_tc(samples, rate, recorded, *slicing, asked=(CONSECUTIVE,)):
     data = np.clip(np.round(samples), -32_768, 32_767).astype("<i2").tobytes()
     slicer = [TC, "pcm-ltc", str(SYSTEM), str(rate), "250", "16", *slicing]
     sliced = subprocess.run(slicer, input=data, stdout=subprocess.PIPE, check=True).stdout
-    told = subprocess.run([TC, "ltc-rough", CONSECUTIVE], input=sliced, stdout=subprocess.PIPE, check=True).stdout
+    told = subprocess.run([TC, "ltc-rough", *asked], input=sliced, stdout=subprocess.PIPE, check=True).stdout
     words = filter(None, map(word_of, told.decode("ascii").splitlines()))
     return counted([word.label for word in words], recorded)
 
@@ -187,15 +189,26 @@ def cell(found):
     return f"{right} +{false}" if false else str(right)
 
 
+def for_the_path(room, path, samples, rate):
+    """The samples in the file, and those of 48,000 a second that are made of fewer."""
+    put(path, samples, rate)
+    if rate >= 32_000:
+        return samples, rate
+    whole = os.path.join(room, "whole.wav")
+    subprocess.run(["sox", "-D", path, "-r", str(RATE), whole, "rate", "-h"], check=True)
+    return samples_of(whole), RATE
+
+
+def by_witnesses(room, samples, rate, recorded):
+    """The words of the path, by what each is asked for."""
+    whole, whole_rate = for_the_path(room, os.path.join(room, "tape.wav"), samples, rate)
+    return [by_tc(whole, whole_rate, recorded, "path", asked=asked) for asked in ASKED]
+
+
 def row(room, reader, samples, rate, recorded):
     """The ways, and the choice with its name and its seconds."""
     path = os.path.join(room, "tape.wav")
-    put(path, samples, rate)
-    whole, whole_rate = samples, rate
-    if rate < 32_000:
-        whole_path, whole_rate = os.path.join(room, "whole.wav"), RATE
-        subprocess.run(["sox", "-D", path, "-r", str(RATE), whole_path, "rate", "-h"], check=True)
-        whole = samples_of(whole_path)
+    whole, whole_rate = for_the_path(room, path, samples, rate)
     ways = [
         by_libltc(reader, samples, rate, recorded),
         by_tc(samples, rate, recorded, "follow"),
@@ -206,12 +219,36 @@ def row(room, reader, samples, rate, recorded):
     return ways, *by_choice(path, recorded)
 
 
+def asks_for(options, name):
+    return not options.words or any(word in name for word in options.words)
+
+
+def witnesses(options):
+    """The table of what a word is asked for."""
+    print(f"{'kind':38}" + "".join(f"{' '.join(asked) or 'path':>13}" for asked in ASKED), flush=True)
+    right, false = [0] * len(ASKED), [0] * len(ASKED)
+    with tempfile.TemporaryDirectory() as room:
+        made = Maker(room, options.seed, options.frames)
+        for name, samples, rate in made.kinds():
+            if not asks_for(options, name):
+                continue
+            found = by_witnesses(room, samples, rate, made.labels)
+            for at, (good, bad) in enumerate(found):
+                right[at], false[at] = right[at] + good, false[at] + bad
+            print(f"{name:38}" + "".join(f"{cell(it):>13}" for it in found), flush=True)
+    print(f"{'together':38}" + "".join(f"{cell(it):>13}" for it in zip(right, false)))
+    return 0
+
+
 def main():
     words = argparse.ArgumentParser(description=__doc__.split("\n")[0])
     words.add_argument("--seed", type=int, default=1)
     words.add_argument("--frames", type=int, default=600)
+    words.add_argument("--witnesses", action="store_true")
     words.add_argument("words", nargs="*", metavar="WORD")
     options = words.parse_args()
+    if options.witnesses:
+        return witnesses(options)
     heads = ("libltc", "plain", "sums", "deep", "path", "choice")
     print(f"{'kind':38}" + "".join(f"{head:>11}" for head in heads), flush=True)
     near, rows, missed, seconds, all_of = 0, 0, 0, 0.0, Counter()
@@ -221,7 +258,7 @@ def main():
         subprocess.run(["cc", "-O2", "-o", reader, source, "-lltc", "-lm"], check=True)
         made = Maker(room, options.seed, options.frames)
         for name, samples, rate in made.kinds():
-            if options.words and not any(word in name for word in options.words):
+            if not asks_for(options, name):
                 continue
             ways, choice, front, took = row(room, reader, samples, rate, made.labels)
             best = max(right for right, _ in ways)

@@ -247,9 +247,9 @@ static inline tc_tape_taken tc_tape_write(tc_tape *tape, const uint32_t *ticks, 
     return tc_tape_write_(&handle, ticks, count, events, room);
 }
 
-/* Writes the events that come if the tape ends here, 3 at most, and gives their number. Together with those before they
- * are the events of the tape. The reader does not change, and may go on. With less room than tc_tape_write needs it
- * writes none. */
+/* Writes the events that come if the tape ends here, 3 at most, or 4 where `firm` is 2, and gives their number. Together
+ * with those before they are the events of the tape. The reader does not change, and may go on. With less room than
+ * tc_tape_write needs it writes none. */
 static inline size_t tc_tape_last(tc_tape *tape, tc_event *events, size_t room) {
     tc_handle handle = {tape->state};
     return tc_tape_last_(&handle, events, room);
