@@ -22,6 +22,7 @@ returns-clause-recordings c = record {
   rough = (_, refl, λ pulled written. (same, same));
   firm = (_, refl, λ pulled written. (same, same));
   consecutive = (_, refl, λ pulled written. (same, same));
+  counted = (_, refl, λ pulled written. (same, same));
   convert = ((_, refl), λ v pulled written. (same, same));
   pcm = ((_, refl), λ v pulled written. (same, same));
   fly = ((_, refl), λ v pulled written. (same, same));
