@@ -11,7 +11,7 @@ def try_phases(program, intervals, ticks_a_second):
     """How many ways of playing there were: sounds of two words with a silence behind, and tapes of three words."""
     rate = ticks_a_second / 80 / CELL
     ways = [("SOUND", "forward", 0, 0, 200), ("SOUND", "backward", 0, QUARTER, 200), ("SOUND", "forward", 0, QUARTER, 1_024)]
-    ways += [("TAPE", way, firm, 0, 300) for way in ("forward", "backward") for firm in (0, 1, 2)]
+    ways += [("TAPE", way, firm, 0, 300) for way in ("forward", "backward") for firm in (0, 1, 2, 3)]
     for kind, way, firm, pace, most in ways:
         count = 2 if kind == "SOUND" else 3
         ticks = [*intervals("25", "09:59:59:24", count, way, rate=rate), CELL, CELL]

@@ -95,7 +95,7 @@ def try_tape(program, programs, chance, intervals, lines_of):
     count, ticks = tape(chance, intervals)
     made, system = file_of(program, count, ticks), count.rstrip("d")
     tolerance = chance.randrange(3)
-    firm = chance.choice((0, 0, 1, 2)) if tolerance == 2 else 0
+    firm = chance.choice((0, 0, 1, 2, 3)) if tolerance == 2 else 0
     words = [REPORTS[tolerance], *ASKED[firm]]
     least = 4 if firm == 2 else 3
     wanted, _ = report_of(program, words, made)
@@ -172,8 +172,8 @@ def try_edges(programs):
     """Settings, limits, words and frames at their edges: how many."""
     reads, turns, midi = programs
     good = [25, 0, 0]
-    taken = ((0, 24), (0, 25), (0, 30), (1, 0), (1, 2), (2, 0), (2, 1), (2, 2))
-    refused = ((0, 0), (0, 23), (0, 29), (1, 3), (2, 3), *((place, 4_294_967_295) for place in range(3)))
+    taken = ((0, 24), (0, 25), (0, 30), (1, 0), (1, 2), (2, 0), (2, 1), (2, 2), (2, 3))
+    refused = ((0, 0), (0, 23), (0, 29), (1, 3), (2, 4), *((place, 4_294_967_295) for place in range(3)))
     for status, places in ((0, taken), (2, refused)):
         for place, number in places:
             words = [str(number if at == place else each) for at, each in enumerate(good)]
